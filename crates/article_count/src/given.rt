@@ -127,7 +127,9 @@ impl TermCount {
     fn count_substitution(&mut self, terms: &TermTable, pairs: &Substitution) -> Result<(), Memory>
         requires count { CanCountTerms terms.now self.old }
         requires known { AreKnownPairs terms.now pairs.now.types.items pairs.now.terms.items }
-        ensures { OnOk result (CountsTerms terms.now self.old self.new (λ q. count_of_given q (rule.Parameters.substitution (type.pairs_at terms.now.types pairs.now.types.items) (term_pairs_at terms.now pairs.now.terms.items)))) }
+        ensures { OnOk result (CountsTerms terms.now self.old self.new
+            (λ q. count_of_given q
+            (rule.Parameters.substitution (type.pairs_at terms.now.types pairs.now.types.items) (term_pairs_at terms.now pairs.now.terms.items)))) }
     {
         self.count_type_pairs(terms, &pairs.types)?;
         self.count_term_pairs(terms, &pairs.terms)?;
@@ -190,7 +192,8 @@ impl TermCount {
         requires count { CanCountTerms terms.now self.old }
         requires ty { pair.now.0.ty.0 < length terms.now.types }
         requires term { pair.now.1.0 < length terms.now.terms }
-        ensures { OnOk result (CountsTerms terms.now self.old self.new (λ q. term_pair q ((pair.now.0.name, type_at terms.now pair.now.0.ty.0), term_at terms.now pair.now.1.0))) }
+        ensures { OnOk result (CountsTerms terms.now self.old self.new
+            (λ q. term_pair q ((pair.now.0.name, type_at terms.now pair.now.0.ty.0), term_at terms.now pair.now.1.0))) }
     {
         self.count_free_variable(terms, &pair.0)?;
         self.count_term(terms, pair.1)?;

@@ -46,7 +46,10 @@ pub fn article_length(
     requires told { length told.now ≡ step_count proof.now }
     requires exports { length is_export.now ≡ step_count proof.now }
     requires pairs { ArePairs (steps_of proof.now.made) }
-    ensures { IfOk result (λ n. (exports : List ℕ) → AreExports is_export.now exports → n ≡ capped greatest_length (count_each (count_of_step number exports) (selected (flag told.now) 0 (steps_of proof.now.made)) (record { kept = []; length = items_length (version_items version) })).length) }
+    ensures { IfOk result (λ n. (exports : List ℕ) → AreExports is_export.now exports
+        → n ≡ capped greatest_length
+        (count_each (count_of_step number exports) (selected (flag told.now) 0 (steps_of proof.now.made))
+        (record { kept = []; length = items_length (version_items version) })).length) }
 {
     let mut counted = TermCount::begun(alloc, proof, version, number)?;
     for id in 0..proof.len() {
@@ -134,7 +137,8 @@ impl TermCount {
         requires room { self.old.count.keys.theorems ≡ step_count proof.now }
         requires id { id < step_count proof.now }
         requires new { IsNewStep self.old.count.keys (step_at proof.now.made id).kind id }
-        ensures { OnOk result (CountsTerms proof.now.trees self.old self.new (λ q. count_by q (step_at proof.now.made id).kind is_export id (step_at proof.now.made id))) }
+        ensures { OnOk result (CountsTerms proof.now.trees self.old self.new
+            (λ q. count_by q (step_at proof.now.made id).kind is_export id (step_at proof.now.made id))) }
     {
         match proof.kind(id) {
             StepKind::SecondLaw => Ok(()),

@@ -61,7 +61,8 @@ pub(crate) struct TermWalk {
 impl TermWalk {
     // Sets out to count the parts of an application, and then what stands behind them.
     fn set_out(&mut self, place: Place, f: TermId, x: TermId) -> Result<(), Memory>
-        ensures tasks { OnOk result (self.new.tasks ≡ the_task.Visit (record place { id = f }) ∷ the_task.Visit (record place { id = x }) ∷ the_task.Made place ∷ self.old.tasks) }
+        ensures tasks { OnOk result (self.new.tasks ≡ the_task.Visit (record place { id = f }) ∷ the_task.Visit
+            (record place { id = x }) ∷ the_task.Made place ∷ self.old.tasks) }
         ensures lengths { self.new.lengths ≡ self.old.lengths }
     {
         self.tasks.push(TermTask::Made(place))?;
@@ -99,7 +100,8 @@ impl Count {
     ) -> Result<(), Memory>
         requires count { CanCount terms.now self.old }
         requires ty { ty.0 < length terms.now.types }
-        ensures { OnOk result ((n : AName) → capped greatest_length name ≡ capped greatest_length (name_length_of n) → Counts terms.now self.old self.new (count_of_variable n (type_at terms.now ty.0))) }
+        ensures { OnOk result ((n : AName) → capped greatest_length name ≡ capped greatest_length (name_length_of n)
+            → Counts terms.now self.old self.new (count_of_variable n (type_at terms.now ty.0))) }
     {
         self.add(name);
         self.count_type(alloc, terms, ty)?;
@@ -134,7 +136,8 @@ impl Count {
     ) -> Result<(), Memory>
         requires count { CanCount terms.now self.old }
         requires ty { ty.0 < length terms.now.types }
-        ensures { OnOk result (Counts terms.now self.old self.new (λ m. add (word_length_of word.ConstTerm) (count_of_type (type_at terms.now ty.0) (add (name_length_of name.now + word_length_of word.Const) m)))) }
+        ensures { OnOk result (Counts terms.now self.old self.new
+            (λ m. add (word_length_of word.ConstTerm) (count_of_type (type_at terms.now ty.0) (add (name_length_of name.now + word_length_of word.Const) m)))) }
     {
         self.add(name_length(name));
         self.add(word_length(Word::Const));
@@ -303,7 +306,8 @@ impl TermCount {
         requires loose { AreLoose terms.now.terms self.now.loose.items }
         requires room { ty.0 < self.now.count.keys.types }
         requires body { body.0 < length terms.now.terms }
-        ensures { IfOk result (λ n. n ≡ capped greatest_length (uses_of 0 (term_at terms.now body.0) * told_length (unwrap_or (thing_key self.now.count.keys (thing.Type ty)) 0) + word_length_of word.AbsTerm)) }
+        ensures { IfOk result (λ n. n ≡ capped greatest_length
+            (uses_of 0 (term_at terms.now body.0) * told_length (unwrap_or (thing_key self.now.count.keys (thing.Type ty)) 0) + word_length_of word.AbsTerm)) }
     {
         let times = uses(self.alloc, terms, &self.loose, body)?;
         let key = self.count.key_length(Thing::Type(ty));
@@ -317,7 +321,9 @@ impl TermCount {
     // What an abstraction with loose numbers adds, by what its body adds and what stands behind it.
     fn open_length(&self, place: Place, ty: TypeId, inner: u128, more: u128) -> u128
         requires { ty.0 < self.now.count.keys.types }
-        ensures { result ≡ capped greatest_length (name_length_of (binder_name self.now.number place.depth) + told_length (unwrap_or (thing_key self.now.count.keys (thing.Type ty)) 0) + word_length_of word.Var + inner + more) }
+        ensures { result ≡ capped greatest_length
+            (name_length_of (binder_name self.now.number place.depth) + told_length
+            (unwrap_or (thing_key self.now.count.keys (thing.Type ty)) 0) + word_length_of word.Var + inner + more) }
     {
         binder_name_length(self.number, place.depth)
             .saturating_add(self.count.key_length(Thing::Type(ty)))

@@ -104,7 +104,8 @@ impl UsesWalk {
 
     // Sets out to sum the uses in two parts.
     fn set_out(&mut self, place: Place, f: TermId, x: TermId) -> Result<(), Memory>
-        ensures tasks { OnOk result (self.new.tasks ≡ the_task.Visit (record place { id = f }) ∷ the_task.Visit (record place { id = x }) ∷ the_task.Sum place ∷ self.old.tasks) }
+        ensures tasks { OnOk result (self.new.tasks ≡ the_task.Visit (record place { id = f }) ∷ the_task.Visit
+            (record place { id = x }) ∷ the_task.Sum place ∷ self.old.tasks) }
         ensures sums { self.new.sums ≡ self.old.sums }
         ensures memo { self.new.memo ≡ self.old.memo }
     {

@@ -15,6 +15,7 @@
 //! | `Building`, `Inference`, `DefiningWords`, `Stating` | each word: those that build, those that infer, the definitions, assumptions and exports |
 //! | `Step` | what one command does, or why it is refused |
 //! | `Run` | the outcome of a list of articles |
+//! | `Trial` | the article that is generated for a trial |
 //! | `OneReading`, `Outcomes`, `Ascending`, `SoundRuns` | what is shown of texts and of runs, as statements; `article_laws` proves them |
 //!
 //! ```text

@@ -45,7 +45,10 @@ pub fn write_article<S: Sink>(
     requires pairs { ArePairs (steps_of proof.now.made) }
     requires keys { keys.old ≡ none_keyed (length proof.now.trees.types) (length proof.now.trees.terms) (step_count proof.now) }
     requires room { IsRoomy proof.now.trees room.old.room }
-    ensures { (exports : List ℕ) → AreExports is_export.now exports → Writes (S.got sink.old) (S.faults sink.old) (text_of (write_each (step_writer number exports) (selected (flag told.now) 0 (steps_of proof.now.made)) (version_draft version)).commands) (S.got sink.new) (S.faults sink.new) result }
+    ensures { (exports : List ℕ) → AreExports is_export.now exports
+        → Writes (S.got sink.old) (S.faults sink.old)
+        (text_of (write_each (step_writer number exports) (selected (flag told.now) 0 (steps_of proof.now.made)) (version_draft version)).commands)
+        (S.got sink.new) (S.faults sink.new) result }
 {
     are_distinct(proof.terms());
     write_version(version, sink)?;
@@ -78,7 +81,8 @@ fn write_steps<S: Sink>(
     requires ready { IsOpen proof.now.trees keys.old room.old.room }
     requires count { keys.old.theorems ≡ step_count proof.now }
     requires new { AreNewFrom (steps_of proof.now.made) keys.old 0 }
-    ensures { Adds proof.now.trees (write_each (flagged_writer number (flag is_export.now)) (selected (flag told.now) 0 (steps_of proof.now.made))) keys.old (S.got sink.old) (S.faults sink.old) keys.new room.new.room (S.got sink.new) (S.faults sink.new) result }
+    ensures { Adds proof.now.trees (write_each (flagged_writer number (flag is_export.now)) (selected (flag told.now) 0 (steps_of proof.now.made))) keys.old
+        (S.got sink.old) (S.faults sink.old) keys.new room.new.room (S.got sink.new) (S.faults sink.new) result }
 {
     for id in 0..told.len() {
         write_told(proof, number, id, told[id], is_export[id], keys, room, sink)?;
@@ -101,7 +105,8 @@ fn write_told<S: Sink>(
     requires ready { IsOpen proof.now.trees keys.old room.old.room }
     requires count { keys.old.theorems ≡ step_count proof.now }
     requires new { IsNewStep keys.old (step_at proof.now.made id).kind id }
-    ensures { Adds proof.now.trees (written_if is_told (write_by number (step_at proof.now.made id).kind is_export id (step_at proof.now.made id))) keys.old (S.got sink.old) (S.faults sink.old) keys.new room.new.room (S.got sink.new) (S.faults sink.new) result }
+    ensures { Adds proof.now.trees (written_if is_told (write_by number (step_at proof.now.made id).kind is_export id (step_at proof.now.made id))) keys.old
+        (S.got sink.old) (S.faults sink.old) keys.new room.new.room (S.got sink.new) (S.faults sink.new) result }
 {
     if is_told {
         return write_step(proof, number, id, is_export, keys, room, sink);

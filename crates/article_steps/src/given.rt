@@ -38,7 +38,8 @@ pub(crate) fn write_given<S: Sink>(
     requires ready { IsOpen terms.now keys.old room.old.room }
     requires known { AreParametersKnown terms.now given.now }
     requires closed { AreClosed (parameters_view terms.now given.now) }
-    ensures { Adds terms.now (given_writer number (parameters_view terms.now given.now)) keys.old (S.got sink.old) (S.faults sink.old) keys.new room.new.room (S.got sink.new) (S.faults sink.new) result }
+    ensures { Adds terms.now (given_writer number (parameters_view terms.now given.now)) keys.old (S.got sink.old) (S.faults sink.old) keys.new room.new.room
+        (S.got sink.new) (S.faults sink.new) result }
 {
     match given {
         Parameters::Nothing => Ok(()),
@@ -76,7 +77,8 @@ fn write_constant<S: Sink>(
     requires ready { IsOpen terms.now keys.old room.old.room }
     requires known { id.0 < length terms.now.terms }
     requires closed { IsTermAt terms.now id.0 }
-    ensures { Adds terms.now (λ d. term_writer number (term_at terms.now id.0) (say_name name.now d)) keys.old (S.got sink.old) (S.faults sink.old) keys.new room.new.room (S.got sink.new) (S.faults sink.new) result }
+    ensures { Adds terms.now (λ d. term_writer number (term_at terms.now id.0) (say_name name.now d)) keys.old (S.got sink.old)
+        (S.faults sink.old) keys.new room.new.room (S.got sink.new) (S.faults sink.new) result }
 {
     write_name(name, sink)?;
     write_term(terms, number, id, keys, room, sink)
@@ -94,7 +96,8 @@ fn write_operator<S: Sink>(
     sink: &mut S,
 ) -> Result<(), Failed>
     requires { IsOpen terms.now keys.old room.old.room }
-    ensures { Adds terms.now (λ d. write_list say_name names.now (say_name rep.now (say_name abs.now (say_name op.now d)))) keys.old (S.got sink.old) (S.faults sink.old) keys.new room.new.room (S.got sink.new) (S.faults sink.new) result }
+    ensures { Adds terms.now (λ d. write_list say_name names.now (say_name rep.now (say_name abs.now (say_name op.now d)))) keys.old (S.got sink.old)
+        (S.faults sink.old) keys.new room.new.room (S.got sink.new) (S.faults sink.new) result }
 {
     write_name(op, sink)?;
     write_name(abs, sink)?;
@@ -116,7 +119,8 @@ fn write_substitution<S: Sink>(
     requires types { type.ArePairsKnown terms.now.types type_pairs.now }
     requires terms { AreTermPairsKnown terms.now term_pairs.now }
     requires closed { AllByRecursion (λ p. IsTerm p.1) (term_pairs_at terms.now term_pairs.now) }
-    ensures { Adds terms.now (substitution_writer number (type.pairs_at terms.now.types type_pairs.now) (term_pairs_at terms.now term_pairs.now)) keys.old (S.got sink.old) (S.faults sink.old) keys.new room.new.room (S.got sink.new) (S.faults sink.new) result }
+    ensures { Adds terms.now (substitution_writer number (type.pairs_at terms.now.types type_pairs.now) (term_pairs_at terms.now term_pairs.now)) keys.old
+        (S.got sink.old) (S.faults sink.old) keys.new room.new.room (S.got sink.new) (S.faults sink.new) result }
 {
     write_type_pairs(terms, type_pairs, keys, room, sink)?;
     write_term_pairs(terms, number, term_pairs, keys, room, sink)?;
@@ -135,7 +139,8 @@ fn write_sequent<S: Sink>(
     requires ready { IsOpen terms.now keys.old room.old.room }
     requires known { IsKnown terms.now sequent.now }
     requires closed { IsClosed (sequent_at terms.now sequent.now) }
-    ensures { Adds terms.now (sequent_writer number (sequent_at terms.now sequent.now)) keys.old (S.got sink.old) (S.faults sink.old) keys.new room.new.room (S.got sink.new) (S.faults sink.new) result }
+    ensures { Adds terms.now (sequent_writer number (sequent_at terms.now sequent.now)) keys.old (S.got sink.old) (S.faults sink.old) keys.new room.new.room
+        (S.got sink.new) (S.faults sink.new) result }
 {
     write_terms(terms, number, sequent.hyps.ids(), keys, room, sink)?;
     write_term(terms, number, sequent.concl, keys, room, sink)
@@ -153,7 +158,8 @@ fn write_terms<S: Sink>(
     requires ready { IsOpen terms.now keys.old room.old.room }
     requires known { AreKnown terms.now ids.now }
     requires closed { AllByRecursion IsTerm (terms_at terms.now ids.now) }
-    ensures { Adds terms.now (write_list (term_writer number) (terms_at terms.now ids.now)) keys.old (S.got sink.old) (S.faults sink.old) keys.new room.new.room (S.got sink.new) (S.faults sink.new) result }
+    ensures { Adds terms.now (write_list (term_writer number) (terms_at terms.now ids.now)) keys.old (S.got sink.old)
+        (S.faults sink.old) keys.new room.new.room (S.got sink.new) (S.faults sink.new) result }
 {
     for id in ids {
         write_term(terms, number, *id, keys, room, sink)?;
@@ -171,7 +177,8 @@ fn write_type_pairs<S: Sink>(
 ) -> Result<(), Failed>
     requires ready { IsOpen terms.now keys.old room.old.room }
     requires known { type.ArePairsKnown terms.now.types pairs.now }
-    ensures { Adds terms.now (write_list type_pair_writer (type.pairs_at terms.now.types pairs.now)) keys.old (S.got sink.old) (S.faults sink.old) keys.new room.new.room (S.got sink.new) (S.faults sink.new) result }
+    ensures { Adds terms.now (write_list type_pair_writer (type.pairs_at terms.now.types pairs.now)) keys.old (S.got sink.old)
+        (S.faults sink.old) keys.new room.new.room (S.got sink.new) (S.faults sink.new) result }
 {
     for (name, ty) in pairs {
         write_type_pair(terms, name, *ty, keys, room, sink)?;
@@ -190,7 +197,8 @@ fn write_type_pair<S: Sink>(
 ) -> Result<(), Failed>
     requires ready { IsOpen terms.now keys.old room.old.room }
     requires known { ty.0 < length terms.now.types }
-    ensures { Adds terms.now (type_pair_writer (name.now, type_at terms.now ty.0)) keys.old (S.got sink.old) (S.faults sink.old) keys.new room.new.room (S.got sink.new) (S.faults sink.new) result }
+    ensures { Adds terms.now (type_pair_writer (name.now, type_at terms.now ty.0)) keys.old (S.got sink.old) (S.faults sink.old) keys.new room.new.room
+        (S.got sink.new) (S.faults sink.new) result }
 {
     write_name(name, sink)?;
     write_jobs(
@@ -215,7 +223,8 @@ fn write_term_pairs<S: Sink>(
     requires ready { IsOpen terms.now keys.old room.old.room }
     requires known { AreTermPairsKnown terms.now pairs.now }
     requires closed { AllByRecursion (λ p. IsTerm p.1) (term_pairs_at terms.now pairs.now) }
-    ensures { Adds terms.now (write_list (term_pair_writer number) (term_pairs_at terms.now pairs.now)) keys.old (S.got sink.old) (S.faults sink.old) keys.new room.new.room (S.got sink.new) (S.faults sink.new) result }
+    ensures { Adds terms.now (write_list (term_pair_writer number) (term_pairs_at terms.now pairs.now)) keys.old (S.got sink.old)
+        (S.faults sink.old) keys.new room.new.room (S.got sink.new) (S.faults sink.new) result }
 {
     for (variable, id) in pairs {
         write_term_pair(terms, number, variable, *id, keys, room, sink)?;
@@ -237,7 +246,8 @@ fn write_term_pair<S: Sink>(
     requires ty { variable.now.ty.0 < length terms.now.types }
     requires known { id.0 < length terms.now.terms }
     requires closed { IsTermAt terms.now id.0 }
-    ensures { Adds terms.now (term_pair_writer number (variable_at terms.now variable.now, term_at terms.now id.0)) keys.old (S.got sink.old) (S.faults sink.old) keys.new room.new.room (S.got sink.new) (S.faults sink.new) result }
+    ensures { Adds terms.now (term_pair_writer number (variable_at terms.now variable.now, term_at terms.now id.0)) keys.old (S.got sink.old)
+        (S.faults sink.old) keys.new room.new.room (S.got sink.new) (S.faults sink.new) result }
 {
     write_name(&variable.name, sink)?;
     write_jobs(
@@ -266,7 +276,8 @@ fn write_constant_pairs<S: Sink>(
 ) -> Result<(), Failed>
     requires ready { IsOpen terms.now keys.old room.old.room }
     requires known { ArePairsKnown terms.now pairs.now }
-    ensures { Adds terms.now (write_list constant_pair_writer (pairs_at terms.now pairs.now)) keys.old (S.got sink.old) (S.faults sink.old) keys.new room.new.room (S.got sink.new) (S.faults sink.new) result }
+    ensures { Adds terms.now (write_list constant_pair_writer (pairs_at terms.now pairs.now)) keys.old (S.got sink.old)
+        (S.faults sink.old) keys.new room.new.room (S.got sink.new) (S.faults sink.new) result }
 {
     for (name, variable) in pairs {
         write_constant_pair(terms, name, variable, keys, room, sink)?;
@@ -285,7 +296,8 @@ fn write_constant_pair<S: Sink>(
 ) -> Result<(), Failed>
     requires ready { IsOpen terms.now keys.old room.old.room }
     requires known { variable.now.ty.0 < length terms.now.types }
-    ensures { Adds terms.now (constant_pair_writer (name.now, variable_at terms.now variable.now)) keys.old (S.got sink.old) (S.faults sink.old) keys.new room.new.room (S.got sink.new) (S.faults sink.new) result }
+    ensures { Adds terms.now (constant_pair_writer (name.now, variable_at terms.now variable.now)) keys.old (S.got sink.old)
+        (S.faults sink.old) keys.new room.new.room (S.got sink.new) (S.faults sink.new) result }
 {
     write_name(name, sink)?;
     write_variable(terms, variable, keys, room, sink)?;
@@ -301,7 +313,8 @@ fn write_names<S: Sink>(
     sink: &mut S,
 ) -> Result<(), Failed>
     requires { IsOpen terms.now keys.old room.old.room }
-    ensures { Adds terms.now (write_list say_name names.now) keys.old (S.got sink.old) (S.faults sink.old) keys.new room.new.room (S.got sink.new) (S.faults sink.new) result }
+    ensures { Adds terms.now (write_list say_name names.now) keys.old (S.got sink.old) (S.faults sink.old) keys.new room.new.room (S.got sink.new)
+        (S.faults sink.new) result }
 {
     for name in names {
         write_name(name, sink)?;

@@ -37,7 +37,8 @@ pub(crate) fn write_step<S: Sink>(
     requires ready { IsOpen proof.now.trees keys.old room.old.room }
     requires count { keys.old.theorems ≡ step_count proof.now }
     requires new { IsNewStep keys.old (step_at proof.now.made id).kind id }
-    ensures { Adds proof.now.trees (write_by number (step_at proof.now.made id).kind is_export id (step_at proof.now.made id)) keys.old (S.got sink.old) (S.faults sink.old) keys.new room.new.room (S.got sink.new) (S.faults sink.new) result }
+    ensures { Adds proof.now.trees (write_by number (step_at proof.now.made id).kind is_export id (step_at proof.now.made id)) keys.old (S.got sink.old)
+        (S.faults sink.old) keys.new room.new.room (S.got sink.new) (S.faults sink.new) result }
 {
     match proof.kind(id) {
         StepKind::Axiom => write_assumption(proof, number, id, keys, room, sink),
@@ -65,7 +66,8 @@ fn write_export<S: Sink>(
     requires step { id < step_count proof.now }
     requires ready { IsOpen proof.now.trees keys.old room.old.room }
     requires count { keys.old.theorems ≡ step_count proof.now }
-    ensures { Adds proof.now.trees (export_writer number (step_at proof.now.made id)) keys.old (S.got sink.old) (S.faults sink.old) keys.new room.new.room (S.got sink.new) (S.faults sink.new) result }
+    ensures { Adds proof.now.trees (export_writer number (step_at proof.now.made id)) keys.old (S.got sink.old) (S.faults sink.old) keys.new room.new.room
+        (S.got sink.new) (S.faults sink.new) result }
 {
     write_premises(proof, id, keys, sink)?;
     write_parameters(proof, number, id, keys, room, sink)?;
@@ -85,7 +87,8 @@ fn write_assumption<S: Sink>(
     requires ready { IsOpen proof.now.trees keys.old room.old.room }
     requires count { keys.old.theorems ≡ step_count proof.now }
     requires new { IsNew keys.old id }
-    ensures { Adds proof.now.trees (assumption_writer number id (step_at proof.now.made id)) keys.old (S.got sink.old) (S.faults sink.old) keys.new room.new.room (S.got sink.new) (S.faults sink.new) result }
+    ensures { Adds proof.now.trees (assumption_writer number id (step_at proof.now.made id)) keys.old (S.got sink.old)
+        (S.faults sink.old) keys.new room.new.room (S.got sink.new) (S.faults sink.new) result }
 {
     write_parameters(proof, number, id, keys, room, sink)?;
     write_word(Word::Axiom, sink)?;
@@ -108,7 +111,8 @@ fn write_inferred<S: Sink>(
     requires ready { IsOpen proof.now.trees keys.old room.old.room }
     requires count { keys.old.theorems ≡ step_count proof.now }
     requires new { IsNewStep keys.old kind id }
-    ensures { Adds proof.now.trees (inferred_writer number id (step_at proof.now.made id)) keys.old (S.got sink.old) (S.faults sink.old) keys.new room.new.room (S.got sink.new) (S.faults sink.new) result }
+    ensures { Adds proof.now.trees (inferred_writer number id (step_at proof.now.made id)) keys.old (S.got sink.old)
+        (S.faults sink.old) keys.new room.new.room (S.got sink.new) (S.faults sink.new) result }
 {
     write_parameters(proof, number, id, keys, room, sink)?;
     write_premises(proof, id, keys, sink)?;
@@ -127,7 +131,8 @@ fn write_parameters<S: Sink>(
 ) -> Result<(), Failed>
     requires step { id < step_count proof.now }
     requires ready { IsOpen proof.now.trees keys.old room.old.room }
-    ensures { Adds proof.now.trees (given_writer number (step_at proof.now.made id).parameters) keys.old (S.got sink.old) (S.faults sink.old) keys.new room.new.room (S.got sink.new) (S.faults sink.new) result }
+    ensures { Adds proof.now.trees (given_writer number (step_at proof.now.made id).parameters) keys.old (S.got sink.old)
+        (S.faults sink.old) keys.new room.new.room (S.got sink.new) (S.faults sink.new) result }
 {
     proof.is_proof();
     write_given(proof.terms(), number, proof.params(id), keys, room, sink)
@@ -142,7 +147,9 @@ fn write_premises<S: Sink>(
 ) -> Result<(), Failed>
     requires step { id < step_count proof.now }
     requires count { keys.now.theorems ≡ step_count proof.now }
-    ensures { (room : ℕ) → IsOpen proof.now.trees keys.now room → Adds proof.now.trees (write_each premise_writer (step_at proof.now.made id).premises) keys.now (S.got sink.old) (S.faults sink.old) keys.now room (S.got sink.new) (S.faults sink.new) result }
+    ensures { (room : ℕ) → IsOpen proof.now.trees keys.now room
+        → Adds proof.now.trees (write_each premise_writer (step_at proof.now.made id).premises) keys.now (S.got sink.old) (S.faults sink.old) keys.now room
+        (S.got sink.new) (S.faults sink.new) result }
 {
     proof.is_proof();
     refer_to_all(proof.premises(id), keys, sink)
@@ -151,7 +158,8 @@ fn write_premises<S: Sink>(
 // Tells theorems by their keys.
 fn refer_to_all<S: Sink>(ids: &[StepId], keys: &Keys, sink: &mut S) -> Result<(), Failed>
     requires { AllByRecursion (λ i. i < keys.now.theorems) ids.now }
-    ensures { (trees : Trees) (room : ℕ) → IsOpen trees keys.now room → Adds trees (write_each premise_writer ids.now) keys.now (S.got sink.old) (S.faults sink.old) keys.now room (S.got sink.new) (S.faults sink.new) result }
+    ensures { (trees : Trees) (room : ℕ) → IsOpen trees keys.now room
+        → Adds trees (write_each premise_writer ids.now) keys.now (S.got sink.old) (S.faults sink.old) keys.now room (S.got sink.new) (S.faults sink.new) result }
 {
     for id in ids {
         refer_to(*id, keys, sink)?;
@@ -162,7 +170,8 @@ fn refer_to_all<S: Sink>(ids: &[StepId], keys: &Keys, sink: &mut S) -> Result<()
 // Tells a theorem by its key.
 fn refer_to<S: Sink>(id: StepId, keys: &Keys, sink: &mut S) -> Result<(), Failed>
     requires { id < keys.now.theorems }
-    ensures { (trees : Trees) (room : ℕ) → IsOpen trees keys.now room → Adds trees (premise_writer id) keys.now (S.got sink.old) (S.faults sink.old) keys.now room (S.got sink.new) (S.faults sink.new) result }
+    ensures { (trees : Trees) (room : ℕ) → IsOpen trees keys.now room
+        → Adds trees (premise_writer id) keys.now (S.got sink.old) (S.faults sink.old) keys.now room (S.got sink.new) (S.faults sink.new) result }
 {
     let key = keys.key(Thing::Theorem(id)).unwrap_or(0);
     write_key(key, Word::Ref, sink)
@@ -180,7 +189,8 @@ fn keep_made<S: Sink>(
     requires count { keys.old.theorems ≡ count }
     requires new { IsNewStep keys.old kind id }
     requires other { kind ≢ SecondLaw }
-    ensures { (trees : Trees) (room : ℕ) → IsOpen trees keys.old room → Adds trees (made_keeper kind id) keys.old (S.got sink.old) (S.faults sink.old) keys.new room (S.got sink.new) (S.faults sink.new) result }
+    ensures { (trees : Trees) (room : ℕ) → IsOpen trees keys.old room
+        → Adds trees (made_keeper kind id) keys.old (S.got sink.old) (S.faults sink.old) keys.new room (S.got sink.new) (S.faults sink.new) result }
 {
     match kind {
         StepKind::DefineConst => keep_defined(id, keys, sink),
@@ -194,7 +204,8 @@ fn keep_made<S: Sink>(
 fn keep_defined<S: Sink>(id: StepId, keys: &mut Keys, sink: &mut S) -> Result<(), Failed>
     requires room { id < keys.old.theorems }
     requires new { IsNew keys.old id }
-    ensures { (trees : Trees) (room : ℕ) → IsOpen trees keys.old room → Adds trees (defined_keeper id) keys.old (S.got sink.old) (S.faults sink.old) keys.new room (S.got sink.new) (S.faults sink.new) result }
+    ensures { (trees : Trees) (room : ℕ) → IsOpen trees keys.old room
+        → Adds trees (defined_keeper id) keys.old (S.got sink.old) (S.faults sink.old) keys.new room (S.got sink.new) (S.faults sink.new) result }
 {
     keep_theorem(id, keys, sink)?;
     write_word(Word::Pop, sink)
@@ -209,7 +220,8 @@ fn keep_laws<S: Sink>(
 ) -> Result<(), Failed>
     requires count { keys.old.theorems ≡ count }
     requires new { AreNewLaws keys.old first }
-    ensures { (trees : Trees) (room : ℕ) → IsOpen trees keys.old room → Adds trees (laws_keeper first) keys.old (S.got sink.old) (S.faults sink.old) keys.new room (S.got sink.new) (S.faults sink.new) result }
+    ensures { (trees : Trees) (room : ℕ) → IsOpen trees keys.old room
+        → Adds trees (laws_keeper first) keys.old (S.got sink.old) (S.faults sink.old) keys.new room (S.got sink.new) (S.faults sink.new) result }
 {
     keep_theorem(first + 1, keys, sink)?;
     keep_theorem(first, keys, sink)?;
@@ -223,7 +235,8 @@ fn keep_theorem<S: Sink>(id: StepId, keys: &mut Keys, sink: &mut S) -> Result<()
     requires room { id < keys.old.theorems }
     requires new { IsNew keys.old id }
     ensures kept { keys.new ≡ with_thing (thing.Theorem id) keys.old }
-    ensures adds { (trees : Trees) (room : ℕ) → IsOpen trees keys.old room → Adds trees (theorem_keeper id) keys.old (S.got sink.old) (S.faults sink.old) keys.new room (S.got sink.new) (S.faults sink.new) result }
+    ensures adds { (trees : Trees) (room : ℕ) → IsOpen trees keys.old room
+        → Adds trees (theorem_keeper id) keys.old (S.got sink.old) (S.faults sink.old) keys.new room (S.got sink.new) (S.faults sink.new) result }
 {
     keep(Thing::Theorem(id), keys, sink)?;
     write_word(Word::Pop, sink)

@@ -48,7 +48,8 @@ pub(crate) fn write_term<S: Sink>(
     requires ready { IsOpen terms.now keys.old room.old.room }
     requires known { id.0 < length terms.now.terms }
     requires closed { IsTermAt terms.now id.0 }
-    ensures { Adds terms.now (term_writer number (term_at terms.now id.0)) keys.old (S.got sink.old) (S.faults sink.old) keys.new room.new.room (S.got sink.new) (S.faults sink.new) result }
+    ensures { Adds terms.now (term_writer number (term_at terms.now id.0)) keys.old (S.got sink.old) (S.faults sink.old) keys.new room.new.room
+        (S.got sink.new) (S.faults sink.new) result }
 {
     write_jobs(terms, number, &[Job::Term(id)], keys, room, sink)
 }
@@ -63,7 +64,8 @@ pub(crate) fn write_variable<S: Sink>(
 ) -> Result<(), Failed>
     requires ready { IsOpen terms.now keys.old room.old.room }
     requires known { variable.now.ty.0 < length terms.now.types }
-    ensures { Adds terms.now (variable_writer (variable_at terms.now variable.now)) keys.old (S.got sink.old) (S.faults sink.old) keys.new room.new.room (S.got sink.new) (S.faults sink.new) result }
+    ensures { Adds terms.now (variable_writer (variable_at terms.now variable.now)) keys.old (S.got sink.old) (S.faults sink.old) keys.new room.new.room
+        (S.got sink.new) (S.faults sink.new) result }
 {
     write_name(&variable.name, sink)?;
     write_jobs(
@@ -85,7 +87,8 @@ pub(crate) fn end_list<S: Sink>(
     sink: &mut S,
 ) -> Result<(), Failed>
     requires { IsOpen terms.now keys.old room.old.room }
-    ensures { Adds terms.now (λ d. conses count (say_word word.Nil d)) keys.old (S.got sink.old) (S.faults sink.old) keys.new room.new.room (S.got sink.new) (S.faults sink.new) result }
+    ensures { Adds terms.now (λ d. conses count (say_word word.Nil d)) keys.old (S.got sink.old) (S.faults sink.old) keys.new room.new.room (S.got sink.new)
+        (S.faults sink.new) result }
 {
     write_jobs(
         terms,

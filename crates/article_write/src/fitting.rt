@@ -18,7 +18,8 @@ use hol_spec::Version;
 pub(crate) fn is_fitting(proof: &Proof, version: Version, told: &[bool], is_export: &[bool]) -> bool
     requires told { length told.now ≡ step_count proof.now }
     requires exports { length is_export.now ≡ step_count proof.now }
-    ensures { (exports : List ℕ) → AreExports is_export.now exports → result ≡ list_all (fits_step version exports) (selected (flag told.now) 0 (steps_of proof.now.made)) }
+    ensures { (exports : List ℕ) → AreExports is_export.now exports
+        → result ≡ list_all (fits_step version exports) (selected (flag told.now) 0 (steps_of proof.now.made)) }
 {
     for step in 0..proof.len() {
         if !is_passed(proof, version, told, is_export, step) {
@@ -39,7 +40,8 @@ fn is_passed(
     requires step { step < step_count proof.now }
     requires told { length told.now ≡ step_count proof.now }
     requires exports { length is_export.now ≡ step_count proof.now }
-    ensures { (exports : List ℕ) → AreExports is_export.now exports → result ≡ (not (flag told.now step) || fits_step version exports (record { number = step; step = step_at proof.now.made step })) }
+    ensures { (exports : List ℕ) → AreExports is_export.now exports
+        → result ≡ (not (flag told.now step) || fits_step version exports (record { number = step; step = step_at proof.now.made step })) }
 {
     !told[step] || is_sayable(proof, version, is_export, step)
 }
@@ -48,7 +50,8 @@ fn is_passed(
 fn is_sayable(proof: &Proof, version: Version, is_export: &[bool], step: StepId) -> bool
     requires step { step < step_count proof.now }
     requires exports { length is_export.now ≡ step_count proof.now }
-    ensures { (exports : List ℕ) → AreExports is_export.now exports → result ≡ (meets_none_of exports (step_at proof.now.made step) && is_of_version_by version (step_at proof.now.made step).parameters) }
+    ensures { (exports : List ℕ) → AreExports is_export.now exports
+        → result ≡ (meets_none_of exports (step_at proof.now.made step) && is_of_version_by version (step_at proof.now.made step).parameters) }
 {
     proof.is_proof();
     meets_none(is_export, proof.premises(step)) && is_of_version(version, proof.params(step))

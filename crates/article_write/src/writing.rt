@@ -19,7 +19,8 @@ use hol_rules::Proof;
 pub fn write<S: Sink>(proof: &Proof, plan: Plan, sink: &mut S) -> Result<(), Failed>
     requires planned { (version : AVersion) × (run : Accepted) × IsPlanOf proof.now version run plan }
     requires fits { plan.fits ≡ true }
-    ensures { (version : AVersion) (run : Accepted) → IsPlanOf proof.now version run plan → Writes (S.got sink.old) (S.faults sink.old) (article version run) (S.got sink.new) (S.faults sink.new) result }
+    ensures { (version : AVersion) (run : Accepted) → IsPlanOf proof.now version run plan
+        → Writes (S.got sink.old) (S.faults sink.old) (article version run) (S.got sink.new) (S.faults sink.new) result }
 {
     replace_with(sink, (proof, plan), write_gathered)
 }
@@ -28,7 +29,8 @@ pub fn write<S: Sink>(proof: &Proof, plan: Plan, sink: &mut S) -> Result<(), Fai
 fn write_gathered<S: Sink>(sink: S, given: (&Proof, Plan)) -> (S, Result<(), Failed>)
     requires planned { (version : AVersion) × (run : Accepted) × IsPlanOf given.0.now version run given.1 }
     requires fits { given.1.fits ≡ true }
-    ensures { (version : AVersion) (run : Accepted) → IsPlanOf given.entry.0.now version run given.entry.1 → Writes (S.got sink) (S.faults sink) (article version run) (S.got result.0) (S.faults result.0) result.1 }
+    ensures { (version : AVersion) (run : Accepted) → IsPlanOf given.entry.0.now version run given.entry.1
+        → Writes (S.got sink) (S.faults sink) (article version run) (S.got result.0) (S.faults result.0) result.1 }
 {
     let (proof, plan) = given;
     let mut gathering = GatheringSink::new(sink);
@@ -40,7 +42,8 @@ fn write_gathered<S: Sink>(sink: S, given: (&Proof, Plan)) -> (S, Result<(), Fai
 fn write_planned<S: Sink>(proof: &Proof, plan: Plan, sink: &mut S) -> Result<(), Failed>
     requires planned { (version : AVersion) × (run : Accepted) × IsPlanOf proof.now version run plan }
     requires fits { plan.fits ≡ true }
-    ensures { (version : AVersion) (run : Accepted) → IsPlanOf proof.now version run plan → Writes (S.got sink.old) (S.faults sink.old) (article version run) (S.got sink.new) (S.faults sink.new) result }
+    ensures { (version : AVersion) (run : Accepted) → IsPlanOf proof.now version run plan
+        → Writes (S.got sink.old) (S.faults sink.old) (article version run) (S.got sink.new) (S.faults sink.new) result }
 {
     let mut plan = plan;
     write_article(

@@ -22,7 +22,8 @@ const USAGE: &[u8] =
 /// Writes the texts of an answer, the output first, and gives its status. Where the output fails, the
 /// note says so; where either fails, the status is that of a write fault.
 pub fn deliver<O: Sink, N: Sink>(answer: Answer, out: &mut O, note: &mut N) -> Status
-    ensures delivered { Delivers (status_of answer) (text_of answer) (note_of answer) (sunk O.got O.faults out.old out.new) (sunk N.got N.faults note.old note.new) result }
+    ensures delivered { Delivers (status_of answer) (text_of answer) (note_of answer) (sunk O.got O.faults out.old out.new)
+        (sunk N.got N.faults note.old note.new) result }
     ensures out_count { O.faults out.old ≤ O.faults out.new }
     ensures note_count { N.faults note.old ≤ N.faults note.new }
 {

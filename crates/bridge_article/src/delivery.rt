@@ -27,7 +27,8 @@ pub(crate) fn deliver_run<O: Sink, N: Sink>(
     out: &mut O,
     note: &mut N,
 ) -> Status
-    ensures delivered { DeliversRun (last_version machine.now.place) (accepted_state machine.now) (sunk O.got O.faults out.old out.new) (sunk N.got N.faults note.old note.new) result }
+    ensures delivered { DeliversRun (last_version machine.now.place) (accepted_state machine.now) (sunk O.got O.faults out.old out.new)
+        (sunk N.got N.faults note.old note.new) result }
     ensures out_count { O.faults out.old ≤ O.faults out.new }
     ensures note_count { N.faults note.old ≤ N.faults note.new }
 {
@@ -49,7 +50,8 @@ pub(crate) fn deliver_run<O: Sink, N: Sink>(
 // of a write fault. It takes no memory.
 fn deliver_article<O: Sink, N: Sink>(proof: &Proof, plan: Plan, out: &mut O, note: &mut N) -> Status
     requires { (version : AVersion) × (run : Accepted) × IsWritablePlan proof.now version run plan }
-    ensures delivered { (version : AVersion) (run : Accepted) → IsWritablePlan proof.now version run plan → Delivers Done (article_of version run) [] (sunk O.got O.faults out.old out.new) (sunk N.got N.faults note.old note.new) result }
+    ensures delivered { (version : AVersion) (run : Accepted) → IsWritablePlan proof.now version run plan
+        → Delivers Done (article_of version run) [] (sunk O.got O.faults out.old out.new) (sunk N.got N.faults note.old note.new) result }
     ensures out_count { O.faults out.old ≤ O.faults out.new }
     ensures note_count { N.faults note.old ≤ N.faults note.new }
 {

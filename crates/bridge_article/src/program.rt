@@ -20,7 +20,8 @@ pub fn article<H: Shelf, O: Sink, N: Sink>(
     out: &mut O,
     note: &mut N,
 ) -> Status
-    ensures { Performs (call (Some (Form.article (names_in files.now))) (shelved H.told H.faults H.begun shelf.old shelf.new) (sunk O.got O.faults out.old out.new) (sunk N.got N.faults note.old note.new)) result }
+    ensures { Performs (call (Some (Form.article (names_in files.now))) (shelved H.told H.faults H.begun shelf.old shelf.new)
+        (sunk O.got O.faults out.old out.new) (sunk N.got N.faults note.old note.new)) result }
 {
     match read_articles(alloc, files, shelf) {
         Ok(machine) => {

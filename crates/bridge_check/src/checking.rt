@@ -30,7 +30,8 @@ pub fn checked<H: Shelf>(
     rechecks: bool,
     shelf: &mut H,
 ) -> Answer
-    ensures answers { AnswersCheck rechecks file.now budget (shelved H.told H.faults H.begun shelf.old shelf.new) (status_of result) (text_of result) (note_of result) }
+    ensures answers { AnswersCheck rechecks file.now budget (shelved H.told H.faults H.begun shelf.old shelf.new) (status_of result) (text_of result)
+        (note_of result) }
     ensures told_kept { H.told shelf.new ≡ H.told shelf.old }
     ensures begun { Begins (H.begun shelf.old) (file.now ∷ []) (H.begun shelf.new) }
     ensures count { H.faults shelf.old ≤ H.faults shelf.new }

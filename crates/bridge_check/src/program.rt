@@ -21,7 +21,8 @@ pub fn check<H: Shelf, O: Sink, N: Sink>(
     out: &mut O,
     note: &mut N,
 ) -> Status
-    ensures { Performs (call (Some (check fast file.now budget)) (shelved H.told H.faults H.begun shelf.old shelf.new) (sunk O.got O.faults out.old out.new) (sunk N.got N.faults note.old note.new)) result }
+    ensures { Performs (call (Some (check fast file.now budget)) (shelved H.told H.faults H.begun shelf.old shelf.new) (sunk O.got O.faults out.old out.new)
+        (sunk N.got N.faults note.old note.new)) result }
 {
     let answer = checked(alloc, file, budget, !fast, shelf);
     deliver(answer, out, note)

@@ -19,7 +19,8 @@ pub fn decode<H: Shelf, O: Sink, N: Sink>(
     out: &mut O,
     note: &mut N,
 ) -> Status
-    ensures { Performs (call (Some (decode file.now)) (shelved H.told H.faults H.begun shelf.old shelf.new) (sunk O.got O.faults out.old out.new) (sunk N.got N.faults note.old note.new)) result }
+    ensures { Performs (call (Some (decode file.now)) (shelved H.told H.faults H.begun shelf.old shelf.new) (sunk O.got O.faults out.old out.new)
+        (sunk N.got N.faults note.old note.new)) result }
 {
     let answer = decoded(alloc, file, shelf);
     deliver(answer, out, note)

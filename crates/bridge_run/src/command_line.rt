@@ -25,7 +25,8 @@ pub fn run<H: Shelf, O: Sink, N: Sink>(
     out: &mut O,
     note: &mut N,
 ) -> u8
-    ensures ends { Ends (call (form_given words) (shelved H.told H.faults H.begun shelf.old shelf.new) (sunk O.got O.faults out.old out.new) (sunk N.got N.faults note.old note.new)) result }
+    ensures ends { Ends (call (form_given words) (shelved H.told H.faults H.begun shelf.old shelf.new) (sunk O.got O.faults out.old out.new)
+        (sunk N.got N.faults note.old note.new)) result }
     ensures without_words { IfErr words (λ error. IsNumberOf (status_of (without_words (error_kind error))) result) }
 {
     answered(alloc, words, shelf, out, note).number()
@@ -39,7 +40,8 @@ fn answered<H: Shelf, O: Sink, N: Sink>(
     out: &mut O,
     note: &mut N,
 ) -> Status
-    ensures promise { Promise (call (form_given words) (shelved H.told H.faults H.begun shelf.old shelf.new) (sunk O.got O.faults out.old out.new) (sunk N.got N.faults note.old note.new)) result }
+    ensures promise { Promise (call (form_given words) (shelved H.told H.faults H.begun shelf.old shelf.new) (sunk O.got O.faults out.old out.new)
+        (sunk N.got N.faults note.old note.new)) result }
     ensures without_words { IfErr words (λ error. IsOrWriteFault (status_of (without_words (error_kind error))) result) }
 {
     match words {
@@ -56,7 +58,8 @@ fn run_words<H: Shelf, O: Sink, N: Sink>(
     out: &mut O,
     note: &mut N,
 ) -> Status
-    ensures { Promise (call (form_in (words_of words)) (shelved H.told H.faults H.begun shelf.old shelf.new) (sunk O.got O.faults out.old out.new) (sunk N.got N.faults note.old note.new)) result }
+    ensures { Promise (call (form_in (words_of words)) (shelved H.told H.faults H.begun shelf.old shelf.new) (sunk O.got O.faults out.old out.new)
+        (sunk N.got N.faults note.old note.new)) result }
 {
     match listed(alloc, words) {
         Ok(words) => {

@@ -31,7 +31,8 @@ pub fn bridge<H: Shelf, O: Sink, N: Sink>(
     out: &mut O,
     note: &mut N,
 ) -> Status
-    ensures { Promise (call (form_in words.now) (shelved H.told H.faults H.begun shelf.old shelf.new) (sunk O.got O.faults out.old out.new) (sunk N.got N.faults note.old note.new)) result }
+    ensures { Promise (call (form_in words.now) (shelved H.told H.faults H.begun shelf.old shelf.new) (sunk O.got O.faults out.old out.new)
+        (sunk N.got N.faults note.old note.new)) result }
 {
     match form_of(alloc, words) {
         Ok(Some(form)) => {
@@ -53,7 +54,8 @@ fn answered<H: Shelf, O: Sink, N: Sink>(
     note: &mut N,
 ) -> Status
     requires { HasBlocks (Some (asked form.now)) }
-    ensures { Performs (call (Some (asked form.now)) (shelved H.told H.faults H.begun shelf.old shelf.new) (sunk O.got O.faults out.old out.new) (sunk N.got N.faults note.old note.new)) result }
+    ensures { Performs (call (Some (asked form.now)) (shelved H.told H.faults H.begun shelf.old shelf.new) (sunk O.got O.faults out.old out.new)
+        (sunk N.got N.faults note.old note.new)) result }
 {
     match form {
         Form::Verify(share, fast, files) => verify(alloc, files, *share, *fast, shelf, out, note),

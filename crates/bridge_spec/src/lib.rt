@@ -1,11 +1,11 @@
 //! What the program answers: its status, and the texts that it writes.
 //!
 //! This crate defines, and has no law. Whoever reads the contract of the program's one call begins with `Promises` (all that a
-//! call promises; what follows from it stands in `Consequences`) and reads down from there:
+//! call promises, and what a command does; what follows from a promise stands in `Consequences`) and reads down from there:
 //!
 //! | File | Notion |
 //! |---|---|
-//! | `Promises` | all that a call promises |
+//! | `Promises` | what a command does, and all that a call promises |
 //! | `Calls`, `Forms` | what a call is given and what the outside did in it; which words are a form |
 //! | `Answers` | when each answer comes, form by form |
 //! | `FileChecks` | what a file reads as, and how its declarations pass |

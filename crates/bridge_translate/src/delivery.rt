@@ -54,7 +54,8 @@ fn write_translation<O: Sink, N: Sink>(
     requires held { IsHeld translation.now.module }
     requires bounds { length translation.now.bounds.items ≡ length translation.now.module.decls }
     requires room { AreWithin path.old.room translation.now.module.table translation.now.module.decls }
-    ensures delivered { Delivers Done (written (declarations_of translation.now.module) translation.now.bounds.items) (five_lines (counts_in translation.now.counts) ++ last.now) (sunk O.got O.faults out.old out.new) (sunk N.got N.faults note.old note.new) result }
+    ensures delivered { Delivers Done (written (declarations_of translation.now.module) translation.now.bounds.items)
+        (five_lines (counts_in translation.now.counts) ++ last.now) (sunk O.got O.faults out.old out.new) (sunk N.got N.faults note.old note.new) result }
     ensures out_count { O.faults out.old ≤ O.faults out.new }
     ensures note_count { N.faults note.old ≤ N.faults note.new }
 {

@@ -21,7 +21,8 @@ pub fn translate<H: Shelf, O: Sink, N: Sink>(
     out: &mut O,
     note: &mut N,
 ) -> Status
-    ensures { Performs (call (Some (translate share (names_in files.now))) (shelved H.told H.faults H.begun shelf.old shelf.new) (sunk O.got O.faults out.old out.new) (sunk N.got N.faults note.old note.new)) result }
+    ensures { Performs (call (Some (translate share (names_in files.now))) (shelved H.told H.faults H.begun shelf.old shelf.new)
+        (sunk O.got O.faults out.old out.new) (sunk N.got N.faults note.old note.new)) result }
 {
     match translation_of(alloc, files, share, shelf) {
         Ok(translation) => {

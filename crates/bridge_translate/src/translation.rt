@@ -51,7 +51,8 @@ pub fn translation_of<H: Shelf>(
     share: bool,
     shelf: &mut H,
 ) -> Result<Translation, Stop>
-    ensures translated { IfOk result (λ translation. (run : Accepted) × IsRunOf (H.told shelf.old) (names_in files.now) run × IsTranslationOf share (length (names_in files.now)) run translation) }
+    ensures translated { IfOk result (λ translation. (run : Accepted) × IsRunOf (H.told shelf.old) (names_in files.now) run
+        × IsTranslationOf share (length (names_in files.now)) run translation) }
     ensures refused { IfErr result (λ stop. Stops stop (H.told shelf.old) (names_in files.now)) }
     ensures all_begun { OnOk result (Begins (H.begun shelf.old) (names_in files.now) (H.begun shelf.new)) }
     ensures refused_begun { IfErr result (λ stop. StopsBegun stop (H.begun shelf.old) (names_in files.now) (H.begun shelf.new)) }

@@ -16,7 +16,8 @@ use std::alloc::Global;
 pub fn trial<O: Sink, N: Sink>(alloc: Global, n: u64, out: &mut O, note: &mut N) -> Status
     requires some { 0 < n }
     requires within { n ≤ greatest_trial }
-    ensures { (told : Option Files) (faults : ℕ) (begun : Option (List (List ℕ))) → Performs (call (Some (trial n)) (untouched told faults begun) (sunk O.got O.faults out.old out.new) (sunk N.got N.faults note.old note.new)) result }
+    ensures { (told : Option Files) (faults : ℕ) (begun : Option (List (List ℕ)))
+        → Performs (call (Some (trial n)) (untouched told faults begun) (sunk O.got O.faults out.old out.new) (sunk N.got N.faults note.old note.new)) result }
 {
     match verified(alloc, n) {
         Ok(counts) => deliver_counts(&counts, out, note),

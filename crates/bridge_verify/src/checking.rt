@@ -49,7 +49,8 @@ fn check_read(
     fast: bool,
 ) -> Result<(), Answer>
     requires made { (share : Bool) × (articles : ℕ) × (run : Accepted) × IsTranslationOf share articles run translation.now × Headline share run }
-    requires read { (m : List Declaration) → Reads (written (declarations_of translation.now.module) translation.now.bounds.items) m → declarations_of back.old ≡ m }
+    requires read { (m : List Declaration) → Reads (written (declarations_of translation.now.module) translation.now.bounds.items) m
+        → declarations_of back.old ≡ m }
     requires held { IsHeld back.old }
     requires is_module { IsModule (declarations_of back.old) }
     ensures accepted { OnOk result (PassBelow (not fast) (declarations_of back.old) (length (declarations_of back.old))) }
@@ -71,7 +72,8 @@ fn verdict_on(
     fast: bool,
 ) -> Result<Verdict, Memory>
     requires made { (share : Bool) × (articles : ℕ) × (run : Accepted) × IsTranslationOf share articles run translation.now × Headline share run }
-    requires read { (m : List Declaration) → Reads (written (declarations_of translation.now.module) translation.now.bounds.items) m → declarations_of back.old ≡ m }
+    requires read { (m : List Declaration) → Reads (written (declarations_of translation.now.module) translation.now.bounds.items) m
+        → declarations_of back.old ≡ m }
     requires held { IsHeld back.old }
     requires is_module { IsModule (declarations_of back.old) }
     ensures accepts { IfOk result (λ v. v ≡ verdict.Accepted) }
@@ -89,7 +91,8 @@ fn read_back(alloc: Global, translation: &Translation) -> Result<Module, Answer>
     requires held { IsHeld translation.now.module }
     requires bounds { length translation.now.bounds.items ≡ length translation.now.module.decls }
     requires reads { (m : List Declaration) × Reads (written (declarations_of translation.now.module) translation.now.bounds.items) m }
-    ensures read { IfOk result (λ back. (m : List Declaration) → Reads (written (declarations_of translation.now.module) translation.now.bounds.items) m → declarations_of back ≡ m) }
+    ensures read { IfOk result (λ back. (m : List Declaration) → Reads (written (declarations_of translation.now.module) translation.now.bounds.items) m
+        → declarations_of back ≡ m) }
     ensures held { IfOk result IsHeld }
     ensures is_module { IfOk result (λ back. IsModule (declarations_of back)) }
     ensures memory { IfErr result (λ answer. answer ≡ Answer.Memory) }

@@ -31,7 +31,8 @@ pub fn verify<H: Shelf, O: Sink, N: Sink>(
     out: &mut O,
     note: &mut N,
 ) -> Status
-    ensures { Performs (call (Some (verify share fast (names_in files.now))) (shelved H.told H.faults H.begun shelf.old shelf.new) (sunk O.got O.faults out.old out.new) (sunk N.got N.faults note.old note.new)) result }
+    ensures { Performs (call (Some (verify share fast (names_in files.now))) (shelved H.told H.faults H.begun shelf.old shelf.new)
+        (sunk O.got O.faults out.old out.new) (sunk N.got N.faults note.old note.new)) result }
 {
     match translation_of(alloc, files, share, shelf) {
         Ok(translation) => match check_back(alloc, &translation, fast) {

@@ -11,9 +11,9 @@ ghost use Rattle.bridge_words.specs.Readable.{is_readable, are_readable};
 
 use crate::command::command;
 use crate::number::number_up_to;
-use common::Memory;
 use clap::ArgMatches;
 use clap::error::ErrorKind;
+use common::Memory;
 use std::alloc::{AllocError, Global};
 
 /// What the words ask for.

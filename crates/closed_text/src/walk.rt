@@ -51,7 +51,8 @@ fn turn_type<'a>(
     work: TypeWork,
     works: &mut Stack<TypeWork>,
 ) -> Result<&'a [TypeNode], Memory>
-    ensures added { IfOk result (λ left. text.new.items ++ types_left_text works.new (spelled_types left.now) ≡ text.old.items ++ types_left_text (work ∷ works.old) (spelled_types nodes.now)) }
+    ensures added { IfOk result (λ left. text.new.items ++ types_left_text works.new (spelled_types left.now) ≡ text.old.items ++ types_left_text
+        (work ∷ works.old) (spelled_types nodes.now)) }
     ensures less { IfOk result (λ left. type_works works.new + nodes_work left.now < type_works (work ∷ works.old) + nodes_work nodes.now) }
 {
     match work {
@@ -73,7 +74,9 @@ fn set_out_several(
     count: usize,
     works: &mut Stack<TypeWork>,
 ) -> Result<(), Memory>
-    ensures added { OnOk result ((ts : List form.ClosedType) → text.new.items ++ types_left_text works.new ts ≡ text.old.items ++ (types_text (closed_types_of (firsts no_type count ts)) ++ types_left_text works.old (behind count ts))) }
+    ensures added { OnOk result ((ts : List form.ClosedType)
+        → text.new.items ++ types_left_text works.new ts ≡ text.old.items ++
+        (types_text (closed_types_of (firsts no_type count ts)) ++ types_left_text works.old (behind count ts))) }
     ensures less { OnOk result (type_works works.new ≤ 2 * count + type_works works.old) }
 {
     let Some(others) = count.checked_sub(1) else {
@@ -90,7 +93,8 @@ fn begin_type<'a>(
     nodes: &'a [TypeNode],
     works: &mut Stack<TypeWork>,
 ) -> Result<&'a [TypeNode], Memory>
-    ensures added { IfOk result (λ left. text.new.items ++ types_left_text works.new (spelled_types left.now) ≡ text.old.items ++ (type_text (first_of no_type (spelled_types nodes.now)) ++ types_left_text works.old (others_of (spelled_types nodes.now)))) }
+    ensures added { IfOk result (λ left. text.new.items ++ types_left_text works.new (spelled_types left.now) ≡ text.old.items ++
+        (type_text (first_of no_type (spelled_types nodes.now)) ++ types_left_text works.old (others_of (spelled_types nodes.now)))) }
     ensures less { IfOk result (λ left. type_works works.new + nodes_work left.now ≤ type_works works.old + nodes_work nodes.now) }
 {
     match nodes {
@@ -111,7 +115,9 @@ fn add_type_node(
     node: &TypeNode,
     works: &mut Stack<TypeWork>,
 ) -> Result<(), Memory>
-    ensures added { OnOk result ((ts : List form.ClosedType) → text.new.items ++ types_left_text works.new ts ≡ text.old.items ++ (type_text (first_of no_type (type_step node.now ts)) ++ types_left_text works.old (others_of (type_step node.now ts)))) }
+    ensures added { OnOk result ((ts : List form.ClosedType)
+        → text.new.items ++ types_left_text works.new ts ≡ text.old.items ++
+        (type_text (first_of no_type (type_step node.now ts)) ++ types_left_text works.old (others_of (type_step node.now ts)))) }
     ensures less { OnOk result (type_works works.new ≤ type_works works.old + nodes_work (node.now ∷ [])) }
 {
     match node {
@@ -127,7 +133,9 @@ fn begin_operator(
     count: usize,
     works: &mut Stack<TypeWork>,
 ) -> Result<(), Memory>
-    ensures added { OnOk result ((ts : List form.ClosedType) → text.new.items ++ types_left_text works.new ts ≡ text.old.items ++ (type_text (form.ClosedType.operator name.now (closed_types_of (firsts no_type count ts))) ++ types_left_text works.old (behind count ts))) }
+    ensures added { OnOk result ((ts : List form.ClosedType)
+        → text.new.items ++ types_left_text works.new ts ≡ text.old.items ++
+        (type_text (form.ClosedType.operator name.now (closed_types_of (firsts no_type count ts))) ++ types_left_text works.old (behind count ts))) }
     ensures less { OnOk result (type_works works.new ≤ 2 + 2 * count + type_works works.old) }
 {
     let Some(others) = count.checked_sub(1) else {
@@ -152,7 +160,10 @@ fn is_function(name: &Name, count: usize) -> bool
 
 // Sets out to write a type, some bytes, so many further types, and the bracket that closes them.
 fn set_out(works: &mut Stack<TypeWork>, between: &'static [u8], others: usize) -> Result<(), Memory>
-    ensures added { OnOk result ((ts : List form.ClosedType) → types_left_text works.new ts ≡ type_text (first_of no_type ts) ++ (between.now ++ (types_text (closed_types_of (firsts no_type others (others_of ts))) ++ (codes ")" ++ types_left_text works.old (behind others (others_of ts)))))) }
+    ensures added { OnOk result ((ts : List form.ClosedType)
+        → types_left_text works.new ts ≡ type_text (first_of no_type ts) ++
+        (between.now ++ (types_text (closed_types_of (firsts no_type others (others_of ts))) ++ (codes ")" ++ types_left_text works.old
+        (behind others (others_of ts)))))) }
     ensures work { OnOk result (type_works works.new ≡ 4 + 2 * others + type_works works.old) }
 {
     works.push(TypeWork::Bytes(b")"))?;
@@ -182,7 +193,8 @@ fn turn_term<'a>(
     work: TermWork,
     works: &mut Stack<TermWork>,
 ) -> Result<&'a [TermNode], Memory>
-    ensures added { IfOk result (λ left. text.new.items ++ terms_left_text works.new (spelled_terms left.now) ≡ text.old.items ++ terms_left_text (work ∷ works.old) (spelled_terms nodes.now)) }
+    ensures added { IfOk result (λ left. text.new.items ++ terms_left_text works.new (spelled_terms left.now) ≡ text.old.items ++ terms_left_text
+        (work ∷ works.old) (spelled_terms nodes.now)) }
     ensures less { IfOk result (λ left. length works.new + 4 * length left.now < length (work ∷ works.old) + 4 * length nodes.now) }
 {
     match work {
@@ -202,7 +214,8 @@ fn begin_term<'a>(
     depth: u128,
     works: &mut Stack<TermWork>,
 ) -> Result<&'a [TermNode], Memory>
-    ensures added { IfOk result (λ left. text.new.items ++ terms_left_text works.new (spelled_terms left.now) ≡ text.old.items ++ (term_text (first_of no_term (spelled_terms nodes.now)) depth ++ terms_left_text works.old (others_of (spelled_terms nodes.now)))) }
+    ensures added { IfOk result (λ left. text.new.items ++ terms_left_text works.new (spelled_terms left.now) ≡ text.old.items ++
+        (term_text (first_of no_term (spelled_terms nodes.now)) depth ++ terms_left_text works.old (others_of (spelled_terms nodes.now)))) }
     ensures less { IfOk result (λ left. length works.new + 4 * length left.now ≤ length works.old + 4 * length nodes.now) }
 {
     match nodes {
@@ -225,7 +238,9 @@ fn add_term_node(
     depth: u128,
     works: &mut Stack<TermWork>,
 ) -> Result<(), Memory>
-    ensures added { OnOk result ((ts : List form.ClosedTerm) → text.new.items ++ terms_left_text works.new ts ≡ text.old.items ++ (term_text (first_of no_term (term_step node.now ts)) depth ++ terms_left_text works.old (others_of (term_step node.now ts)))) }
+    ensures added { OnOk result ((ts : List form.ClosedTerm)
+        → text.new.items ++ terms_left_text works.new ts ≡ text.old.items ++
+        (term_text (first_of no_term (term_step node.now ts)) depth ++ terms_left_text works.old (others_of (term_step node.now ts)))) }
     ensures less { OnOk result (length works.new ≤ length works.old + 4) }
 {
     match node {
@@ -263,7 +278,10 @@ fn begin_application(
     depth: u128,
     works: &mut Stack<TermWork>,
 ) -> Result<(), Memory>
-    ensures added { OnOk result ((ts : List form.ClosedTerm) → text.new.items ++ terms_left_text works.new ts ≡ text.old.items ++ (term_text (form.ClosedTerm.app (first_of no_term ts) (first_of no_term (others_of ts))) depth ++ terms_left_text works.old (others_of (others_of ts)))) }
+    ensures added { OnOk result ((ts : List form.ClosedTerm)
+        → text.new.items ++ terms_left_text works.new ts ≡ text.old.items ++
+        (term_text (form.ClosedTerm.app (first_of no_term ts) (first_of no_term (others_of ts))) depth ++ terms_left_text works.old
+        (others_of (others_of ts)))) }
     ensures work { OnOk result (length works.new ≡ 4 + length works.old) }
 {
     text.extend_from_slice(b"(")?;
@@ -281,7 +299,9 @@ fn begin_abstraction(
     depth: u128,
     works: &mut Stack<TermWork>,
 ) -> Result<(), Memory>
-    ensures added { OnOk result ((ts : List form.ClosedTerm) → text.new.items ++ terms_left_text works.new ts ≡ text.old.items ++ (term_text (form.ClosedTerm.lam (closed_type_view ty.now) (first_of no_term ts)) depth ++ terms_left_text works.old (others_of ts))) }
+    ensures added { OnOk result ((ts : List form.ClosedTerm)
+        → text.new.items ++ terms_left_text works.new ts ≡ text.old.items ++
+        (term_text (form.ClosedTerm.lam (closed_type_view ty.now) (first_of no_term ts)) depth ++ terms_left_text works.old (others_of ts))) }
     ensures work { OnOk result (length works.new ≡ 2 + length works.old) }
 {
     // No memory holds so many binders.

@@ -44,7 +44,8 @@ pub trait Binding {
     fn put_all(&mut self, args: &[Self::Id], body: Self::Id) -> Result<Self::Id, Self::Fault>
         requires args { (us : List Self.Tree) × Pairwise (Self.holds self.old) args.now us }
         requires body { (t : Self.Tree) × Self.holds self.old body t }
-        ensures made { IfOk result (λ r. (us : List Self.Tree) (t : Self.Tree) → Pairwise (Self.holds self.old) args.now us → Self.holds self.old body t → Self.holds self.new r (Self.put_list us t)) }
+        ensures made { IfOk result (λ r. (us : List Self.Tree) (t : Self.Tree) → Pairwise (Self.holds self.old) args.now us → Self.holds self.old body t
+            → Self.holds self.new r (Self.put_list us t)) }
         ensures keeps { (i : Self.Id) (t : Self.Tree) → Self.holds self.old i t → Self.holds self.new i t }
         ensures unchanged { OnErr result (self.new ≡ self.old) };
 

@@ -108,7 +108,8 @@ fn note_among(list: &mut Vec<usize>, held: &[Said], place: usize) -> Result<(), 
 
 /// Strikes a place off the list of its conclusion.
 pub(crate) fn strike(lists: &mut Lists, concl: TermId, place: usize)
-    ensures struck { (held : List ASaid) → AreOrdered held (list_of lists.old.entries concl) → IsStruck held place (list_of lists.old.entries concl) (list_of lists.new.entries concl) }
+    ensures struck { (held : List ASaid) → AreOrdered held (list_of lists.old.entries concl)
+        → IsStruck held place (list_of lists.old.entries concl) (list_of lists.new.entries concl) }
     ensures others { (id : AnId) → same_id concl id ≡ false → list_of lists.new.entries id ≡ list_of lists.old.entries id }
 {
     if let Some(list) = lists.get_mut(&concl) {

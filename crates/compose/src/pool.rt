@@ -94,7 +94,8 @@ impl Pool {
     /// The step of the first sequent that is the same: the hypotheses equal as sets, and the conclusions equal. It takes
     /// no memory.
     pub fn find(&self, sequent: &Sequent) -> Option<usize>
-        ensures { (trees : Trees) → IsDistinct trees.terms → AreSequentsKnown trees self.now → IsKnown trees sequent.now → result ≡ step_of (find (is_same_at trees sequent.now) self.now) }
+        ensures { (trees : Trees) → IsDistinct trees.terms → AreSequentsKnown trees self.now → IsKnown trees sequent.now
+            → result ≡ step_of (find (is_same_at trees sequent.now) self.now) }
     {
         let place = self.place(sequent)?;
         Some(self.steps[place])
@@ -102,7 +103,8 @@ impl Pool {
 
     /// The step of the first sequent that is the same, among so many that were added first. It takes no memory.
     pub fn find_among(&self, count: usize, sequent: &Sequent) -> Option<usize>
-        ensures { (trees : Trees) → IsDistinct trees.terms → AreSequentsKnown trees self.now → IsKnown trees sequent.now → result ≡ step_of (find (is_same_at trees sequent.now) (take count self.now)) }
+        ensures { (trees : Trees) → IsDistinct trees.terms → AreSequentsKnown trees self.now → IsKnown trees sequent.now
+            → result ≡ step_of (find (is_same_at trees sequent.now) (take count self.now)) }
     {
         let place = self.place(sequent)?;
         if place < count {
@@ -145,7 +147,8 @@ impl Pool {
     // The place of the first sequent that is the same.
     fn place(&self, sequent: &Sequent) -> Option<usize>
         ensures within { IfSome result (λ place. place < length self.now) }
-        ensures first { (trees : Trees) → IsDistinct trees.terms → AreSequentsKnown trees self.now → IsKnown trees sequent.now → result ≡ first_place (is_same_at trees sequent.now) self.now }
+        ensures first { (trees : Trees) → IsDistinct trees.terms → AreSequentsKnown trees self.now → IsKnown trees sequent.now
+            → result ≡ first_place (is_same_at trees sequent.now) self.now }
     {
         let list = list_for(&self.lists, sequent.concl);
         match search(list, &self.held, &sequent.hyps) {

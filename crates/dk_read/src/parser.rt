@@ -10,12 +10,12 @@ ghost use Rattle.dk_read.specs.Names.{name_at};
 ghost use Rattle.dk_read.specs.States.{tree_of, argued_in, applies_in, goes_on_in, advance_in, state_in, state_of, head_of, token_in, frames_of, IsSound, IsReady, IsReading, IsTokenKnown, IsIdKnown, Becomes, Tells, Grows, before, tree_in, IsSign, NoColon, IsWord};
 
 use crate::faults::{DkFault, Stop};
-use lp_spec::DkKind;
 use crate::names::Names;
 use crate::signature_names::first_names;
 use crate::terms::{Atoms, Frame, Head, Meaning, State, Token, Word};
 use common::Memory;
 use holide_sig::{Form, Ident, Module};
+use lp_spec::DkKind;
 use lp_term::{LpId, LpNode};
 use std::alloc::Global;
 

@@ -7,10 +7,10 @@ ghost use Rattle.dk_read.specs.Texts.{Ends};
 ghost use Rattle.dk_read.specs.Readers.{Reading, place_of, held_of, HasRoom, IsFed, limit_of, EndsWith, ReadsAs, Accepts, NeverTooLong, StopsAs, EndsStopped, Feeds, GoesOn, Answers, StaysStopped, Judges, HasName};
 
 use crate::faults::DkFault;
-use lp_spec::DkKind;
 use crate::stage::Stage;
 use common::Memory;
 use holide_sig::{Ident, Module};
+use lp_spec::DkKind;
 use std::alloc::Global;
 use std::marker::Model;
 

@@ -11,9 +11,9 @@ ghost use Rattle.dk_read.specs.Texts.{common, inside};
 ghost use Rattle.dk_read.specs.Readers.{progress_of, place_of, fault_in, IsStage, Comes, IsCut, StopsAs};
 
 use crate::faults::DkFault;
-use lp_spec::DkKind;
 use crate::text::Text;
 use holide_sig::PRELUDE;
+use lp_spec::DkKind;
 use std::alloc::Global;
 
 /// How far a reading is: behind so many bytes of the signature's text, inside the text after it, or at a fault.

@@ -107,8 +107,12 @@ fn write_by<S: Sink>(
     requires empty { path.old.frames ≡ [] }
     requires small { path.old.room < 2 ^ 64 }
     ensures room { path.new.room ≡ path.old.room }
-    ensures ok { OnOk result (Gains (S.got sink.old) (declaration_text (declarations_of source.now) (shortened_declaration (take before (declarations_of source.now)) (declaration_in source.now.table decl.now)) bound) (S.got sink.new)) }
-    ensures err { OnErr result (GainsFront (S.got sink.old) (declaration_text (declarations_of source.now) (shortened_declaration (take before (declarations_of source.now)) (declaration_in source.now.table decl.now)) bound) (S.got sink.new)) }
+    ensures ok { OnOk result (Gains (S.got sink.old)
+        (declaration_text (declarations_of source.now)
+        (shortened_declaration (take before (declarations_of source.now)) (declaration_in source.now.table decl.now)) bound) (S.got sink.new)) }
+    ensures err { OnErr result (GainsFront (S.got sink.old)
+        (declaration_text (declarations_of source.now)
+        (shortened_declaration (take before (declarations_of source.now)) (declaration_in source.now.table decl.now)) bound) (S.got sink.new)) }
     ensures cause { HasCause (S.faults sink.old) (S.faults sink.new) result }
 {
     let mut gathered = Gathered::new();

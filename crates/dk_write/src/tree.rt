@@ -76,7 +76,8 @@ fn write_place<S: Sink>(
     ensures frames { IfOk result (λ _. AreFrames path.new.room source.now.table path.new.frames) }
     ensures room { path.new.room ≡ path.old.room }
     ensures less { IfOk result (λ turn. work source.now.table turn path.new.frames < work source.now.table (Turn.Write place) path.old.frames) }
-    ensures ok { IfOk result (λ turn. Gained (S.got sink.old) (gathered.old ++ left_text source.now before (Turn.Write place) path.old.frames) (gathered.new ++ left_text source.now before turn path.new.frames) (S.got sink.new)) }
+    ensures ok { IfOk result (λ turn. Gained (S.got sink.old) (gathered.old ++ left_text source.now before (Turn.Write place) path.old.frames)
+        (gathered.new ++ left_text source.now before turn path.new.frames) (S.got sink.new)) }
     ensures err { OnErr result (GainsFront (S.got sink.old) (gathered.old ++ left_text source.now before (Turn.Write place) path.old.frames) (S.got sink.new)) }
     ensures cause { HasCause (S.faults sink.old) (S.faults sink.new) result }
 {
@@ -108,7 +109,8 @@ fn write_parts<S: Sink>(
     ensures frames { IfOk result (λ _. AreFrames path.new.room source.now.table path.new.frames) }
     ensures room { path.new.room ≡ path.old.room }
     ensures less { IfOk result (λ turn. work source.now.table turn path.new.frames < work source.now.table (Turn.Write place) path.old.frames) }
-    ensures ok { IfOk result (λ turn. Gained (S.got sink.old) (gathered.old ++ left_text source.now before (Turn.Write place) path.old.frames) (gathered.new ++ left_text source.now before turn path.new.frames) (S.got sink.new)) }
+    ensures ok { IfOk result (λ turn. Gained (S.got sink.old) (gathered.old ++ left_text source.now before (Turn.Write place) path.old.frames)
+        (gathered.new ++ left_text source.now before turn path.new.frames) (S.got sink.new)) }
     ensures err { OnErr result (GainsFront (S.got sink.old) (gathered.old ++ left_text source.now before (Turn.Write place) path.old.frames) (S.got sink.new)) }
     ensures cause { HasCause (S.faults sink.old) (S.faults sink.new) result }
 {
@@ -189,7 +191,8 @@ fn write_binder<S: Sink>(
     gathered: &mut Gathered,
     sink: &mut S,
 ) -> Result<(), Failed>
-    ensures { Writes (S.got sink.old) gathered.old (S.faults sink.old) (binder_name depth ++ (codes " : " ++ (if opens then codes "(" else []))) (S.got sink.new) gathered.new (S.faults sink.new) result }
+    ensures { Writes (S.got sink.old) gathered.old (S.faults sink.old)
+        (binder_name depth ++ (codes " : " ++ (if opens then codes "(" else []))) (S.got sink.new) gathered.new (S.faults sink.new) result }
 {
     let mut buffer = Buffer::new();
     let number = buffer.format(depth).as_bytes();
@@ -215,7 +218,8 @@ fn write_frame<S: Sink>(
     ensures frames { IfOk result (λ _. AreFrames path.new.room source.now.table path.new.frames) }
     ensures room { path.new.room ≡ path.old.room }
     ensures less { IfOk result (λ turn. work source.now.table turn path.new.frames < work source.now.table Turn.Leave (frame ∷ path.old.frames)) }
-    ensures ok { IfOk result (λ turn. Gained (S.got sink.old) (gathered.old ++ left_text source.now before Turn.Leave (frame ∷ path.old.frames)) (gathered.new ++ left_text source.now before turn path.new.frames) (S.got sink.new)) }
+    ensures ok { IfOk result (λ turn. Gained (S.got sink.old) (gathered.old ++ left_text source.now before Turn.Leave (frame ∷ path.old.frames))
+        (gathered.new ++ left_text source.now before turn path.new.frames) (S.got sink.new)) }
     ensures err { OnErr result (GainsFront (S.got sink.old) (gathered.old ++ left_text source.now before Turn.Leave (frame ∷ path.old.frames)) (S.got sink.new)) }
     ensures cause { HasCause (S.faults sink.old) (S.faults sink.new) result }
 {

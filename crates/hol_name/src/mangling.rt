@@ -114,7 +114,8 @@ fn digit(number: u8) -> u8
 
 /// The components of the name that has this mangled text, or none where no name has it.
 pub(crate) fn components_of(alloc: Global, text: &[u8]) -> Result<Option<Vec<Vec<u8>>>, Memory>
-    ensures inverse { IfOk result (λ found. MatchOption found (HasNoName text.now) (λ components. mangled (map (λ component. component.items) components.items) ≡ text.now)) }
+    ensures inverse { IfOk result (λ found. MatchOption found (HasNoName text.now)
+        (λ components. mangled (map (λ component. component.items) components.items) ≡ text.now)) }
     ensures name { IfOk result (λ found. IfSome found (λ components. IsName (map (λ component. component.items) components.items))) }
 {
     let mut components = Vec::new(alloc);

@@ -44,7 +44,8 @@ pub(crate) fn is_walked(terms: &TermTable, variable: &Variable, id: TermId) -> R
 
 // Whether two variables are one, in the table of their types.
 fn is_same(variable: &Variable, own: &Variable) -> bool
-    ensures { (trees : Trees) → type.IsDistinct trees.types → variable.now.ty.0 < length trees.types → own.now.ty.0 < length trees.types → result ≡ variable_eq (variable_view trees variable.now) (variable_view trees own.now) }
+    ensures { (trees : Trees) → type.IsDistinct trees.types → variable.now.ty.0 < length trees.types → own.now.ty.0 < length trees.types
+        → result ≡ variable_eq (variable_view trees variable.now) (variable_view trees own.now) }
 {
     variable.name == own.name && variable.ty == own.ty
 }

@@ -39,7 +39,6 @@ struct Ready {
 
 impl Model for Put {
     ghost use Rattle.hol_rules.specs.declared.made.Substitution.{Substitution as ASubstitution};
-
     ghost use Rattle.hol_term.specs.PutIndexes.{IsIndexOf};
 
     ghost Value = { ASubstitution };

@@ -46,7 +46,8 @@ impl Proof {
         requires type_pairs { type.ArePairsKnown self.old.trees.types type_pairs.now }
         requires term_pairs { AreTermPairs self.old.trees term_pairs.now }
         requires one { one < step_count self.old }
-        ensures { Concludes self.old (subst_step self.old.made (type.pairs_at self.old.trees.types type_pairs.now) (term_pairs_at self.old.trees term_pairs.now) one) self.new result }
+        ensures { Concludes self.old (subst_step self.old.made (type.pairs_at self.old.trees.types type_pairs.now)
+            (term_pairs_at self.old.trees term_pairs.now) one) self.new result }
     {
         let put = self.prepared(type_pairs, term_pairs)?;
         let step = self.subst_prepared(&put, one);
@@ -81,7 +82,8 @@ impl Proof {
         requires terms { AreTermPairs self.old.trees put.now.terms.items }
         requires fits { ArePairsFitting self.old.trees put.now.terms.items }
         requires one { one < step_count self.old }
-        ensures { Concludes self.old (subst_step self.old.made (type.pairs_at self.old.trees.types put.now.types.items) (term_pairs_at self.old.trees put.now.terms.items) one) self.new result }
+        ensures { Concludes self.old (subst_step self.old.made (type.pairs_at self.old.trees.types put.now.types.items)
+            (term_pairs_at self.old.trees put.now.terms.items) one) self.new result }
     {
         let sequent = self.image(put, one)?;
         let given = put.again()?;
@@ -92,7 +94,9 @@ impl Proof {
     fn image(&mut self, put: &Put, one: StepId) -> Result<Sequent, Memory>
         requires pairs { AreKnownPairs self.old.trees put.now.types.items put.now.terms.items }
         requires one { one < step_count self.old }
-        ensures made { IfOk result (λ image. IsStated self.new.trees image (substituted (type.pairs_at self.old.trees.types put.now.types.items) (term_pairs_at self.old.trees put.now.terms.items) (sequent_at self.old.made one))) }
+        ensures made { IfOk result (λ image. IsStated self.new.trees image
+            (substituted (type.pairs_at self.old.trees.types put.now.types.items) (term_pairs_at self.old.trees put.now.terms.items)
+            (sequent_at self.old.made one))) }
         ensures grows { Grows self.old self.new }
     {
         let sequent = &self.steps[one].sequent;
@@ -111,7 +115,9 @@ fn image_of(
     requires pairs { AreKnownPairs terms.old put.now.types.items put.now.terms.items }
     requires sequent { numbers.IsKnown terms.old sequent.now }
     requires distinct { IsDistinct terms.old.terms }
-    ensures made { IfOk result (λ image. IsStated terms.new image (substituted (type.pairs_at terms.old.types put.now.types.items) (term_pairs_at terms.old put.now.terms.items) (numbers.sequent_at terms.old sequent.now))) }
+    ensures made { IfOk result (λ image. IsStated terms.new image
+        (substituted (type.pairs_at terms.old.types put.now.types.items) (term_pairs_at terms.old put.now.terms.items)
+        (numbers.sequent_at terms.old sequent.now))) }
     ensures keeps { Keeps terms.old terms.new }
 {
     let ids = sequent.hyps.ids();

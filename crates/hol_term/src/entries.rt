@@ -273,7 +273,8 @@ fn put_with(
     requires few { length entries.old.items < nothing }
     ensures number { IfOk result (λ n. n ≡ length entries.old.items) }
     ensures entries { OnOk result (entries.new.items ≡ entries.old.items ++ entry ∷ []) }
-    ensures children { OnOk result ((c : AChildren) → slice_get children.old.items part ≡ Some c → children.new.items ≡ slice_set (children.old.items ++ no_children ∷ []) part (with_child c (length entries.old.items))) }
+    ensures children { OnOk result ((c : AChildren) → slice_get children.old.items part ≡ Some c
+        → children.new.items ≡ slice_set (children.old.items ++ no_children ∷ []) part (with_child c (length entries.old.items))) }
     ensures unchanged { OnErr result ((entries.new.items ≡ entries.old.items) × (children.new.items ≡ children.old.items)) }
 {
     match reserve(entries, children) {
@@ -303,7 +304,8 @@ fn put_apart(
     ensures entries { OnOk result (entries.new.items ≡ entries.old.items ++ entry ∷ []) }
     ensures children { OnOk result (children.new.items ≡ children.old.items ++ no_children ∷ []) }
     ensures others { OnOk result (Updates node_cmp others.old others.new entry.node (Some (length entries.old.items))) }
-    ensures unchanged { OnErr result ((entries.new.items ≡ entries.old.items) × (children.new.items ≡ children.old.items) × (others.new.entries ≡ others.old.entries)) }
+    ensures unchanged { OnErr result ((entries.new.items ≡ entries.old.items) × (children.new.items ≡ children.old.items)
+        × (others.new.entries ≡ others.old.entries)) }
 {
     match number_apart(entries, children, others, &entry.node) {
         Ok(number) => {

@@ -72,7 +72,9 @@ impl TermTable {
     pub fn ty_match(&self, general: TypeId, instance: TypeId) -> Result<Option<TypeMap>, Memory>
         requires general { general.0 < length self.now.types }
         requires instance { instance.0 < length self.now.types }
-        ensures matches { IfOk result (λ found. MatchOption found ((s : TypePairs) → substitute s (type_at self.now general.0) ≡ type_at self.now instance.0 → ⊥) (λ pairs. substitute (type.pairs_at self.now.types pairs) (type_at self.now general.0) ≡ type_at self.now instance.0)) }
+        ensures matches { IfOk result (λ found. MatchOption found
+            ((s : TypePairs) → substitute s (type_at self.now general.0) ≡ type_at self.now instance.0 → ⊥)
+            (λ pairs. substitute (type.pairs_at self.now.types pairs) (type_at self.now general.0) ≡ type_at self.now instance.0)) }
         ensures known { IfOk result (λ found. IfSome found (λ pairs. type.ArePairsKnown self.now.types pairs)) }
     {
         self.types.match_to(general, instance)
@@ -140,11 +142,14 @@ impl TermTable {
         requires variable { var.now.ty.0 < length self.old.types }
         requires body { IsTermAt self.old id.0 }
         ensures known { IfOk result (λ r. r.0 < length self.new.terms) }
-        ensures made { IfOk result (λ r. Holds self.new r.0 (lam (type_at self.old var.now.ty.0) (close (var.now.name, type_at self.old var.now.ty.0) (term_at self.old id.0)))) }
-        ensures within { IfOk result (λ r. TermWithin (lam (type_at self.old var.now.ty.0) (close (var.now.name, type_at self.old var.now.ty.0) (term_at self.old id.0)))) }
+        ensures made { IfOk result (λ r. Holds self.new r.0
+            (lam (type_at self.old var.now.ty.0) (close (var.now.name, type_at self.old var.now.ty.0) (term_at self.old id.0)))) }
+        ensures within { IfOk result (λ r. TermWithin
+            (lam (type_at self.old var.now.ty.0) (close (var.now.name, type_at self.old var.now.ty.0) (term_at self.old id.0)))) }
         ensures keeps { Keeps self.old self.new }
         ensures distinct { IsDistinct self.new.terms }
-        ensures refusal { IfErr result (λ fault. RefusesTerm fault (lam (type_at self.old var.now.ty.0) (close (var.now.name, type_at self.old var.now.ty.0) (term_at self.old id.0)))) }
+        ensures refusal { IfErr result (λ fault. RefusesTerm fault
+            (lam (type_at self.old var.now.ty.0) (close (var.now.name, type_at self.old var.now.ty.0) (term_at self.old id.0)))) }
         ensures unchanged { OnErr result (self.new ≡ self.old) }
     {
         let mark = self.mark();
@@ -240,7 +245,8 @@ impl TermTable {
         requires variable { var.now.ty.0 < length self.old.types }
         requires body { id.0 < length self.old.terms }
         ensures known { IfOk result (λ r. r.0 < length self.new.terms) }
-        ensures made { IfOk result (λ r. Holds self.new r.0 (lam (type_at self.old var.now.ty.0) (close (var.now.name, type_at self.old var.now.ty.0) (term_at self.old id.0)))) }
+        ensures made { IfOk result (λ r. Holds self.new r.0
+            (lam (type_at self.old var.now.ty.0) (close (var.now.name, type_at self.old var.now.ty.0) (term_at self.old id.0)))) }
         ensures keeps { Keeps self.old self.new }
     {
         let body = self.closed(var, id)?;

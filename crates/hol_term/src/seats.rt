@@ -103,7 +103,8 @@ impl Typings {
         ensures steps { self.new.steps ≡ self.old.steps }
         ensures types { OnOk result (self.new.types ≡ ty ∷ self.old.types) }
         ensures scopes { self.new.scopes ≡ self.old.scopes }
-        ensures noted { OnOk result ((s : ASeat) (found : Option AnId) → IsNoted self.new.found s found → IsNoted self.old.found s found ⊎ ((s ≡ seat) × (found ≡ ty))) }
+        ensures noted { OnOk result ((s : ASeat) (found : Option AnId) → IsNoted self.new.found s found
+            → IsNoted self.old.found s found ⊎ ((s ≡ seat) × (found ≡ ty))) }
     {
         self.found.note(seat, ty)?;
         self.types.push(ty)

@@ -153,13 +153,16 @@ impl TermTable {
         requires term_pairs { AreTermPairs self.old term_pairs.now }
         requires id { IsTermAt self.old id.0 }
         ensures known { IfOk result (λ r. r.0 < length self.new.terms) }
-        ensures made { IfOk result (λ r. Holds self.new r.0 (sub (type.pairs_at self.old.types type_pairs.now) (term_pairs_at self.old term_pairs.now) (term_at self.old id.0))) }
+        ensures made { IfOk result (λ r. Holds self.new r.0
+            (sub (type.pairs_at self.old.types type_pairs.now) (term_pairs_at self.old term_pairs.now) (term_at self.old id.0))) }
         ensures fits { OnOk result (ArePairsFitting self.old term_pairs.now) }
         ensures typed { IfOk result (λ r. IsTerm (sub (type.pairs_at self.old.types type_pairs.now) (term_pairs_at self.old term_pairs.now) (term_at self.old id.0))) }
-        ensures within { IfOk result (λ r. TermWithin (sub (type.pairs_at self.old.types type_pairs.now) (term_pairs_at self.old term_pairs.now) (term_at self.old id.0))) }
+        ensures within { IfOk result (λ r. TermWithin
+            (sub (type.pairs_at self.old.types type_pairs.now) (term_pairs_at self.old term_pairs.now) (term_at self.old id.0))) }
         ensures keeps { Keeps self.old self.new }
         ensures distinct { IsDistinct self.new.terms }
-        ensures refusal { IfErr result (λ fault. RefusesSubst fault (ArePairsFitting self.old term_pairs.now) (sub (type.pairs_at self.old.types type_pairs.now) (term_pairs_at self.old term_pairs.now) (term_at self.old id.0))) }
+        ensures refusal { IfErr result (λ fault. RefusesSubst fault (ArePairsFitting self.old term_pairs.now)
+            (sub (type.pairs_at self.old.types type_pairs.now) (term_pairs_at self.old term_pairs.now) (term_at self.old id.0))) }
         ensures unchanged { OnErr result (self.new ≡ self.old) }
     {
         let mark = self.mark();
@@ -297,10 +300,15 @@ impl TermTable {
         walk: &mut Substituting,
     ) -> Result<(), Memory>
         requires index { IsIndexOf putting.now.index.now putting.now.terms.now }
-        requires walk { (from : Trees) × (root : ATerm) × IsSubstituting from root self.old putting.now.types.now putting.now.terms.now (task ∷ walk.old.tasks) walk.old.made walk.old.images }
+        requires walk { (from : Trees) × (root : ATerm)
+            × IsSubstituting from root self.old putting.now.types.now putting.now.terms.now (task ∷ walk.old.tasks) walk.old.made walk.old.images }
         ensures keeps { Keeps self.old self.new }
-        ensures walk { OnOk result ((from : Trees) (root : ATerm) → IsSubstituting from root self.old putting.now.types.now putting.now.terms.now (task ∷ walk.old.tasks) walk.old.made walk.old.images → IsSubstituting from root self.new putting.now.types.now putting.now.terms.now walk.new.tasks walk.new.made walk.new.images) }
-        ensures less { OnOk result ((from : Trees) (root : ATerm) → IsSubstituting from root self.old putting.now.types.now putting.now.terms.now (task ∷ walk.old.tasks) walk.old.made walk.old.images → steps from walk.new.tasks < steps from (task ∷ walk.old.tasks)) }
+        ensures walk { OnOk result ((from : Trees) (root : ATerm)
+            → IsSubstituting from root self.old putting.now.types.now putting.now.terms.now (task ∷ walk.old.tasks) walk.old.made walk.old.images
+            → IsSubstituting from root self.new putting.now.types.now putting.now.terms.now walk.new.tasks walk.new.made walk.new.images) }
+        ensures less { OnOk result ((from : Trees) (root : ATerm)
+            → IsSubstituting from root self.old putting.now.types.now putting.now.terms.now (task ∷ walk.old.tasks) walk.old.made walk.old.images
+            → steps from walk.new.tasks < steps from (task ∷ walk.old.tasks)) }
     {
         match task {
             Turn::Visit(id) => self.visit_image(putting, id, walk),
@@ -317,10 +325,15 @@ impl TermTable {
         walk: &mut Substituting,
     ) -> Result<(), Memory>
         requires index { IsIndexOf putting.now.index.now putting.now.terms.now }
-        requires walk { (from : Trees) × (root : ATerm) × IsSubstituting from root self.old putting.now.types.now putting.now.terms.now (the_turn.Visit id ∷ walk.old.tasks) walk.old.made walk.old.images }
+        requires walk { (from : Trees) × (root : ATerm)
+            × IsSubstituting from root self.old putting.now.types.now putting.now.terms.now (the_turn.Visit id ∷ walk.old.tasks) walk.old.made walk.old.images }
         ensures keeps { Keeps self.old self.new }
-        ensures walk { OnOk result ((from : Trees) (root : ATerm) → IsSubstituting from root self.old putting.now.types.now putting.now.terms.now (the_turn.Visit id ∷ walk.old.tasks) walk.old.made walk.old.images → IsSubstituting from root self.new putting.now.types.now putting.now.terms.now walk.new.tasks walk.new.made walk.new.images) }
-        ensures less { OnOk result ((from : Trees) (root : ATerm) → IsSubstituting from root self.old putting.now.types.now putting.now.terms.now (the_turn.Visit id ∷ walk.old.tasks) walk.old.made walk.old.images → steps from walk.new.tasks < steps from (the_turn.Visit id ∷ walk.old.tasks)) }
+        ensures walk { OnOk result ((from : Trees) (root : ATerm)
+            → IsSubstituting from root self.old putting.now.types.now putting.now.terms.now (the_turn.Visit id ∷ walk.old.tasks) walk.old.made walk.old.images
+            → IsSubstituting from root self.new putting.now.types.now putting.now.terms.now walk.new.tasks walk.new.made walk.new.images) }
+        ensures less { OnOk result ((from : Trees) (root : ATerm)
+            → IsSubstituting from root self.old putting.now.types.now putting.now.terms.now (the_turn.Visit id ∷ walk.old.tasks) walk.old.made walk.old.images
+            → steps from walk.new.tasks < steps from (the_turn.Visit id ∷ walk.old.tasks)) }
     {
         match self.image_found(putting, &walk.images, id) {
             Some(made) => walk.made.push(made),
@@ -336,10 +349,15 @@ impl TermTable {
         walk: &mut Substituting,
     ) -> Result<(), Memory>
         requires index { IsIndexOf putting.now.index.now putting.now.terms.now }
-        requires walk { (from : Trees) × (root : ATerm) × IsSubstituting from root self.old putting.now.types.now putting.now.terms.now (the_turn.Visit id ∷ walk.old.tasks) walk.old.made walk.old.images }
+        requires walk { (from : Trees) × (root : ATerm)
+            × IsSubstituting from root self.old putting.now.types.now putting.now.terms.now (the_turn.Visit id ∷ walk.old.tasks) walk.old.made walk.old.images }
         ensures keeps { Keeps self.old self.new }
-        ensures walk { OnOk result ((from : Trees) (root : ATerm) → IsSubstituting from root self.old putting.now.types.now putting.now.terms.now (the_turn.Visit id ∷ walk.old.tasks) walk.old.made walk.old.images → IsSubstituting from root self.new putting.now.types.now putting.now.terms.now walk.new.tasks walk.new.made walk.new.images) }
-        ensures less { OnOk result ((from : Trees) (root : ATerm) → IsSubstituting from root self.old putting.now.types.now putting.now.terms.now (the_turn.Visit id ∷ walk.old.tasks) walk.old.made walk.old.images → steps from walk.new.tasks < steps from (the_turn.Visit id ∷ walk.old.tasks)) }
+        ensures walk { OnOk result ((from : Trees) (root : ATerm)
+            → IsSubstituting from root self.old putting.now.types.now putting.now.terms.now (the_turn.Visit id ∷ walk.old.tasks) walk.old.made walk.old.images
+            → IsSubstituting from root self.new putting.now.types.now putting.now.terms.now walk.new.tasks walk.new.made walk.new.images) }
+        ensures less { OnOk result ((from : Trees) (root : ATerm)
+            → IsSubstituting from root self.old putting.now.types.now putting.now.terms.now (the_turn.Visit id ∷ walk.old.tasks) walk.old.made walk.old.images
+            → steps from walk.new.tasks < steps from (the_turn.Visit id ∷ walk.old.tasks)) }
     {
         match self.view(id) {
             TermView::Free(name, ty) => {
@@ -368,10 +386,15 @@ impl TermTable {
         id: TermId,
         walk: &mut Substituting,
     ) -> Result<(), Memory>
-        requires { (from : Trees) × (root : ATerm) × IsSubstituting from root self.old putting.now.types.now putting.now.terms.now (the_turn.Apply id ∷ walk.old.tasks) walk.old.made walk.old.images }
+        requires { (from : Trees) × (root : ATerm)
+            × IsSubstituting from root self.old putting.now.types.now putting.now.terms.now (the_turn.Apply id ∷ walk.old.tasks) walk.old.made walk.old.images }
         ensures keeps { Keeps self.old self.new }
-        ensures walk { OnOk result ((from : Trees) (root : ATerm) → IsSubstituting from root self.old putting.now.types.now putting.now.terms.now (the_turn.Apply id ∷ walk.old.tasks) walk.old.made walk.old.images → IsSubstituting from root self.new putting.now.types.now putting.now.terms.now walk.new.tasks walk.new.made walk.new.images) }
-        ensures less { OnOk result ((from : Trees) (root : ATerm) → IsSubstituting from root self.old putting.now.types.now putting.now.terms.now (the_turn.Apply id ∷ walk.old.tasks) walk.old.made walk.old.images → steps from walk.new.tasks < steps from (the_turn.Apply id ∷ walk.old.tasks)) }
+        ensures walk { OnOk result ((from : Trees) (root : ATerm)
+            → IsSubstituting from root self.old putting.now.types.now putting.now.terms.now (the_turn.Apply id ∷ walk.old.tasks) walk.old.made walk.old.images
+            → IsSubstituting from root self.new putting.now.types.now putting.now.terms.now walk.new.tasks walk.new.made walk.new.images) }
+        ensures less { OnOk result ((from : Trees) (root : ATerm)
+            → IsSubstituting from root self.old putting.now.types.now putting.now.terms.now (the_turn.Apply id ∷ walk.old.tasks) walk.old.made walk.old.images
+            → steps from walk.new.tasks < steps from (the_turn.Apply id ∷ walk.old.tasks)) }
     {
         let argument = walk.take();
         let function = walk.take();
@@ -387,10 +410,18 @@ impl TermTable {
         ty: TypeId,
         walk: &mut Substituting,
     ) -> Result<(), Memory>
-        requires { (from : Trees) × (root : ATerm) × IsSubstituting from root self.old putting.now.types.now putting.now.terms.now (the_turn.Abstract id ty ∷ walk.old.tasks) walk.old.made walk.old.images }
+        requires { (from : Trees) × (root : ATerm)
+            × IsSubstituting from root self.old putting.now.types.now putting.now.terms.now
+            (the_turn.Abstract id ty ∷ walk.old.tasks) walk.old.made walk.old.images }
         ensures keeps { Keeps self.old self.new }
-        ensures walk { OnOk result ((from : Trees) (root : ATerm) → IsSubstituting from root self.old putting.now.types.now putting.now.terms.now (the_turn.Abstract id ty ∷ walk.old.tasks) walk.old.made walk.old.images → IsSubstituting from root self.new putting.now.types.now putting.now.terms.now walk.new.tasks walk.new.made walk.new.images) }
-        ensures less { OnOk result ((from : Trees) (root : ATerm) → IsSubstituting from root self.old putting.now.types.now putting.now.terms.now (the_turn.Abstract id ty ∷ walk.old.tasks) walk.old.made walk.old.images → steps from walk.new.tasks < steps from (the_turn.Abstract id ty ∷ walk.old.tasks)) }
+        ensures walk { OnOk result ((from : Trees) (root : ATerm)
+            → IsSubstituting from root self.old putting.now.types.now putting.now.terms.now
+            (the_turn.Abstract id ty ∷ walk.old.tasks) walk.old.made walk.old.images
+            → IsSubstituting from root self.new putting.now.types.now putting.now.terms.now walk.new.tasks walk.new.made walk.new.images) }
+        ensures less { OnOk result ((from : Trees) (root : ATerm)
+            → IsSubstituting from root self.old putting.now.types.now putting.now.terms.now
+            (the_turn.Abstract id ty ∷ walk.old.tasks) walk.old.made walk.old.images
+            → steps from walk.new.tasks < steps from (the_turn.Abstract id ty ∷ walk.old.tasks)) }
     {
         let body = walk.take();
         let made = self.add(Node::Lam(ty, body))?;

@@ -76,7 +76,8 @@ impl TermTable {
         argument: Option<TypeId>,
     ) -> Option<TypeId>
         requires { (o : Option HolType) × IsTypeNumber self.now.types function o }
-        ensures { (o p : Option HolType) → IsTypeNumber self.now.types function o → IsTypeNumber self.now.types argument p → IsTypeNumber self.now.types result (application_type o p) }
+        ensures { (o p : Option HolType) → IsTypeNumber self.now.types function o → IsTypeNumber self.now.types argument p
+            → IsTypeNumber self.now.types result (application_type o p) }
     {
         let (Some(function), Some(argument)) = (function, argument) else {
             return None;
@@ -91,7 +92,8 @@ impl TermTable {
     fn abstracted(&mut self, ty: TypeId, body: Option<TypeId>) -> Result<Option<TypeId>, Memory>
         requires ty { ty.0 < length self.old.types }
         requires body { (o : Option HolType) × IsTypeNumber self.old.types body o }
-        ensures typed { IfOk result (λ r. (o : Option HolType) → IsTypeNumber self.old.types body o → IsTypeNumber self.new.types r (option_map (function_type (type_at self.old ty.0)) o)) }
+        ensures typed { IfOk result (λ r. (o : Option HolType) → IsTypeNumber self.old.types body o
+            → IsTypeNumber self.new.types r (option_map (function_type (type_at self.old ty.0)) o)) }
         ensures terms { self.new.terms ≡ self.old.terms }
         ensures keeps { Keeps self.old self.new }
     {
@@ -160,7 +162,9 @@ impl TermTable {
         requires { (root : Option HolType) × IsInferring root self.old typings.old.scopes typings.old.found (step ∷ typings.old.steps) typings.old.types }
         ensures keeps { Keeps self.old self.new }
         ensures terms { self.new.terms ≡ self.old.terms }
-        ensures walk { OnOk result ((root : Option HolType) → IsInferring root self.old typings.old.scopes typings.old.found (step ∷ typings.old.steps) typings.old.types → IsInferring root self.new typings.new.scopes typings.new.found typings.new.steps typings.new.types) }
+        ensures walk { OnOk result ((root : Option HolType)
+            → IsInferring root self.old typings.old.scopes typings.old.found (step ∷ typings.old.steps) typings.old.types
+            → IsInferring root self.new typings.new.scopes typings.new.found typings.new.steps typings.new.types) }
         ensures less { OnOk result (count self.new.terms typings.new.steps < count self.old.terms (step ∷ typings.old.steps)) }
     {
         match step {
@@ -172,8 +176,11 @@ impl TermTable {
 
     // Finds what is known of a seat already, or sets out to find its type.
     fn visit_seat(&self, seat: Seat, typings: &mut Typings) -> Result<(), Memory>
-        requires { (root : Option HolType) × IsInferring root self.now typings.old.scopes typings.old.found (the_step.Visit seat ∷ typings.old.steps) typings.old.types }
-        ensures walk { OnOk result ((root : Option HolType) → IsInferring root self.now typings.old.scopes typings.old.found (the_step.Visit seat ∷ typings.old.steps) typings.old.types → IsInferring root self.now typings.new.scopes typings.new.found typings.new.steps typings.new.types) }
+        requires { (root : Option HolType)
+            × IsInferring root self.now typings.old.scopes typings.old.found (the_step.Visit seat ∷ typings.old.steps) typings.old.types }
+        ensures walk { OnOk result ((root : Option HolType)
+            → IsInferring root self.now typings.old.scopes typings.old.found (the_step.Visit seat ∷ typings.old.steps) typings.old.types
+            → IsInferring root self.now typings.new.scopes typings.new.found typings.new.steps typings.new.types) }
         ensures less { OnOk result (count self.now.terms typings.new.steps < count self.now.terms (the_step.Visit seat ∷ typings.old.steps)) }
     {
         match self.found_type(&typings.found, seat) {
@@ -185,7 +192,8 @@ impl TermTable {
     // The type of a seat's tree, if it is found already. A tree without loose numbers has the type that it is kept with.
     fn found_type(&self, found: &Found, seat: Seat) -> Option<Option<TypeId>>
         requires { seat.id.0 < length self.now.terms }
-        ensures { IfSome result (λ ty. ((loose (term_at self.now seat.id.0) ≡ 0) × IsTypeNumber self.now.types ty (type_of (term_at self.now seat.id.0))) ⊎ IsNoted found.now seat ty) }
+        ensures { IfSome result (λ ty. ((loose (term_at self.now seat.id.0) ≡ 0) × IsTypeNumber self.now.types ty (type_of (term_at self.now seat.id.0)))
+            ⊎ IsNoted found.now seat ty) }
     {
         if self.measures_of(seat.id).loose == 0 {
             return Some(self.ty(seat.id));
@@ -195,8 +203,11 @@ impl TermTable {
 
     // Finds the type of a leaf, or sets out to find those of the parts of a tree.
     fn visit_seat_anew(&self, seat: Seat, typings: &mut Typings) -> Result<(), Memory>
-        requires { (root : Option HolType) × IsInferring root self.now typings.old.scopes typings.old.found (the_step.Visit seat ∷ typings.old.steps) typings.old.types }
-        ensures walk { OnOk result ((root : Option HolType) → IsInferring root self.now typings.old.scopes typings.old.found (the_step.Visit seat ∷ typings.old.steps) typings.old.types → IsInferring root self.now typings.new.scopes typings.new.found typings.new.steps typings.new.types) }
+        requires { (root : Option HolType)
+            × IsInferring root self.now typings.old.scopes typings.old.found (the_step.Visit seat ∷ typings.old.steps) typings.old.types }
+        ensures walk { OnOk result ((root : Option HolType)
+            → IsInferring root self.now typings.old.scopes typings.old.found (the_step.Visit seat ∷ typings.old.steps) typings.old.types
+            → IsInferring root self.now typings.new.scopes typings.new.found typings.new.steps typings.new.types) }
         ensures less { OnOk result (count self.now.terms typings.new.steps < count self.now.terms (the_step.Visit seat ∷ typings.old.steps)) }
     {
         let scope = seat.scope;
@@ -218,8 +229,11 @@ impl TermTable {
 
     // Finds the type of an application from those of its parts, which are found.
     fn apply_types(&self, seat: Seat, typings: &mut Typings) -> Result<(), Memory>
-        requires { (root : Option HolType) × IsInferring root self.now typings.old.scopes typings.old.found (the_step.Apply seat ∷ typings.old.steps) typings.old.types }
-        ensures walk { OnOk result ((root : Option HolType) → IsInferring root self.now typings.old.scopes typings.old.found (the_step.Apply seat ∷ typings.old.steps) typings.old.types → IsInferring root self.now typings.new.scopes typings.new.found typings.new.steps typings.new.types) }
+        requires { (root : Option HolType)
+            × IsInferring root self.now typings.old.scopes typings.old.found (the_step.Apply seat ∷ typings.old.steps) typings.old.types }
+        ensures walk { OnOk result ((root : Option HolType)
+            → IsInferring root self.now typings.old.scopes typings.old.found (the_step.Apply seat ∷ typings.old.steps) typings.old.types
+            → IsInferring root self.now typings.new.scopes typings.new.found typings.new.steps typings.new.types) }
         ensures less { OnOk result (count self.now.terms typings.new.steps < count self.now.terms (the_step.Apply seat ∷ typings.old.steps)) }
     {
         let argument = typings.take();
@@ -229,10 +243,13 @@ impl TermTable {
 
     // Makes the type of an abstraction from that of its body, which is found.
     fn abstract_type(&mut self, seat: Seat, ty: TypeId, typings: &mut Typings) -> Result<(), Memory>
-        requires { (root : Option HolType) × IsInferring root self.old typings.old.scopes typings.old.found (the_step.Abstract seat ty ∷ typings.old.steps) typings.old.types }
+        requires { (root : Option HolType)
+            × IsInferring root self.old typings.old.scopes typings.old.found (the_step.Abstract seat ty ∷ typings.old.steps) typings.old.types }
         ensures keeps { Keeps self.old self.new }
         ensures terms { self.new.terms ≡ self.old.terms }
-        ensures walk { OnOk result ((root : Option HolType) → IsInferring root self.old typings.old.scopes typings.old.found (the_step.Abstract seat ty ∷ typings.old.steps) typings.old.types → IsInferring root self.new typings.new.scopes typings.new.found typings.new.steps typings.new.types) }
+        ensures walk { OnOk result ((root : Option HolType)
+            → IsInferring root self.old typings.old.scopes typings.old.found (the_step.Abstract seat ty ∷ typings.old.steps) typings.old.types
+            → IsInferring root self.new typings.new.scopes typings.new.found typings.new.steps typings.new.types) }
         ensures less { OnOk result (count self.new.terms typings.new.steps < count self.old.terms (the_step.Abstract seat ty ∷ typings.old.steps)) }
     {
         let codomain = typings.take();

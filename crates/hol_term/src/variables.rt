@@ -84,7 +84,8 @@ impl TermTable {
     // Notes a tree and sets out for its parts, if it isn't noted yet.
     fn come_by(&self, id: TermId, next: &mut Stack<TermId>, seen: &mut Seen) -> Result<(), Memory>
         requires { (root : AnId) × (before : List AnId) × IsOnTour self.now root before (id ∷ next.old) seen.old }
-        ensures tour { OnOk result ((root : AnId) (before : List AnId) → IsOnTour self.now root before (id ∷ next.old) seen.old → IsOnTour self.now root before next.new seen.new) }
+        ensures tour { OnOk result ((root : AnId) (before : List AnId) → IsOnTour self.now root before (id ∷ next.old) seen.old
+            → IsOnTour self.now root before next.new seen.new) }
         ensures less { OnOk result (sizes self.now next.new < sizes self.now (id ∷ next.old)) }
     {
         if seen.has(id) {

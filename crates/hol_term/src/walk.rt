@@ -127,8 +127,10 @@ impl TermTable {
     fn turn(&mut self, args: &[TermId], task: Task, walk: &mut Walk) -> Result<(), Memory>
         requires { (from : Trees) × (root : Term) × IsWalk from root self.old args.now (task ∷ walk.old.tasks) walk.old.made walk.old.memo }
         ensures keeps { Keeps self.old self.new }
-        ensures walk { OnOk result ((from : Trees) (root : Term) → IsWalk from root self.old args.now (task ∷ walk.old.tasks) walk.old.made walk.old.memo → IsWalk from root self.new args.now walk.new.tasks walk.new.made walk.new.memo) }
-        ensures less { OnOk result ((from : Trees) (root : Term) → IsWalk from root self.old args.now (task ∷ walk.old.tasks) walk.old.made walk.old.memo → work from args.now walk.new.tasks < work from args.now (task ∷ walk.old.tasks)) }
+        ensures walk { OnOk result ((from : Trees) (root : Term) → IsWalk from root self.old args.now (task ∷ walk.old.tasks) walk.old.made walk.old.memo
+            → IsWalk from root self.new args.now walk.new.tasks walk.new.made walk.new.memo) }
+        ensures less { OnOk result ((from : Trees) (root : Term) → IsWalk from root self.old args.now (task ∷ walk.old.tasks) walk.old.made walk.old.memo
+            → work from args.now walk.new.tasks < work from args.now (task ∷ walk.old.tasks)) }
     {
         match task {
             Task::Visit(place) => self.visit(args, place, walk),
@@ -142,8 +144,12 @@ impl TermTable {
     fn visit(&mut self, args: &[TermId], place: Place, walk: &mut Walk) -> Result<(), Memory>
         requires { (from : Trees) × (root : Term) × IsWalk from root self.old args.now (the_task.Visit place ∷ walk.old.tasks) walk.old.made walk.old.memo }
         ensures keeps { Keeps self.old self.new }
-        ensures walk { OnOk result ((from : Trees) (root : Term) → IsWalk from root self.old args.now (the_task.Visit place ∷ walk.old.tasks) walk.old.made walk.old.memo → IsWalk from root self.new args.now walk.new.tasks walk.new.made walk.new.memo) }
-        ensures less { OnOk result ((from : Trees) (root : Term) → IsWalk from root self.old args.now (the_task.Visit place ∷ walk.old.tasks) walk.old.made walk.old.memo → work from args.now walk.new.tasks < work from args.now (the_task.Visit place ∷ walk.old.tasks)) }
+        ensures walk { OnOk result ((from : Trees) (root : Term)
+            → IsWalk from root self.old args.now (the_task.Visit place ∷ walk.old.tasks) walk.old.made walk.old.memo
+            → IsWalk from root self.new args.now walk.new.tasks walk.new.made walk.new.memo) }
+        ensures less { OnOk result ((from : Trees) (root : Term)
+            → IsWalk from root self.old args.now (the_task.Visit place ∷ walk.old.tasks) walk.old.made walk.old.memo
+            → work from args.now walk.new.tasks < work from args.now (the_task.Visit place ∷ walk.old.tasks)) }
     {
         match self.already(args, &walk.memo, place) {
             Some(id) => walk.made.push(id),
@@ -155,8 +161,12 @@ impl TermTable {
     fn visit_anew(&mut self, args: &[TermId], place: Place, walk: &mut Walk) -> Result<(), Memory>
         requires { (from : Trees) × (root : Term) × IsWalk from root self.old args.now (the_task.Visit place ∷ walk.old.tasks) walk.old.made walk.old.memo }
         ensures keeps { Keeps self.old self.new }
-        ensures walk { OnOk result ((from : Trees) (root : Term) → IsWalk from root self.old args.now (the_task.Visit place ∷ walk.old.tasks) walk.old.made walk.old.memo → IsWalk from root self.new args.now walk.new.tasks walk.new.made walk.new.memo) }
-        ensures less { OnOk result ((from : Trees) (root : Term) → IsWalk from root self.old args.now (the_task.Visit place ∷ walk.old.tasks) walk.old.made walk.old.memo → work from args.now walk.new.tasks < work from args.now (the_task.Visit place ∷ walk.old.tasks)) }
+        ensures walk { OnOk result ((from : Trees) (root : Term)
+            → IsWalk from root self.old args.now (the_task.Visit place ∷ walk.old.tasks) walk.old.made walk.old.memo
+            → IsWalk from root self.new args.now walk.new.tasks walk.new.made walk.new.memo) }
+        ensures less { OnOk result ((from : Trees) (root : Term)
+            → IsWalk from root self.old args.now (the_task.Visit place ∷ walk.old.tasks) walk.old.made walk.old.memo
+            → work from args.now walk.new.tasks < work from args.now (the_task.Visit place ∷ walk.old.tasks)) }
     {
         match self.parts(place.id) {
             Parts::Leaf => {
@@ -188,8 +198,12 @@ impl TermTable {
     fn apply(&mut self, args: &[TermId], place: Place, walk: &mut Walk) -> Result<(), Memory>
         requires { (from : Trees) × (root : Term) × IsWalk from root self.old args.now (the_task.Apply place ∷ walk.old.tasks) walk.old.made walk.old.memo }
         ensures keeps { Keeps self.old self.new }
-        ensures walk { OnOk result ((from : Trees) (root : Term) → IsWalk from root self.old args.now (the_task.Apply place ∷ walk.old.tasks) walk.old.made walk.old.memo → IsWalk from root self.new args.now walk.new.tasks walk.new.made walk.new.memo) }
-        ensures less { OnOk result ((from : Trees) (root : Term) → IsWalk from root self.old args.now (the_task.Apply place ∷ walk.old.tasks) walk.old.made walk.old.memo → work from args.now walk.new.tasks < work from args.now (the_task.Apply place ∷ walk.old.tasks)) }
+        ensures walk { OnOk result ((from : Trees) (root : Term)
+            → IsWalk from root self.old args.now (the_task.Apply place ∷ walk.old.tasks) walk.old.made walk.old.memo
+            → IsWalk from root self.new args.now walk.new.tasks walk.new.made walk.new.memo) }
+        ensures less { OnOk result ((from : Trees) (root : Term)
+            → IsWalk from root self.old args.now (the_task.Apply place ∷ walk.old.tasks) walk.old.made walk.old.memo
+            → work from args.now walk.new.tasks < work from args.now (the_task.Apply place ∷ walk.old.tasks)) }
     {
         let argument = walk.take();
         let function = walk.take();
@@ -207,8 +221,12 @@ impl TermTable {
     ) -> Result<(), Memory>
         requires { (from : Trees) × (root : Term) × IsWalk from root self.old args.now (the_task.Abstract place ty ∷ walk.old.tasks) walk.old.made walk.old.memo }
         ensures keeps { Keeps self.old self.new }
-        ensures walk { OnOk result ((from : Trees) (root : Term) → IsWalk from root self.old args.now (the_task.Abstract place ty ∷ walk.old.tasks) walk.old.made walk.old.memo → IsWalk from root self.new args.now walk.new.tasks walk.new.made walk.new.memo) }
-        ensures less { OnOk result ((from : Trees) (root : Term) → IsWalk from root self.old args.now (the_task.Abstract place ty ∷ walk.old.tasks) walk.old.made walk.old.memo → work from args.now walk.new.tasks < work from args.now (the_task.Abstract place ty ∷ walk.old.tasks)) }
+        ensures walk { OnOk result ((from : Trees) (root : Term)
+            → IsWalk from root self.old args.now (the_task.Abstract place ty ∷ walk.old.tasks) walk.old.made walk.old.memo
+            → IsWalk from root self.new args.now walk.new.tasks walk.new.made walk.new.memo) }
+        ensures less { OnOk result ((from : Trees) (root : Term)
+            → IsWalk from root self.old args.now (the_task.Abstract place ty ∷ walk.old.tasks) walk.old.made walk.old.memo
+            → work from args.now walk.new.tasks < work from args.now (the_task.Abstract place ty ∷ walk.old.tasks)) }
     {
         let body = walk.take();
         let id = self.add(Node::Lam(ty, body))?;
@@ -218,8 +236,12 @@ impl TermTable {
     // Notes the tree made last for one place more.
     fn note(&self, args: &[TermId], place: Place, walk: &mut Walk) -> Result<(), Memory>
         requires { (from : Trees) × (root : Term) × IsWalk from root self.now args.now (the_task.Note place ∷ walk.old.tasks) walk.old.made walk.old.memo }
-        ensures walk { OnOk result ((from : Trees) (root : Term) → IsWalk from root self.now args.now (the_task.Note place ∷ walk.old.tasks) walk.old.made walk.old.memo → IsWalk from root self.now args.now walk.new.tasks walk.new.made walk.new.memo) }
-        ensures less { OnOk result ((from : Trees) (root : Term) → IsWalk from root self.now args.now (the_task.Note place ∷ walk.old.tasks) walk.old.made walk.old.memo → work from args.now walk.new.tasks < work from args.now (the_task.Note place ∷ walk.old.tasks)) }
+        ensures walk { OnOk result ((from : Trees) (root : Term)
+            → IsWalk from root self.now args.now (the_task.Note place ∷ walk.old.tasks) walk.old.made walk.old.memo
+            → IsWalk from root self.now args.now walk.new.tasks walk.new.made walk.new.memo) }
+        ensures less { OnOk result ((from : Trees) (root : Term)
+            → IsWalk from root self.now args.now (the_task.Note place ∷ walk.old.tasks) walk.old.made walk.old.memo
+            → work from args.now walk.new.tasks < work from args.now (the_task.Note place ∷ walk.old.tasks)) }
     {
         let id = walk.take();
         walk.keep(place, id)

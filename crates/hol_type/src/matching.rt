@@ -29,7 +29,9 @@ pub(crate) fn matched(
     requires general { general.0 < length table.now }
     requires instance { instance.0 < length table.now }
     requires distinct { IsDistinct table.now }
-    ensures matches { IfOk result (λ found. MatchOption found ((s : TypePairs) → substitute s (tree_at table.now general.0) ≡ tree_at table.now instance.0 → ⊥) (λ pairs. substitute (pairs_at table.now pairs) (tree_at table.now general.0) ≡ tree_at table.now instance.0)) }
+    ensures matches { IfOk result (λ found. MatchOption found
+        ((s : TypePairs) → substitute s (tree_at table.now general.0) ≡ tree_at table.now instance.0 → ⊥)
+        (λ pairs. substitute (pairs_at table.now pairs) (tree_at table.now general.0) ≡ tree_at table.now instance.0)) }
     ensures known { IfOk result (λ found. IfSome found (λ pairs. ArePairsKnown table.now pairs)) }
 {
     let mut matching = Matching {
@@ -53,8 +55,11 @@ fn meet(
     image: TypeId,
     matching: &mut Matching,
 ) -> Result<bool, Memory>
-    requires { (general : AnId) × (instance : AnId) × IsMatching general instance table.now ((part, image) ∷ matching.old.tasks) matching.old.found.items matching.old.met }
-    ensures turn { IfOk result (λ may. (general instance : AnId) → IsMatching general instance table.now ((part, image) ∷ matching.old.tasks) matching.old.found.items matching.old.met → GoesOn may general instance table.now matching.new.tasks matching.new.found.items matching.new.met) }
+    requires { (general : AnId) × (instance : AnId)
+        × IsMatching general instance table.now ((part, image) ∷ matching.old.tasks) matching.old.found.items matching.old.met }
+    ensures turn { IfOk result (λ may. (general instance : AnId)
+        → IsMatching general instance table.now ((part, image) ∷ matching.old.tasks) matching.old.found.items matching.old.met
+        → GoesOn may general instance table.now matching.new.tasks matching.new.found.items matching.new.met) }
     ensures less { OnOk result (total table.now matching.new.tasks < total table.now ((part, image) ∷ matching.old.tasks)) }
 {
     match matching.met.find(part) {
@@ -71,8 +76,11 @@ fn meet_new(
     matching: &mut Matching,
 ) -> Result<bool, Memory>
     requires new { (r : AnId) → IsNoted matching.old.met part r → ⊥ }
-    requires matching { (general : AnId) × (instance : AnId) × IsMatching general instance table.now ((part, image) ∷ matching.old.tasks) matching.old.found.items matching.old.met }
-    ensures turn { IfOk result (λ may. (general instance : AnId) → IsMatching general instance table.now ((part, image) ∷ matching.old.tasks) matching.old.found.items matching.old.met → GoesOn may general instance table.now matching.new.tasks matching.new.found.items matching.new.met) }
+    requires matching { (general : AnId) × (instance : AnId)
+        × IsMatching general instance table.now ((part, image) ∷ matching.old.tasks) matching.old.found.items matching.old.met }
+    ensures turn { IfOk result (λ may. (general instance : AnId)
+        → IsMatching general instance table.now ((part, image) ∷ matching.old.tasks) matching.old.found.items matching.old.met
+        → GoesOn may general instance table.now matching.new.tasks matching.new.found.items matching.new.met) }
     ensures less { OnOk result (total table.now matching.new.tasks < total table.now ((part, image) ∷ matching.old.tasks)) }
 {
     match (table.view(part), table.view(image)) {

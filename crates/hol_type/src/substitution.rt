@@ -77,7 +77,8 @@ fn turn(
 ) -> Result<(), Memory>
     requires { (given : TypePairs) × (root : AnId) × IsWalk given root table.old pairs.now (task ∷ walk.old.tasks) walk.old.made }
     ensures keeps { Keeps table.old table.new }
-    ensures walk { OnOk result ((given : TypePairs) (root : AnId) → IsWalk given root table.old pairs.now (task ∷ walk.old.tasks) walk.old.made → IsWalk given root table.new pairs.now walk.new.tasks walk.new.made) }
+    ensures walk { OnOk result ((given : TypePairs) (root : AnId) → IsWalk given root table.old pairs.now (task ∷ walk.old.tasks) walk.old.made
+        → IsWalk given root table.new pairs.now walk.new.tasks walk.new.made) }
     ensures less { OnOk result (work table.new walk.new.tasks < work table.old (task ∷ walk.old.tasks)) }
 {
     match task {
@@ -95,7 +96,8 @@ fn visit(
 ) -> Result<(), Memory>
     requires { (given : TypePairs) × (root : AnId) × IsWalk given root table.old pairs.now (task.Visit id ∷ walk.old.tasks) walk.old.made }
     ensures keeps { Keeps table.old table.new }
-    ensures walk { OnOk result ((given : TypePairs) (root : AnId) → IsWalk given root table.old pairs.now (task.Visit id ∷ walk.old.tasks) walk.old.made → IsWalk given root table.new pairs.now walk.new.tasks walk.new.made) }
+    ensures walk { OnOk result ((given : TypePairs) (root : AnId) → IsWalk given root table.old pairs.now (task.Visit id ∷ walk.old.tasks) walk.old.made
+        → IsWalk given root table.new pairs.now walk.new.tasks walk.new.made) }
     ensures less { OnOk result (work table.new walk.new.tasks < work table.old (task.Visit id ∷ walk.old.tasks)) }
 {
     match walk.made.find(id) {
@@ -109,7 +111,8 @@ fn visit(
 
 // What the first pair of a variable's name gives for the variable: itself, where no pair has its name.
 fn replaced(pairs: &[(Name, TypeId)], id: TypeId, name: &Name) -> TypeId
-    ensures { (trees : List HolType) → ArePairsKnown trees pairs.now → Holds trees id.0 (variable name.now) → Holds trees result.0 (image (pairs_at trees pairs.now) name.now) }
+    ensures { (trees : List HolType) → ArePairsKnown trees pairs.now → Holds trees id.0 (variable name.now)
+        → Holds trees result.0 (image (pairs_at trees pairs.now) name.now) }
 {
     for (replaced, by) in pairs {
         if name == replaced {
@@ -128,7 +131,8 @@ fn join(
 ) -> Result<(), Memory>
     requires { (given : TypePairs) × (root : AnId) × IsWalk given root table.old pairs.now (task.Join id ∷ walk.old.tasks) walk.old.made }
     ensures keeps { Keeps table.old table.new }
-    ensures walk { OnOk result ((given : TypePairs) (root : AnId) → IsWalk given root table.old pairs.now (task.Join id ∷ walk.old.tasks) walk.old.made → IsWalk given root table.new pairs.now walk.new.tasks walk.new.made) }
+    ensures walk { OnOk result ((given : TypePairs) (root : AnId) → IsWalk given root table.old pairs.now (task.Join id ∷ walk.old.tasks) walk.old.made
+        → IsWalk given root table.new pairs.now walk.new.tasks walk.new.made) }
     ensures less { OnOk result (work table.new walk.new.tasks < work table.old (task.Join id ∷ walk.old.tasks)) }
 {
     let alloc = table.alloc;

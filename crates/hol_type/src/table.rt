@@ -162,7 +162,9 @@ impl TypeTable {
     pub fn match_to(&self, general: TypeId, instance: TypeId) -> Result<Option<TypeMap>, Memory>
         requires general { general.0 < length self.now }
         requires instance { instance.0 < length self.now }
-        ensures matches { IfOk result (λ found. MatchOption found ((s : TypePairs) → substitute s (tree_at self.now general.0) ≡ tree_at self.now instance.0 → ⊥) (λ pairs. substitute (pairs_at self.now pairs) (tree_at self.now general.0) ≡ tree_at self.now instance.0)) }
+        ensures matches { IfOk result (λ found. MatchOption found
+            ((s : TypePairs) → substitute s (tree_at self.now general.0) ≡ tree_at self.now instance.0 → ⊥)
+            (λ pairs. substitute (pairs_at self.now pairs) (tree_at self.now general.0) ≡ tree_at self.now instance.0)) }
         ensures known { IfOk result (λ found. IfSome found (λ pairs. ArePairsKnown self.now pairs)) }
     {
         let _ = &self.alloc;

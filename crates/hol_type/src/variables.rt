@@ -41,7 +41,9 @@ pub(crate) fn variables(table: &TypeTable, root: TypeId) -> Result<Vec<Name>, Me
 // One turn of the search.
 fn turn(table: &TypeTable, task: Task, search: &mut Search) -> Result<(), Memory>
     requires { (goal : List AName) × (root : AnId) × IsSearch goal root table.now (task ∷ search.old.tasks) search.old.found.items search.old.seen }
-    ensures search { OnOk result ((goal : List AName) (root : AnId) → IsSearch goal root table.now (task ∷ search.old.tasks) search.old.found.items search.old.seen → IsSearch goal root table.now search.new.tasks search.new.found.items search.new.seen) }
+    ensures search { OnOk result ((goal : List AName) (root : AnId)
+        → IsSearch goal root table.now (task ∷ search.old.tasks) search.old.found.items search.old.seen
+        → IsSearch goal root table.now search.new.tasks search.new.found.items search.new.seen) }
     ensures less { OnOk result (work table.now search.new.tasks < work table.now (task ∷ search.old.tasks)) }
 {
     match task {
@@ -53,7 +55,9 @@ fn turn(table: &TypeTable, task: Task, search: &mut Search) -> Result<(), Memory
 // Gathers a variable that is new, or sets out to visit an operator's arguments.
 fn visit(table: &TypeTable, id: TypeId, search: &mut Search) -> Result<(), Memory>
     requires { (goal : List AName) × (root : AnId) × IsSearch goal root table.now (task.Visit id ∷ search.old.tasks) search.old.found.items search.old.seen }
-    ensures search { OnOk result ((goal : List AName) (root : AnId) → IsSearch goal root table.now (task.Visit id ∷ search.old.tasks) search.old.found.items search.old.seen → IsSearch goal root table.now search.new.tasks search.new.found.items search.new.seen) }
+    ensures search { OnOk result ((goal : List AName) (root : AnId)
+        → IsSearch goal root table.now (task.Visit id ∷ search.old.tasks) search.old.found.items search.old.seen
+        → IsSearch goal root table.now search.new.tasks search.new.found.items search.new.seen) }
     ensures less { OnOk result (work table.now search.new.tasks < work table.now (task.Visit id ∷ search.old.tasks)) }
 {
     match search.seen.find(id) {

@@ -69,7 +69,8 @@ fn turn(alloc: Global, base: &mut Module, e: LpId, f: LpId) -> Result<Left, Memo
     requires f { f.0 < length base.old.table }
     ensures grows { Grows base.old base.new }
     ensures known { IfOk result (IsKnownLeft base.new.table) }
-    ensures is { IfOk result (λ l. plan_of base.new.table (tree_at base.old.table e.0) l ≡ convert_plan (declarations_of base.old) (tree_at base.old.table e.0) (tree_at base.old.table f.0)) }
+    ensures is { IfOk result (λ l. plan_of base.new.table (tree_at base.old.table e.0) l ≡ convert_plan (declarations_of base.old)
+        (tree_at base.old.table e.0) (tree_at base.old.table f.0)) }
 {
     if e == f {
         return Ok(Left::Nothing);

@@ -2,11 +2,10 @@
 //!
 //! A check by the directed rules infers a sort for each product that head steps reach, and for each expected type that is not the found
 //! one. Over well-typed declarations each of these has a sort: a step keeps the type, and the domain of a function's type has the sort of types.
-//! So a check may leave them out, and what passes costs no more. There is no code; each function here does nothing, and has a law for its contract.
+//! So a check may leave them out, and what passes costs no more. The check itself is defined in `lp_spec` (`FastCheck`). There is no code; each function here does nothing, and has a law for its contract.
 //!
 //! | File | What it has |
 //! |---|---|
-//! | `FastCheck` | the check without rechecks, the check by a flag, and the bound on its price |
 //! | `FastTyping` | what is found without rechecks is typed |
 //! | `FastModules` | what passes without rechecks, declaration by declaration, is well typed |
 //! | `FastPrices` | a check without rechecks costs no more, and has one answer at one price |

@@ -1,14 +1,12 @@
 //! Which declarations come from higher-order logic, how they are checked, and why a check that says yes may be believed.
 //!
-//! There is no code. `HeadSteps` and `Check` define the directed rules of typing with the price of each answer, `Shaped` the shapes of the
-//! declarations that translation makes; the other files have laws. What is shown beyond lemmas is a function that does nothing, whose
+//! There is no code. The directed rules of typing with the price of each answer, and the shapes of the declarations that translation makes,
+//! are defined in `lp_spec` (`HeadSteps`, `Check`, `Shaped`); here are laws of them. What is shown beyond lemmas is a function that does nothing, whose
 //! contract is the law.
 //!
 //! | File | What it has |
 //! |---|---|
-//! | `HeadSteps` | the head step of a tree |
-//! | `Check` | the directed rules as plans of questions, how they end, and at which price |
-//! | `Shaped`, `ShapedParts` | the shapes of types, terms and proofs that come from higher-order logic, and of what a type definition defines |
+//! | `ShapedParts` | the shapes of what a type definition defines |
 //! | `HeadStepLaws`, `ConvertLaws` | a head step is a chain of steps, and what is found convertible is |
 //! | `CheckLaws`, `PlanLaws`, `CheckerLaw` | a check has one answer and one price; what passes is typed |
 //! | `Sizes`, `Found`, `SizedTerms`, `TermPrice`, `DeclaredPrice`, `ProofPrice`, `LawSpreads`, `LawPrice` | what the rules find of shaped trees, and at which price |

@@ -116,7 +116,8 @@ fn part(column: &[Measures], number: u32) -> &Measures
 /// Puts the measures of a node's tree last in a column. After want of memory the column is as before.
 pub(crate) fn push_measures(column: &mut Vec<Measures>, shape: Shape) -> Result<(), Memory>
     requires { PartsBelow (length column.old.items) (node_of shape) }
-    ensures pushed { OnOk result ((trees : List Tree) → AreMeasured column.old.items trees → AreMeasured column.new.items (trees ++ tree_of_node trees (node_of shape) ∷ [])) }
+    ensures pushed { OnOk result ((trees : List Tree) → AreMeasured column.old.items trees
+        → AreMeasured column.new.items (trees ++ tree_of_node trees (node_of shape) ∷ [])) }
     ensures unchanged { OnErr result (column.new.items ≡ column.old.items) }
 {
     let measures = Measures::of(shape, column)?;

@@ -291,7 +291,8 @@ fn put_with(
     requires { part < length children.old.items }
     ensures number { IfOk result (λ n. (n ≡ length shapes.old.items) × (n < 2 ^ 32 - 1)) }
     ensures shapes { OnOk result (shapes.new.items ≡ shapes.old.items ++ shape ∷ []) }
-    ensures children { IfOk result (λ n. (c : AChildren) → slice_get children.old.items part ≡ Some c → children.new.items ≡ slice_set (children.old.items ++ no_children ∷ []) part (with_child c n)) }
+    ensures children { IfOk result (λ n. (c : AChildren) → slice_get children.old.items part ≡ Some c
+        → children.new.items ≡ slice_set (children.old.items ++ no_children ∷ []) part (with_child c n)) }
     ensures unchanged { OnErr result ((shapes.new.items ≡ shapes.old.items) × (children.new.items ≡ children.old.items)) }
 {
     let number = next(shapes)?;

@@ -90,7 +90,8 @@ impl LpTable {
 fn turn(table: &mut LpTable, args: &[LpId], task: Task, walk: &mut Walk) -> Result<(), Memory>
     requires { (given : List Tree) × (goal : Tree) × IsWalk given goal table.old args.now (task ∷ walk.old.tasks) walk.old.made walk.old.memo }
     ensures keeps { Keeps table.old table.new }
-    ensures walk { OnOk result ((given : List Tree) (goal : Tree) → IsWalk given goal table.old args.now (task ∷ walk.old.tasks) walk.old.made walk.old.memo → IsWalk given goal table.new args.now walk.new.tasks walk.new.made walk.new.memo) }
+    ensures walk { OnOk result ((given : List Tree) (goal : Tree) → IsWalk given goal table.old args.now (task ∷ walk.old.tasks) walk.old.made walk.old.memo
+        → IsWalk given goal table.new args.now walk.new.tasks walk.new.made walk.new.memo) }
     ensures less { OnOk result (work table.new args.now walk.new.tasks < work table.old args.now (task ∷ walk.old.tasks)) }
 {
     match task {
@@ -103,7 +104,9 @@ fn turn(table: &mut LpTable, args: &[LpId], task: Task, walk: &mut Walk) -> Resu
 fn visit(table: &mut LpTable, args: &[LpId], place: Place, walk: &mut Walk) -> Result<(), Memory>
     requires { (given : List Tree) × (goal : Tree) × IsWalk given goal table.old args.now (task.Visit place ∷ walk.old.tasks) walk.old.made walk.old.memo }
     ensures keeps { Keeps table.old table.new }
-    ensures walk { OnOk result ((given : List Tree) (goal : Tree) → IsWalk given goal table.old args.now (task.Visit place ∷ walk.old.tasks) walk.old.made walk.old.memo → IsWalk given goal table.new args.now walk.new.tasks walk.new.made walk.new.memo) }
+    ensures walk { OnOk result ((given : List Tree) (goal : Tree)
+        → IsWalk given goal table.old args.now (task.Visit place ∷ walk.old.tasks) walk.old.made walk.old.memo
+        → IsWalk given goal table.new args.now walk.new.tasks walk.new.made walk.new.memo) }
     ensures less { OnOk result (work table.new args.now walk.new.tasks < work table.old args.now (task.Visit place ∷ walk.old.tasks)) }
 {
     match already(table, &walk.memo, place) {
@@ -163,7 +166,9 @@ fn visit_node(
 ) -> Result<(), Memory>
     requires { (given : List Tree) × (goal : Tree) × IsWalk given goal table.old args.now (task.Visit place ∷ walk.old.tasks) walk.old.made walk.old.memo }
     ensures keeps { Keeps table.old table.new }
-    ensures walk { OnOk result ((given : List Tree) (goal : Tree) → IsWalk given goal table.old args.now (task.Visit place ∷ walk.old.tasks) walk.old.made walk.old.memo → IsWalk given goal table.new args.now walk.new.tasks walk.new.made walk.new.memo) }
+    ensures walk { OnOk result ((given : List Tree) (goal : Tree)
+        → IsWalk given goal table.old args.now (task.Visit place ∷ walk.old.tasks) walk.old.made walk.old.memo
+        → IsWalk given goal table.new args.now walk.new.tasks walk.new.made walk.new.memo) }
     ensures less { OnOk result (work table.new args.now walk.new.tasks < work table.old args.now (task.Visit place ∷ walk.old.tasks)) }
 {
     match table.view(place.id) {
@@ -182,7 +187,8 @@ fn set_out(
     second: LpId,
     depth: u128,
 ) -> Result<(), Memory>
-    ensures tasks { OnOk result (walk.new.tasks ≡ task.Visit (record place { id = first; depth = place.depth }) ∷ task.Visit (record place { id = second; depth = depth }) ∷ task.Join place ∷ walk.old.tasks) }
+    ensures tasks { OnOk result (walk.new.tasks ≡ task.Visit (record place { id = first; depth = place.depth }) ∷ task.Visit
+        (record place { id = second; depth = depth }) ∷ task.Join place ∷ walk.old.tasks) }
     ensures made { walk.new.made ≡ walk.old.made }
     ensures memo { walk.new.memo ≡ walk.old.memo }
 {
@@ -216,7 +222,9 @@ fn visit_variable(
     requires small { length table.old < 2 ^ 63 }
     requires walk { (given : List Tree) × (goal : Tree) × IsWalk given goal table.old args.now (task.Visit place ∷ walk.old.tasks) walk.old.made walk.old.memo }
     ensures keeps { Keeps table.old table.new }
-    ensures walk { OnOk result ((given : List Tree) (goal : Tree) → IsWalk given goal table.old args.now (task.Visit place ∷ walk.old.tasks) walk.old.made walk.old.memo → IsWalk given goal table.new args.now walk.new.tasks walk.new.made walk.new.memo) }
+    ensures walk { OnOk result ((given : List Tree) (goal : Tree)
+        → IsWalk given goal table.old args.now (task.Visit place ∷ walk.old.tasks) walk.old.made walk.old.memo
+        → IsWalk given goal table.new args.now walk.new.tasks walk.new.made walk.new.memo) }
     ensures less { OnOk result (work table.new args.now walk.new.tasks < work table.old args.now (task.Visit place ∷ walk.old.tasks)) }
 {
     match replaced(args, place, n)? {
@@ -273,7 +281,9 @@ fn argument(args: &[LpId], n: u128) -> Option<LpId>
 fn join(table: &mut LpTable, args: &[LpId], place: Place, walk: &mut Walk) -> Result<(), Memory>
     requires { (given : List Tree) × (goal : Tree) × IsWalk given goal table.old args.now (task.Join place ∷ walk.old.tasks) walk.old.made walk.old.memo }
     ensures keeps { Keeps table.old table.new }
-    ensures walk { OnOk result ((given : List Tree) (goal : Tree) → IsWalk given goal table.old args.now (task.Join place ∷ walk.old.tasks) walk.old.made walk.old.memo → IsWalk given goal table.new args.now walk.new.tasks walk.new.made walk.new.memo) }
+    ensures walk { OnOk result ((given : List Tree) (goal : Tree)
+        → IsWalk given goal table.old args.now (task.Join place ∷ walk.old.tasks) walk.old.made walk.old.memo
+        → IsWalk given goal table.new args.now walk.new.tasks walk.new.made walk.new.memo) }
     ensures less { OnOk result (work table.new args.now walk.new.tasks < work table.old args.now (task.Join place ∷ walk.old.tasks)) }
 {
     let (first, second) = two(&mut walk.made);

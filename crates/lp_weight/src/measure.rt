@@ -80,7 +80,8 @@ pub(crate) fn measured(base: &Module, place: Place, walk: &mut Walk) -> Result<u
 // One turn of the walk.
 fn turn(base: &Module, task: Task, walk: &mut Walk) -> Result<(), Memory>
     requires walk { (goal : ℕ) × IsWalk (place_occurrences base.now) base.now.table goal (task ∷ walk.old.tasks) walk.old.amounts walk.old.memo }
-    ensures walk { OnOk result ((goal : ℕ) → IsWalk (place_occurrences base.now) base.now.table goal (task ∷ walk.old.tasks) walk.old.amounts walk.old.memo → IsWalk (place_occurrences base.now) base.now.table goal walk.new.tasks walk.new.amounts walk.new.memo) }
+    ensures walk { OnOk result ((goal : ℕ) → IsWalk (place_occurrences base.now) base.now.table goal (task ∷ walk.old.tasks) walk.old.amounts walk.old.memo
+        → IsWalk (place_occurrences base.now) base.now.table goal walk.new.tasks walk.new.amounts walk.new.memo) }
     ensures less { OnOk result (work base.now.table walk.new.tasks < work base.now.table (task ∷ walk.old.tasks)) }
 {
     match task {
@@ -92,7 +93,9 @@ fn turn(base: &Module, task: Task, walk: &mut Walk) -> Result<(), Memory>
 // Takes what the place amounts to, or sets out the tasks that find it, where it has parts and is not noted yet.
 fn visit(base: &Module, place: Place, walk: &mut Walk) -> Result<(), Memory>
     requires walk { (goal : ℕ) × IsWalk (place_occurrences base.now) base.now.table goal (task.Visit place ∷ walk.old.tasks) walk.old.amounts walk.old.memo }
-    ensures walk { OnOk result ((goal : ℕ) → IsWalk (place_occurrences base.now) base.now.table goal (task.Visit place ∷ walk.old.tasks) walk.old.amounts walk.old.memo → IsWalk (place_occurrences base.now) base.now.table goal walk.new.tasks walk.new.amounts walk.new.memo) }
+    ensures walk { OnOk result ((goal : ℕ)
+        → IsWalk (place_occurrences base.now) base.now.table goal (task.Visit place ∷ walk.old.tasks) walk.old.amounts walk.old.memo
+        → IsWalk (place_occurrences base.now) base.now.table goal walk.new.tasks walk.new.amounts walk.new.memo) }
     ensures less { OnOk result (work base.now.table walk.new.tasks < work base.now.table (task.Visit place ∷ walk.old.tasks)) }
     ensures once { OnOk result ((n : ℕ) → IsNoted walk.old.memo place n → walk.new.tasks ≡ walk.old.tasks) }
 {
@@ -131,7 +134,9 @@ fn set_out(walk: &mut Walk, place: Place, first: Place, second: Place) -> Result
 fn join(place: Place, walk: &mut Walk) -> Result<(), Memory>
     requires { 1 < length walk.old.amounts }
     ensures tasks { walk.new.tasks ≡ walk.old.tasks }
-    ensures walk { OnOk result ((amount : APlace → ℕ) (trees : List Tree) (goal : ℕ) → IsWalk amount trees goal (task.Join place ∷ walk.old.tasks) walk.old.amounts walk.old.memo → IsWalk amount trees goal walk.new.tasks walk.new.amounts walk.new.memo) }
+    ensures walk { OnOk result ((amount : APlace → ℕ) (trees : List Tree) (goal : ℕ)
+        → IsWalk amount trees goal (task.Join place ∷ walk.old.tasks) walk.old.amounts walk.old.memo
+        → IsWalk amount trees goal walk.new.tasks walk.new.amounts walk.new.memo) }
     ensures noted { OnOk result ((n : ℕ) × IsNoted walk.new.memo place n) }
 {
     let (first, second) = two(&mut walk.amounts);

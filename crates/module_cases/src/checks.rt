@@ -4,8 +4,8 @@ ghost use Rattle.holide_sig.specs.Modules.{declarations_of, IsHeld};
 
 use crate::faults::{add_comma, add_number};
 use crate::modules::read;
-use common::Budget;
 use case_files::{Case, Wrong, listed, number_of, numbers};
+use common::Budget;
 use dk_read::Limit;
 use holide_sig::Module;
 use lp_conv::Answer;

@@ -5,8 +5,8 @@ ghost use Rattle.lp_conv.specs.HeadSteps.{IsKnownIf};
 
 use crate::checks::add_answer;
 use crate::modules::read;
-use common::Budget;
 use case_files::{Case, Wrong, listed, number_of};
+use common::Budget;
 use dk_read::Limit;
 use holide_sig::{Module, SIGNATURE};
 use lp_conv::{Answer, conv, head_step};

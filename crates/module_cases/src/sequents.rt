@@ -2,9 +2,9 @@
 ghost use Rattle.std.specs.Prelude.{◌<◌, length};
 ghost use Rattle.holide_sig.specs.Modules.{IsHeld};
 
-use common::Memory;
 use case_files::Wrong;
 use closed_text::append_closed;
+use common::Memory;
 use decode_back::decode;
 use holide_sig::Module;
 use std::alloc::Global;

@@ -6,8 +6,8 @@ ghost use Rattle.holide_sig.specs.Modules.{IsHeld};
 
 use crate::faults::add_comma;
 use crate::modules::read;
-use common::Budget;
 use case_files::{Case, Wrong, listed, number_of};
+use common::Budget;
 use dk_read::Limit;
 use holide_sig::Module;
 use lp_kernel::{Inferred, infer};

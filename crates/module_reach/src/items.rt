@@ -73,7 +73,8 @@ impl Items {
 
     // The next step.
     fn take_step(&mut self) -> Result<(), Memory>
-        ensures { OnOk result ((p : Kept) (front rest : List AMade) (x : Step) → IsProof p.made → IsInOrder p → p.made ≡ front ++ AMade.step x ∷ rest → AreListed p (made_items front) self.old → AreListed p (made_items (front ++ AMade.step x ∷ [])) self.new) }
+        ensures { OnOk result ((p : Kept) (front rest : List AMade) (x : Step) → IsProof p.made → IsInOrder p → p.made ≡ front ++ AMade.step x ∷ rest
+            → AreListed p (made_items front) self.old → AreListed p (made_items (front ++ AMade.step x ∷ [])) self.new) }
     {
         let id = self.steps.len();
         self.steps.push(self.needs.len())?;
@@ -84,7 +85,9 @@ impl Items {
     // The symbol with a number, and what was noted of it.
     fn take_symbol(&mut self, proof: &Proof, symbol: usize, one: &Made) -> Result<(), Memory>
         requires { symbol < length (symbols_of proof.now.made) }
-        ensures { OnOk result ((front rest : List AMade) (y : AMade) → IsProof proof.now.made → IsInOrder proof.now → proof.now.made ≡ front ++ y ∷ rest → IsNoted y one.now → symbol ≡ length (symbols_of front) → AreListed proof.now (made_items front) self.old → AreListed proof.now (made_items (front ++ y ∷ [])) self.new) }
+        ensures { OnOk result ((front rest : List AMade) (y : AMade) → IsProof proof.now.made → IsInOrder proof.now → proof.now.made ≡ front ++ y ∷ rest
+            → IsNoted y one.now → symbol ≡ length (symbols_of front) → AreListed proof.now (made_items front) self.old
+            → AreListed proof.now (made_items (front ++ y ∷ [])) self.new) }
     {
         match proof.symbols().view(symbol) {
             SymbolView::InputConst(name) => self.add_constant(name, Need::Nothing),
@@ -100,7 +103,9 @@ impl Items {
 
     // A type definition from this step: the operator and its two constants.
     fn take_definition(&mut self, x: TypeOpView<'_>, premise: StepId) -> Result<(), Memory>
-        ensures { OnOk result ((p : Kept) (front rest : List AMade) → IsProof p.made → IsInOrder p → IsKnownSymbol p.trees (operator_of_view x.entry) → p.made ≡ front ++ definition_made p.trees x.entry premise ∷ rest → AreListed p (made_items front) self.old → AreListed p (made_items (front ++ definition_made p.trees x.entry premise ∷ [])) self.new) }
+        ensures { OnOk result ((p : Kept) (front rest : List AMade) → IsProof p.made → IsInOrder p → IsKnownSymbol p.trees (operator_of_view x.entry)
+            → p.made ≡ front ++ definition_made p.trees x.entry premise ∷ rest → AreListed p (made_items front) self.old
+            → AreListed p (made_items (front ++ definition_made p.trees x.entry premise ∷ [])) self.new) }
     {
         self.add_operator(x.op, x.names.len(), Need::Part(premise, x.whole))?;
         self.add_constant(x.abs, Need::Part(premise, x.abs_type))?;
@@ -109,7 +114,8 @@ impl Items {
 
     // The next item is a constant.
     fn add_constant(&mut self, name: &Name, need: Need) -> Result<(), Memory>
-        ensures { OnOk result ((p : Kept) (list : List Item) (x : Item) → AddsConstant p list name.now need x → AreListed p list self.old → AreListed p (list ++ x ∷ []) self.new) }
+        ensures { OnOk result ((p : Kept) (list : List Item) (x : Item) → AddsConstant p list name.now need x → AreListed p list self.old
+            → AreListed p (list ++ x ∷ []) self.new) }
     {
         self.index.add_constant(name, self.needs.len())?;
         self.needs.push(need)?;
@@ -118,7 +124,8 @@ impl Items {
 
     // The next item is an operator.
     fn add_operator(&mut self, name: &Name, arity: usize, need: Need) -> Result<(), Memory>
-        ensures { OnOk result ((p : Kept) (list : List Item) (x : Item) → AddsOperator p list name.now arity need x → AreListed p list self.old → AreListed p (list ++ x ∷ []) self.new) }
+        ensures { OnOk result ((p : Kept) (list : List Item) (x : Item) → AddsOperator p list name.now arity need x → AreListed p list self.old
+            → AreListed p (list ++ x ∷ []) self.new) }
     {
         self.index.add_operator(name, arity, self.needs.len())?;
         self.needs.push(need)?;

@@ -52,7 +52,8 @@ impl Walk {
         ensures is { IfOk result (λ is. is ≡ flag self.old.marks.items item) }
         ensures walk { OnOk result (IsWalkOf proof.now self.new) }
         ensures tasks { OnOk result (self.new.tasks ≡ []) }
-        ensures wants { OnOk result (WantsOf proof.now (if flag self.old.marks.items item then need_keys proof.now (need_at items.now item) else []) self.old self.new) }
+        ensures wants { OnOk result (WantsOf proof.now
+            (if flag self.old.marks.items item then need_keys proof.now (need_at items.now item) else []) self.old self.new) }
     {
         let is_marked = self.marks[item];
         if is_marked {

@@ -47,7 +47,8 @@ impl Walk {
     // One turn of the walk.
     fn turn(&mut self, terms: &TermTable, index: &Index, task: Task) -> Result<(), Memory>
         requires { (list : List Item) × IsIndex list index.now × IsWalk terms.now list (with_task task self.old) }
-        ensures { OnOk result ((list : List Item) → IsIndex list index.now → IsWalk terms.now list (with_task task self.old) → Turned terms.now list task self.old self.new) }
+        ensures { OnOk result ((list : List Item) → IsIndex list index.now → IsWalk terms.now list (with_task task self.old)
+            → Turned terms.now list task self.old self.new) }
     {
         match task {
             Task::Type(id) => self.visit_type(terms, index, id),
@@ -58,7 +59,8 @@ impl Walk {
     // Comes to a type: its operator is marked, and its arguments are to be visited.
     fn visit_type(&mut self, terms: &TermTable, index: &Index, id: TypeId) -> Result<(), Memory>
         requires { (list : List Item) × IsIndex list index.now × IsWalk terms.now list (with_task (task.Type id) self.old) }
-        ensures { OnOk result ((list : List Item) → IsIndex list index.now → IsWalk terms.now list (with_task (task.Type id) self.old) → Turned terms.now list (task.Type id) self.old self.new) }
+        ensures { OnOk result ((list : List Item) → IsIndex list index.now → IsWalk terms.now list (with_task (task.Type id) self.old)
+            → Turned terms.now list (task.Type id) self.old self.new) }
     {
         if self.types[id.0] {
             return Ok(());
@@ -77,7 +79,8 @@ impl Walk {
     // Comes to a term: its constant is marked, and its type and its parts are to be visited.
     fn visit_term(&mut self, terms: &TermTable, index: &Index, id: TermId) -> Result<(), Memory>
         requires { (list : List Item) × IsIndex list index.now × IsWalk terms.now list (with_task (task.Term id) self.old) }
-        ensures { OnOk result ((list : List Item) → IsIndex list index.now → IsWalk terms.now list (with_task (task.Term id) self.old) → Turned terms.now list (task.Term id) self.old self.new) }
+        ensures { OnOk result ((list : List Item) → IsIndex list index.now → IsWalk terms.now list (with_task (task.Term id) self.old)
+            → Turned terms.now list (task.Term id) self.old self.new) }
     {
         if self.terms[id.0] {
             return Ok(());

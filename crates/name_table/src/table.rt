@@ -161,7 +161,8 @@ fn number_by_shorts(
     requires found { get nat_cmp shorts.old key ≡ position (λ n. bytes_eq n (unpacked key)) names.old.items }
     ensures number { IfOk result (λ number. slice_get names.new.items number ≡ Some (unpacked key)) }
     ensures names { OnOk result (names.new.items ≡ with_name names.old.items (unpacked key)) }
-    ensures placed { (long : List ℕ → Option ℕ) → ArePlaced (get nat_cmp shorts.old) long names.old.items → ArePlaced (get nat_cmp shorts.new) long names.new.items }
+    ensures placed { (long : List ℕ → Option ℕ) → ArePlaced (get nat_cmp shorts.old) long names.old.items
+        → ArePlaced (get nat_cmp shorts.new) long names.new.items }
     ensures unchanged { OnErr result (names.new.items ≡ names.old.items) }
 {
     match shorts.get(&key) {

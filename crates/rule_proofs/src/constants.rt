@@ -45,8 +45,13 @@ pub fn constant_list(
     requires one { one.id < step_count proof.now }
     requires pairs { AreConstantPairsKnown proof.now.trees pairs.now }
     requires list { IsTrue (is_definition_list (pairs_view proof.now.trees pairs.now) (sequent_at proof.now.made one.id)) }
-    requires told { (given : Given) × Stands given target.old proof.now.trees env.now × TellsConstants given (pairs_view proof.now.trees pairs.now) × TellsStep given proof.now one.id }
-    ensures made { IfOk result (λ r. (given : Given) → Stands given target.old proof.now.trees env.now → TellsConstants given (pairs_view proof.now.trees pairs.now) → TellsStep given proof.now one.id → Holds target.new.table r.0 (premise_tree (constants_scope given.symbols given.scope (constants_put (pairs_view proof.now.trees pairs.now))) (one.symbol, sequent_at proof.now.made one.id))) }
+    requires told { (given : Given) × Stands given target.old proof.now.trees env.now × TellsConstants given (pairs_view proof.now.trees pairs.now)
+        × TellsStep given proof.now one.id }
+    ensures made { IfOk result (λ r. (given : Given) → Stands given target.old proof.now.trees env.now
+        → TellsConstants given (pairs_view proof.now.trees pairs.now) → TellsStep given proof.now one.id
+        → Holds target.new.table r.0
+        (premise_tree (constants_scope given.symbols given.scope (constants_put (pairs_view proof.now.trees pairs.now)))
+        (one.symbol, sequent_at proof.now.made one.id))) }
     ensures grows { Grows target.old target.new }
 {
     let params = params_of(env.alloc, proof, one.id)?;
@@ -72,8 +77,13 @@ fn constant_list_over(
     requires list { IsTrue (is_definition_list (pairs_view proof.now.trees pairs.now) (sequent_at proof.now.made one.id)) }
     requires params { AreParams proof.now one.id params.now }
     requires none { args.old.items ≡ [] }
-    requires told { (given : Given) × Stands given target.old proof.now.trees env.now × TellsConstants given (pairs_view proof.now.trees pairs.now) × TellsStep given proof.now one.id }
-    ensures made { IfOk result (λ r. (given : Given) → Stands given target.old proof.now.trees env.now → TellsConstants given (pairs_view proof.now.trees pairs.now) → TellsStep given proof.now one.id → Holds target.new.table r.0 (premise_tree (constants_scope given.symbols given.scope (constants_put (pairs_view proof.now.trees pairs.now))) (one.symbol, sequent_at proof.now.made one.id))) }
+    requires told { (given : Given) × Stands given target.old proof.now.trees env.now × TellsConstants given (pairs_view proof.now.trees pairs.now)
+        × TellsStep given proof.now one.id }
+    ensures made { IfOk result (λ r. (given : Given) → Stands given target.old proof.now.trees env.now
+        → TellsConstants given (pairs_view proof.now.trees pairs.now) → TellsStep given proof.now one.id
+        → Holds target.new.table r.0
+        (premise_tree (constants_scope given.symbols given.scope (constants_put (pairs_view proof.now.trees pairs.now)))
+        (one.symbol, sequent_at proof.now.made one.id))) }
     ensures grows { Grows target.old target.new }
 {
     proof.is_proof();
@@ -96,8 +106,13 @@ impl Environment {
     ) -> Result<(), Memory>
         requires pairs { AreConstantPairsKnown proof.now.trees pairs.now }
         requires variables { HaveTypes proof.now.trees variables.now }
-        requires told { (given : Given) × Stands given target.old proof.now.trees self.now × TellsConstants given (pairs_view proof.now.trees pairs.now) × AllByRecursion (λ (v : ATerm). TellsType given.declarations given.symbols v.1) (variables_of proof.now.trees variables.now) }
-        ensures ready { OnOk result ((given : Given) (made : List Tree) → Ready given target.old proof.now.trees self.now args.old.items made → TellsConstants given (pairs_view proof.now.trees pairs.now) → AllByRecursion (λ (v : ATerm). TellsType given.declarations given.symbols v.1) (variables_of proof.now.trees variables.now) → Ready given target.new proof.now.trees self.now args.new.items (made ++ map (scope_with given proof.now.trees pairs.now).terms (variables_of proof.now.trees variables.now))) }
+        requires told { (given : Given) × Stands given target.old proof.now.trees self.now × TellsConstants given (pairs_view proof.now.trees pairs.now)
+            × AllByRecursion (λ (v : ATerm). TellsType given.declarations given.symbols v.1) (variables_of proof.now.trees variables.now) }
+        ensures ready { OnOk result ((given : Given) (made : List Tree) → Ready given target.old proof.now.trees self.now args.old.items made
+            → TellsConstants given (pairs_view proof.now.trees pairs.now)
+            → AllByRecursion (λ (v : ATerm). TellsType given.declarations given.symbols v.1) (variables_of proof.now.trees variables.now)
+            → Ready given target.new proof.now.trees self.now args.new.items
+            (made ++ map (scope_with given proof.now.trees pairs.now).terms (variables_of proof.now.trees variables.now))) }
         ensures grows { Grows target.old target.new }
     {
         for variable in variables {
@@ -117,8 +132,13 @@ impl Environment {
     ) -> Result<(), Memory>
         requires pairs { AreConstantPairsKnown proof.now.trees pairs.now }
         requires variable { variable.now.ty.0 < length proof.now.trees.types }
-        requires told { (given : Given) × Stands given target.old proof.now.trees self.now × TellsConstants given (pairs_view proof.now.trees pairs.now) × TellsType given.declarations given.symbols (type_at proof.now.trees variable.now.ty.0) }
-        ensures ready { OnOk result ((given : Given) (made : List Tree) → Ready given target.old proof.now.trees self.now args.old.items made → TellsConstants given (pairs_view proof.now.trees pairs.now) → TellsType given.declarations given.symbols (type_at proof.now.trees variable.now.ty.0) → Ready given target.new proof.now.trees self.now args.new.items (made ++ (scope_with given proof.now.trees pairs.now).terms (variable_view proof.now.trees variable.now) ∷ [])) }
+        requires told { (given : Given) × Stands given target.old proof.now.trees self.now × TellsConstants given (pairs_view proof.now.trees pairs.now)
+            × TellsType given.declarations given.symbols (type_at proof.now.trees variable.now.ty.0) }
+        ensures ready { OnOk result ((given : Given) (made : List Tree) → Ready given target.old proof.now.trees self.now args.old.items made
+            → TellsConstants given (pairs_view proof.now.trees pairs.now)
+            → TellsType given.declarations given.symbols (type_at proof.now.trees variable.now.ty.0)
+            → Ready given target.new proof.now.trees self.now args.new.items
+            (made ++ (scope_with given proof.now.trees pairs.now).terms (variable_view proof.now.trees variable.now) ∷ [])) }
         ensures grows { Grows target.old target.new }
     {
         match put_constant(pairs, variable) {
@@ -142,8 +162,12 @@ impl Environment {
     ) -> Result<(), Memory>
         requires hyps { AreKnown proof.now.trees hyps.now }
         requires equations { AllByRecursion IsEquationFormula (terms_at proof.now.trees hyps.now) }
-        requires told { (given : Given) × Stands given target.old proof.now.trees self.now × AllByRecursion (TellsTerm given.declarations given.symbols) (terms_at proof.now.trees hyps.now) }
-        ensures ready { OnOk result ((given : Given) (made : List Tree) → Ready given target.old proof.now.trees self.now args.old.items made → AllByRecursion (TellsTerm given.declarations given.symbols) (terms_at proof.now.trees hyps.now) → Ready given target.new proof.now.trees self.now args.new.items (made ++ map (self_proof given.symbols given.scope) (terms_at proof.now.trees hyps.now))) }
+        requires told { (given : Given) × Stands given target.old proof.now.trees self.now
+            × AllByRecursion (TellsTerm given.declarations given.symbols) (terms_at proof.now.trees hyps.now) }
+        ensures ready { OnOk result ((given : Given) (made : List Tree) → Ready given target.old proof.now.trees self.now args.old.items made
+            → AllByRecursion (TellsTerm given.declarations given.symbols) (terms_at proof.now.trees hyps.now)
+            → Ready given target.new proof.now.trees self.now args.new.items
+            (made ++ map (self_proof given.symbols given.scope) (terms_at proof.now.trees hyps.now))) }
         ensures grows { Grows target.old target.new }
     {
         for hyp in hyps {
@@ -162,8 +186,12 @@ impl Environment {
     ) -> Result<(), Memory>
         requires hyp { hyp.0 < length proof.now.trees.terms }
         requires equation { IsEquationFormula (term_at proof.now.trees hyp.0) }
-        requires told { (given : Given) × Stands given target.old proof.now.trees self.now × TellsTerm given.declarations given.symbols (term_at proof.now.trees hyp.0) }
-        ensures ready { OnOk result ((given : Given) (made : List Tree) → Ready given target.old proof.now.trees self.now args.old.items made → TellsTerm given.declarations given.symbols (term_at proof.now.trees hyp.0) → Ready given target.new proof.now.trees self.now args.new.items (made ++ self_proof given.symbols given.scope (term_at proof.now.trees hyp.0) ∷ [])) }
+        requires told { (given : Given) × Stands given target.old proof.now.trees self.now
+            × TellsTerm given.declarations given.symbols (term_at proof.now.trees hyp.0) }
+        ensures ready { OnOk result ((given : Given) (made : List Tree) → Ready given target.old proof.now.trees self.now args.old.items made
+            → TellsTerm given.declarations given.symbols (term_at proof.now.trees hyp.0)
+            → Ready given target.new proof.now.trees self.now args.new.items
+            (made ++ self_proof given.symbols given.scope (term_at proof.now.trees hyp.0) ∷ [])) }
         ensures grows { Grows target.old target.new }
     {
         let tree = self.self_proof(target, proof, hyp)?;
@@ -175,8 +203,11 @@ impl Environment {
     fn self_proof(&self, target: &mut Module, proof: &Proof, hyp: TermId) -> Result<LpId, Memory>
         requires hyp { hyp.0 < length proof.now.trees.terms }
         requires equation { IsEquationFormula (term_at proof.now.trees hyp.0) }
-        requires told { (given : Given) × Stands given target.old proof.now.trees self.now × TellsTerm given.declarations given.symbols (term_at proof.now.trees hyp.0) }
-        ensures made { IfOk result (λ r. (given : Given) → Stands given target.old proof.now.trees self.now → TellsTerm given.declarations given.symbols (term_at proof.now.trees hyp.0) → Holds target.new.table r.0 (self_proof given.symbols given.scope (term_at proof.now.trees hyp.0))) }
+        requires told { (given : Given) × Stands given target.old proof.now.trees self.now
+            × TellsTerm given.declarations given.symbols (term_at proof.now.trees hyp.0) }
+        ensures made { IfOk result (λ r. (given : Given) → Stands given target.old proof.now.trees self.now
+            → TellsTerm given.declarations given.symbols (term_at proof.now.trees hyp.0)
+            → Holds target.new.table r.0 (self_proof given.symbols given.scope (term_at proof.now.trees hyp.0))) }
         ensures grows { Grows target.old target.new }
     {
         let own = equated(proof.terms(), hyp);

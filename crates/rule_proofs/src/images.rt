@@ -54,7 +54,10 @@ pub fn subst(
     requires put { AreKnownPairs proof.now.trees put.now.types.items put.now.terms.items }
     requires substituted { IsSubstituted proof.now put.now id one.id }
     requires told { (given : Given) × Stands given target.old proof.now.trees env.now × TellsStep given proof.now id }
-    ensures made { IfOk result (λ r. (given : Given) → Stands given target.old proof.now.trees env.now → TellsStep given proof.now id → Holds target.new.table r.0 (subst_tree given.symbols given.scope (type_pairs proof.now.trees put.now) (term_pairs proof.now.trees put.now) (one.symbol, sequent_at proof.now.made one.id))) }
+    ensures made { IfOk result (λ r. (given : Given) → Stands given target.old proof.now.trees env.now → TellsStep given proof.now id
+        → Holds target.new.table r.0
+        (subst_tree given.symbols given.scope (type_pairs proof.now.trees put.now) (term_pairs proof.now.trees put.now)
+        (one.symbol, sequent_at proof.now.made one.id))) }
     ensures grows { Grows target.old target.new }
 {
     let lent = kept.lend(proof, one.id)?;
@@ -81,7 +84,10 @@ fn subst_over(
     requires substituted { IsSubstituted proof.now put.now id one.id }
     requires params { AreParams proof.now one.id params.now }
     requires told { (given : Given) × Stands given target.old proof.now.trees env.now × TellsStep given proof.now id }
-    ensures made { IfOk result (λ r. (given : Given) → Stands given target.old proof.now.trees env.now → TellsStep given proof.now id → Holds target.new.table r.0 (subst_tree given.symbols given.scope (type_pairs proof.now.trees put.now) (term_pairs proof.now.trees put.now) (one.symbol, sequent_at proof.now.made one.id))) }
+    ensures made { IfOk result (λ r. (given : Given) → Stands given target.old proof.now.trees env.now → TellsStep given proof.now id
+        → Holds target.new.table r.0
+        (subst_tree given.symbols given.scope (type_pairs proof.now.trees put.now) (term_pairs proof.now.trees put.now)
+        (one.symbol, sequent_at proof.now.made one.id))) }
     ensures grows { Grows target.old target.new }
 {
     let own = kept.lend(proof, id)?;
@@ -122,7 +128,10 @@ fn subst_onto(
     requires own_params { AreParams proof.now id own_params.now }
     requires none { args.old.items ≡ [] }
     requires told { (given : Given) × Stands given target.old proof.now.trees env.now × TellsStep given proof.now id }
-    ensures made { IfOk result (λ r. (given : Given) → Stands given target.old proof.now.trees env.now → TellsStep given proof.now id → Holds target.new.table r.0 (subst_tree given.symbols given.scope (type_pairs proof.now.trees put.now) (term_pairs proof.now.trees put.now) (one.symbol, sequent_at proof.now.made one.id))) }
+    ensures made { IfOk result (λ r. (given : Given) → Stands given target.old proof.now.trees env.now → TellsStep given proof.now id
+        → Holds target.new.table r.0
+        (subst_tree given.symbols given.scope (type_pairs proof.now.trees put.now) (term_pairs proof.now.trees put.now)
+        (one.symbol, sequent_at proof.now.made one.id))) }
     ensures grows { Grows target.old target.new }
 {
     let sequent = proof.sequent(one.id);
@@ -152,8 +161,12 @@ impl Environment {
         args: &mut Vec<LpId>,
     ) -> Result<(), Memory>
         requires put { AreKnownPairs proof.now.trees put.now.types.items put.now.terms.items }
-        requires told { (given : Given) × Stands given target.old proof.now.trees self.now × AllByRecursion (λ (n : AName). TellsType given.declarations given.symbols (image (type_pairs proof.now.trees put.now) n)) names.now }
-        ensures ready { OnOk result ((given : Given) (made : List Tree) → Ready given target.old proof.now.trees self.now args.old.items made → AllByRecursion (λ (n : AName). TellsType given.declarations given.symbols (image (type_pairs proof.now.trees put.now) n)) names.now → Ready given target.new proof.now.trees self.now args.new.items (made ++ map (images given.symbols (type_pairs proof.now.trees put.now) (term_pairs proof.now.trees put.now) given.scope).types names.now)) }
+        requires told { (given : Given) × Stands given target.old proof.now.trees self.now
+            × AllByRecursion (λ (n : AName). TellsType given.declarations given.symbols (image (type_pairs proof.now.trees put.now) n)) names.now }
+        ensures ready { OnOk result ((given : Given) (made : List Tree) → Ready given target.old proof.now.trees self.now args.old.items made
+            → AllByRecursion (λ (n : AName). TellsType given.declarations given.symbols (image (type_pairs proof.now.trees put.now) n)) names.now
+            → Ready given target.new proof.now.trees self.now args.new.items
+            (made ++ map (images given.symbols (type_pairs proof.now.trees put.now) (term_pairs proof.now.trees put.now) given.scope).types names.now)) }
         ensures grows { Grows target.old target.new }
     {
         for name in names {
@@ -172,8 +185,12 @@ impl Environment {
         args: &mut Vec<LpId>,
     ) -> Result<(), Memory>
         requires put { AreKnownPairs proof.now.trees put.now.types.items put.now.terms.items }
-        requires told { (given : Given) × Stands given target.old proof.now.trees self.now × TellsType given.declarations given.symbols (image (type_pairs proof.now.trees put.now) name.now) }
-        ensures ready { OnOk result ((given : Given) (made : List Tree) → Ready given target.old proof.now.trees self.now args.old.items made → TellsType given.declarations given.symbols (image (type_pairs proof.now.trees put.now) name.now) → Ready given target.new proof.now.trees self.now args.new.items (made ++ type_tree given.symbols given.scope.types (image (type_pairs proof.now.trees put.now) name.now) ∷ [])) }
+        requires told { (given : Given) × Stands given target.old proof.now.trees self.now
+            × TellsType given.declarations given.symbols (image (type_pairs proof.now.trees put.now) name.now) }
+        ensures ready { OnOk result ((given : Given) (made : List Tree) → Ready given target.old proof.now.trees self.now args.old.items made
+            → TellsType given.declarations given.symbols (image (type_pairs proof.now.trees put.now) name.now)
+            → Ready given target.new proof.now.trees self.now args.new.items
+            (made ++ type_tree given.symbols given.scope.types (image (type_pairs proof.now.trees put.now) name.now) ∷ [])) }
         ensures grows { Grows target.old target.new }
     {
         match put_type(&put.types, name) {
@@ -196,8 +213,13 @@ impl Environment {
         requires own { HaveTypes proof.now.trees own.now }
         requires variables { HaveTypes proof.now.trees variables.now }
         requires there { AllByRecursion (HasOwnVariable proof.now.trees put.now own.now) (variables_of proof.now.trees variables.now) }
-        requires told { (given : Given) × Stands given target.old proof.now.trees self.now × AllByRecursion (λ (v : ATerm). IsTold given (variable_image proof.now.trees put.now v)) (variables_of proof.now.trees variables.now) }
-        ensures ready { OnOk result ((given : Given) (made : List Tree) → Ready given target.old proof.now.trees self.now args.old.items made → AllByRecursion (λ (v : ATerm). IsTold given (variable_image proof.now.trees put.now v)) (variables_of proof.now.trees variables.now) → Ready given target.new proof.now.trees self.now args.new.items (made ++ map (images given.symbols (type_pairs proof.now.trees put.now) (term_pairs proof.now.trees put.now) given.scope).terms (variables_of proof.now.trees variables.now))) }
+        requires told { (given : Given) × Stands given target.old proof.now.trees self.now
+            × AllByRecursion (λ (v : ATerm). IsTold given (variable_image proof.now.trees put.now v)) (variables_of proof.now.trees variables.now) }
+        ensures ready { OnOk result ((given : Given) (made : List Tree) → Ready given target.old proof.now.trees self.now args.old.items made
+            → AllByRecursion (λ (v : ATerm). IsTold given (variable_image proof.now.trees put.now v)) (variables_of proof.now.trees variables.now)
+            → Ready given target.new proof.now.trees self.now args.new.items
+            (made ++ map (images given.symbols (type_pairs proof.now.trees put.now) (term_pairs proof.now.trees put.now) given.scope).terms
+            (variables_of proof.now.trees variables.now))) }
         ensures grows { Grows target.old target.new }
     {
         for variable in variables {
@@ -220,8 +242,13 @@ impl Environment {
         requires own { HaveTypes proof.now.trees own.now }
         requires variable { variable.now.ty.0 < length proof.now.trees.types }
         requires there { HasOwnVariable proof.now.trees put.now own.now (variable_view proof.now.trees variable.now) }
-        requires told { (given : Given) × Stands given target.old proof.now.trees self.now × IsTold given (variable_image proof.now.trees put.now (variable_view proof.now.trees variable.now)) }
-        ensures ready { OnOk result ((given : Given) (made : List Tree) → Ready given target.old proof.now.trees self.now args.old.items made → IsTold given (variable_image proof.now.trees put.now (variable_view proof.now.trees variable.now)) → Ready given target.new proof.now.trees self.now args.new.items (made ++ (images given.symbols (type_pairs proof.now.trees put.now) (term_pairs proof.now.trees put.now) given.scope).terms (variable_view proof.now.trees variable.now) ∷ [])) }
+        requires told { (given : Given) × Stands given target.old proof.now.trees self.now
+            × IsTold given (variable_image proof.now.trees put.now (variable_view proof.now.trees variable.now)) }
+        ensures ready { OnOk result ((given : Given) (made : List Tree) → Ready given target.old proof.now.trees self.now args.old.items made
+            → IsTold given (variable_image proof.now.trees put.now (variable_view proof.now.trees variable.now))
+            → Ready given target.new proof.now.trees self.now args.new.items
+            (made ++ (images given.symbols (type_pairs proof.now.trees put.now) (term_pairs proof.now.trees put.now) given.scope).terms
+            (variable_view proof.now.trees variable.now) ∷ [])) }
         ensures grows { Grows target.old target.new }
     {
         match put_term(self.alloc, proof.terms(), put, &variable.name, variable.ty)? {
@@ -246,8 +273,12 @@ impl Environment {
         requires put { AreKnownPairs proof.now.trees put.now.types.items put.now.terms.items }
         requires own { AreKnown proof.now.trees own.now }
         requires hyps { AreKnown proof.now.trees hyps.now }
-        requires there { AllByRecursion (λ (h : Term). IsIn (terms_at proof.now.trees own.now) (sub (type_pairs proof.now.trees put.now) (term_pairs proof.now.trees put.now) h)) (terms_at proof.now.trees hyps.now) }
-        ensures ready { OnOk result ((given : Given) (made : List Tree) → Ready given target.old proof.now.trees self.now args.old.items made → Ready given target.new proof.now.trees self.now args.new.items (made ++ map (images given.symbols (type_pairs proof.now.trees put.now) (term_pairs proof.now.trees put.now) given.scope).proofs (terms_at proof.now.trees hyps.now))) }
+        requires there { AllByRecursion (λ (h : Term). IsIn (terms_at proof.now.trees own.now)
+            (sub (type_pairs proof.now.trees put.now) (term_pairs proof.now.trees put.now) h)) (terms_at proof.now.trees hyps.now) }
+        ensures ready { OnOk result ((given : Given) (made : List Tree) → Ready given target.old proof.now.trees self.now args.old.items made
+            → Ready given target.new proof.now.trees self.now args.new.items
+            (made ++ map (images given.symbols (type_pairs proof.now.trees put.now) (term_pairs proof.now.trees put.now) given.scope).proofs
+            (terms_at proof.now.trees hyps.now))) }
         ensures grows { Grows target.old target.new }
     {
         for hyp in hyps {

@@ -45,7 +45,8 @@ pub(crate) fn makes_type(
     requires pairs { type.ArePairsKnown table.now pairs.now }
     requires general { general.0 < length table.now }
     requires ty { ty.0 < length table.now }
-    ensures { IfOk result (λ made. made ≡ type_eq (substitute (type.pairs_at table.now pairs.now) (type.tree_at table.now general.0)) (type.tree_at table.now ty.0)) }
+    ensures { IfOk result (λ made. made ≡ type_eq (substitute (type.pairs_at table.now pairs.now) (type.tree_at table.now general.0))
+        (type.tree_at table.now ty.0)) }
 {
     let mut left = Stack::new(alloc);
     left.push((general, ty))?;
@@ -67,7 +68,8 @@ fn sees_type(
 ) -> Result<bool, Memory>
     requires pairs { type.ArePairsKnown table.now pairs.now }
     requires known { AreTypesLeft table.now ((general, ty) ∷ left.old) }
-    ensures made { IfOk result (λ seen. are_types_made table.now (type.pairs_at table.now pairs.now) ((general, ty) ∷ left.old) ≡ (seen && are_types_made table.now (type.pairs_at table.now pairs.now) left.new)) }
+    ensures made { IfOk result (λ seen. are_types_made table.now (type.pairs_at table.now pairs.now) ((general, ty) ∷ left.old) ≡
+        (seen && are_types_made table.now (type.pairs_at table.now pairs.now) left.new)) }
     ensures known { OnOk result (AreTypesLeft table.now left.new) }
     ensures less { OnOk result (types_left table.now left.new < types_left table.now ((general, ty) ∷ left.old)) }
 {
@@ -99,7 +101,9 @@ fn leave_types(
     requires general { type.AreKnown table.now general.now }
     requires types { type.AreKnown table.now types.now }
     requires known { AreTypesLeft table.now left.old }
-    ensures made { IfOk result (λ many. (types_eq (substitute_all (type.pairs_at table.now pairs.now) (types_of (type.types_at table.now general.now))) (types_of (type.types_at table.now types.now)) && are_types_made table.now (type.pairs_at table.now pairs.now) left.old) ≡ (many && are_types_made table.now (type.pairs_at table.now pairs.now) left.new)) }
+    ensures made { IfOk result (λ many. (types_eq (substitute_all (type.pairs_at table.now pairs.now) (types_of (type.types_at table.now general.now)))
+        (types_of (type.types_at table.now types.now)) && are_types_made table.now (type.pairs_at table.now pairs.now) left.old) ≡
+        (many && are_types_made table.now (type.pairs_at table.now pairs.now) left.new)) }
     ensures known { OnOk result (AreTypesLeft table.now left.new) }
     ensures less { OnOk result (types_left table.now left.new ≤ types_size (types_of (type.types_at table.now general.now)) + types_left table.now left.old) }
 {
@@ -129,7 +133,8 @@ fn makes_named(
     requires pairs { type.ArePairsKnown table.now pairs.now }
     requires general { general.0 < length table.now }
     requires ty { ty.0 < length table.now }
-    ensures { IfOk result (λ made. made ≡ (name_eq name.now own.now && type_eq (substitute (type.pairs_at table.now pairs.now) (type.tree_at table.now general.0)) (type.tree_at table.now ty.0))) }
+    ensures { IfOk result (λ made. made ≡
+        (name_eq name.now own.now && type_eq (substitute (type.pairs_at table.now pairs.now) (type.tree_at table.now general.0)) (type.tree_at table.now ty.0))) }
 {
     if name != own {
         return Ok(false);
@@ -259,7 +264,8 @@ fn makes_variable(
     requires put { AreKnownPairs table.now put.now.types.items put.now.terms.items }
     requires ty { ty.0 < length table.now.types }
     requires id { id.0 < length table.now.terms }
-    ensures { IfOk result (λ made. made ≡ term_eq (term_image (term_pairs_at table.now put.now.terms.items) (retyped table.now put.now name.now ty)) (term_at table.now id.0)) }
+    ensures { IfOk result (λ made. made ≡ term_eq (term_image (term_pairs_at table.now put.now.terms.items) (retyped table.now put.now name.now ty))
+        (term_at table.now id.0)) }
 {
     let view = table.view(id);
     match put_term(alloc, table, put, name, ty)? {

@@ -24,7 +24,8 @@ pub fn step_name(
     requires id { id < step_count proof.now }
     requires assumptions { IsRising assumptions.now }
     requires exports { IsRising exports.now }
-    ensures { IfOk result (λ text. text.items ≡ name_of_step (record { made = proof.now.made; assumptions = assumptions.now; exports = exports.now }) id (step_at proof.now.made id).kind) }
+    ensures { IfOk result (λ text. text.items ≡ name_of_step (record { made = proof.now.made; assumptions = assumptions.now; exports = exports.now }) id
+        (step_at proof.now.made id).kind) }
 {
     match place_of(exports, id) {
         Some(place) => lettered(alloc, b"E", place),

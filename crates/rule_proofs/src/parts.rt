@@ -84,7 +84,10 @@ pub fn type_part(
     requires one { one.id < step_count proof.now }
     requires defines { IsDefiningStep proof.now one.id }
     requires told { (given : Given) × Stands given target.old proof.now.trees env.now × TellsWhole given proof.now one.id × TellsStep given proof.now one.id }
-    ensures made { IfOk result (λ r. (given : Given) → Stands given target.old proof.now.trees env.now → TellsWhole given proof.now one.id → TellsStep given proof.now one.id → Holds target.new.table r.0 (part_tree given.symbols given.scope (part_symbol part) (whole_type proof.now one.id) (one.symbol, sequent_at proof.now.made one.id))) }
+    ensures made { IfOk result (λ r. (given : Given) → Stands given target.old proof.now.trees env.now → TellsWhole given proof.now one.id
+        → TellsStep given proof.now one.id
+        → Holds target.new.table r.0
+        (part_tree given.symbols given.scope (part_symbol part) (whole_type proof.now one.id) (one.symbol, sequent_at proof.now.made one.id))) }
     ensures grows { Grows target.old target.new }
 {
     part_call(target, proof, env, part.symbol(), one)
@@ -103,8 +106,13 @@ pub fn first_law(
     requires id { id < step_count proof.now }
     requires one { one.id < step_count proof.now }
     requires law { (names : TypeNames) × IsFirstLaw Six proof.now id one.id names }
-    requires told { (given : Given) × Stands given target.old proof.now.trees env.now × Stands (with_scope given (lifted given.scope)) target.old proof.now.trees inner.now × TellsStep given proof.now id × TellsStep given proof.now one.id }
-    ensures made { IfOk result (λ r. (given : Given) (names : TypeNames) → IsFirstLaw Six proof.now id one.id names → Stands given target.old proof.now.trees env.now → Stands (with_scope given (lifted given.scope)) target.old proof.now.trees inner.now → TellsStep given proof.now id → TellsStep given proof.now one.id → Holds target.new.table r.0 (first_law_tree given.symbols given.scope names (whole_type proof.now one.id) (one.symbol, sequent_at proof.now.made one.id))) }
+    requires told { (given : Given) × Stands given target.old proof.now.trees env.now
+        × Stands (with_scope given (lifted given.scope)) target.old proof.now.trees inner.now × TellsStep given proof.now id × TellsStep given proof.now one.id }
+    ensures made { IfOk result (λ r. (given : Given) (names : TypeNames) → IsFirstLaw Six proof.now id one.id names
+        → Stands given target.old proof.now.trees env.now → Stands (with_scope given (lifted given.scope)) target.old proof.now.trees inner.now
+        → TellsStep given proof.now id → TellsStep given proof.now one.id
+        → Holds target.new.table r.0
+        (first_law_tree given.symbols given.scope names (whole_type proof.now one.id) (one.symbol, sequent_at proof.now.made one.id))) }
     ensures grows { Grows target.old target.new }
 {
     law(target, proof, env, inner, SUB_ABS_REP, id, one)
@@ -122,8 +130,13 @@ pub fn second_law(
     requires id { id < step_count proof.now }
     requires one { one.id < step_count proof.now }
     requires law { (names : TypeNames) × IsSecondLaw Six proof.now id one.id names }
-    requires told { (given : Given) × Stands given target.old proof.now.trees env.now × Stands (with_scope given (lifted given.scope)) target.old proof.now.trees inner.now × TellsStep given proof.now id × TellsStep given proof.now one.id }
-    ensures made { IfOk result (λ r. (given : Given) (names : TypeNames) → IsSecondLaw Six proof.now id one.id names → Stands given target.old proof.now.trees env.now → Stands (with_scope given (lifted given.scope)) target.old proof.now.trees inner.now → TellsStep given proof.now id → TellsStep given proof.now one.id → Holds target.new.table r.0 (second_law_tree given.symbols given.scope names (whole_type proof.now one.id) (one.symbol, sequent_at proof.now.made one.id))) }
+    requires told { (given : Given) × Stands given target.old proof.now.trees env.now
+        × Stands (with_scope given (lifted given.scope)) target.old proof.now.trees inner.now × TellsStep given proof.now id × TellsStep given proof.now one.id }
+    ensures made { IfOk result (λ r. (given : Given) (names : TypeNames) → IsSecondLaw Six proof.now id one.id names
+        → Stands given target.old proof.now.trees env.now → Stands (with_scope given (lifted given.scope)) target.old proof.now.trees inner.now
+        → TellsStep given proof.now id → TellsStep given proof.now one.id
+        → Holds target.new.table r.0
+        (second_law_tree given.symbols given.scope names (whole_type proof.now one.id) (one.symbol, sequent_at proof.now.made one.id))) }
     ensures grows { Grows target.old target.new }
 {
     law(target, proof, env, inner, SUB_REP_ABS, id, one)
@@ -142,8 +155,13 @@ pub fn first_law_free(
     requires id { id < step_count proof.now }
     requires one { one.id < step_count proof.now }
     requires law { (names : TypeNames) × IsFirstLaw Five proof.now id one.id names }
-    requires told { (given : Given) × Stands given target.old proof.now.trees env.now × Stands (over_types given) target.old proof.now.trees outer.now × TellsStep given proof.now id × TellsStep given proof.now one.id }
-    ensures made { IfOk result (λ r. (given : Given) (names : TypeNames) → IsFirstLaw Five proof.now id one.id names → Stands given target.old proof.now.trees env.now → Stands (over_types given) target.old proof.now.trees outer.now → TellsStep given proof.now id → TellsStep given proof.now one.id → Holds target.new.table r.0 (first_law_free_tree given.symbols given.scope names (whole_type proof.now one.id) (one.symbol, sequent_at proof.now.made one.id))) }
+    requires told { (given : Given) × Stands given target.old proof.now.trees env.now × Stands (over_types given) target.old proof.now.trees outer.now
+        × TellsStep given proof.now id × TellsStep given proof.now one.id }
+    ensures made { IfOk result (λ r. (given : Given) (names : TypeNames) → IsFirstLaw Five proof.now id one.id names
+        → Stands given target.old proof.now.trees env.now → Stands (over_types given) target.old proof.now.trees outer.now → TellsStep given proof.now id
+        → TellsStep given proof.now one.id
+        → Holds target.new.table r.0
+        (first_law_free_tree given.symbols given.scope names (whole_type proof.now one.id) (one.symbol, sequent_at proof.now.made one.id))) }
     ensures grows { Grows target.old target.new }
 {
     let own = sides(proof, id);
@@ -162,8 +180,13 @@ pub fn second_law_free(
     requires id { id < step_count proof.now }
     requires one { one.id < step_count proof.now }
     requires law { (names : TypeNames) × IsSecondLaw Five proof.now id one.id names }
-    requires told { (given : Given) × Stands given target.old proof.now.trees env.now × Stands (over_types given) target.old proof.now.trees outer.now × TellsStep given proof.now id × TellsStep given proof.now one.id }
-    ensures made { IfOk result (λ r. (given : Given) (names : TypeNames) → IsSecondLaw Five proof.now id one.id names → Stands given target.old proof.now.trees env.now → Stands (over_types given) target.old proof.now.trees outer.now → TellsStep given proof.now id → TellsStep given proof.now one.id → Holds target.new.table r.0 (second_law_free_tree given.symbols given.scope names (whole_type proof.now one.id) (one.symbol, sequent_at proof.now.made one.id))) }
+    requires told { (given : Given) × Stands given target.old proof.now.trees env.now × Stands (over_types given) target.old proof.now.trees outer.now
+        × TellsStep given proof.now id × TellsStep given proof.now one.id }
+    ensures made { IfOk result (λ r. (given : Given) (names : TypeNames) → IsSecondLaw Five proof.now id one.id names
+        → Stands given target.old proof.now.trees env.now → Stands (over_types given) target.old proof.now.trees outer.now → TellsStep given proof.now id
+        → TellsStep given proof.now one.id
+        → Holds target.new.table r.0
+        (second_law_free_tree given.symbols given.scope names (whole_type proof.now one.id) (one.symbol, sequent_at proof.now.made one.id))) }
     ensures grows { Grows target.old target.new }
 {
     let own = sides(proof, id);
@@ -192,8 +215,15 @@ fn law(
     requires one { one.id < step_count proof.now }
     requires equation { (a b : HolType) × (t u : Term) × ((sequent_at proof.now.made id).conclusion ≡ equation (function a b) t u) }
     requires defines { IsDefiningStep proof.now one.id }
-    requires told { (given : Given) × Stands given target.old proof.now.trees env.now × Stands (with_scope given (lifted given.scope)) target.old proof.now.trees inner.now × TellsStep given proof.now id × TellsWhole given proof.now one.id × TellsStep given proof.now one.id }
-    ensures made { IfOk result (λ r. (given : Given) (a b : HolType) (t u : Term) → (sequent_at proof.now.made id).conclusion ≡ equation (function a b) (lam a t) (lam a u) → Stands given target.old proof.now.trees env.now → Stands (with_scope given (lifted given.scope)) target.old proof.now.trees inner.now → TellsStep given proof.now id → TellsWhole given proof.now one.id → TellsStep given proof.now one.id → Holds target.new.table r.0 (law_tree given.symbols given.scope a b t u symbol (whole_type proof.now one.id) (one.symbol, sequent_at proof.now.made one.id))) }
+    requires told { (given : Given) × Stands given target.old proof.now.trees env.now
+        × Stands (with_scope given (lifted given.scope)) target.old proof.now.trees inner.now × TellsStep given proof.now id × TellsWhole given proof.now one.id
+        × TellsStep given proof.now one.id }
+    ensures made { IfOk result (λ r. (given : Given) (a b : HolType) (t u : Term)
+        → (sequent_at proof.now.made id).conclusion ≡ equation (function a b) (lam a t) (lam a u) → Stands given target.old proof.now.trees env.now
+        → Stands (with_scope given (lifted given.scope)) target.old proof.now.trees inner.now → TellsStep given proof.now id → TellsWhole given proof.now one.id
+        → TellsStep given proof.now one.id
+        → Holds target.new.table r.0
+        (law_tree given.symbols given.scope a b t u symbol (whole_type proof.now one.id) (one.symbol, sequent_at proof.now.made one.id))) }
     ensures grows { Grows target.old target.new }
 {
     let own = function_sides(proof, id);
@@ -221,7 +251,11 @@ fn add_part(
     requires one { one.id < step_count proof.now }
     requires defines { IsDefiningStep proof.now one.id }
     requires told { (given : Given) × Stands given target.old proof.now.trees env.now × TellsWhole given proof.now one.id × TellsStep given proof.now one.id }
-    ensures ready { OnOk result ((given : Given) (made : List Tree) → Ready given target.old proof.now.trees env.now args.old.items made → TellsWhole given proof.now one.id → TellsStep given proof.now one.id → Ready given target.new proof.now.trees env.now args.new.items (made ++ Lam (terms_of (tree_at target.old.table domain.0)) (App (part_tree given.symbols given.scope symbol (whole_type proof.now one.id) (one.symbol, sequent_at proof.now.made one.id)) (Var 0)) ∷ [])) }
+    ensures ready { OnOk result ((given : Given) (made : List Tree) → Ready given target.old proof.now.trees env.now args.old.items made
+        → TellsWhole given proof.now one.id → TellsStep given proof.now one.id
+        → Ready given target.new proof.now.trees env.now args.new.items
+        (made ++ Lam (terms_of (tree_at target.old.table domain.0))
+        (App (part_tree given.symbols given.scope symbol (whole_type proof.now one.id) (one.symbol, sequent_at proof.now.made one.id)) (Var 0)) ∷ [])) }
     ensures grows { Grows target.old target.new }
 {
     let part = part_call(target, proof, env, symbol, one)?;
@@ -245,8 +279,14 @@ fn part_at(
     requires one { one.id < step_count proof.now }
     requires id { id.0 < length proof.now.trees.terms }
     requires defines { IsDefiningStep proof.now one.id }
-    requires told { (given : Given) × Stands given target.old proof.now.trees env.now × Stands (over_types given) target.old proof.now.trees outer.now × TellsWhole given proof.now one.id × TellsStep given proof.now one.id × IsTold given (term_at proof.now.trees id.0) }
-    ensures made { IfOk result (λ r. (given : Given) → Stands given target.old proof.now.trees env.now → Stands (over_types given) target.old proof.now.trees outer.now → TellsWhole given proof.now one.id → TellsStep given proof.now one.id → IsTold given (term_at proof.now.trees id.0) → Holds target.new.table r.0 (App (part_tree given.symbols (filled given.symbols given.scope.types) symbol (whole_type proof.now one.id) (one.symbol, sequent_at proof.now.made one.id)) (term_tree given.symbols given.scope (term_at proof.now.trees id.0)))) }
+    requires told { (given : Given) × Stands given target.old proof.now.trees env.now × Stands (over_types given) target.old proof.now.trees outer.now
+        × TellsWhole given proof.now one.id × TellsStep given proof.now one.id × IsTold given (term_at proof.now.trees id.0) }
+    ensures made { IfOk result (λ r. (given : Given) → Stands given target.old proof.now.trees env.now
+        → Stands (over_types given) target.old proof.now.trees outer.now → TellsWhole given proof.now one.id → TellsStep given proof.now one.id
+        → IsTold given (term_at proof.now.trees id.0)
+        → Holds target.new.table r.0
+        (App (part_tree given.symbols (filled given.symbols given.scope.types) symbol (whole_type proof.now one.id)
+        (one.symbol, sequent_at proof.now.made one.id)) (term_tree given.symbols given.scope (term_at proof.now.trees id.0)))) }
     ensures grows { Grows target.old target.new }
 {
     let part = part_call(target, proof, outer, symbol, one)?;
@@ -265,7 +305,9 @@ fn part_call(
     requires one { one.id < step_count proof.now }
     requires defines { IsDefiningStep proof.now one.id }
     requires told { (given : Given) × Stands given target.old proof.now.trees env.now × TellsWhole given proof.now one.id × TellsStep given proof.now one.id }
-    ensures made { IfOk result (λ r. (given : Given) → Stands given target.old proof.now.trees env.now → TellsWhole given proof.now one.id → TellsStep given proof.now one.id → Holds target.new.table r.0 (part_tree given.symbols given.scope symbol (whole_type proof.now one.id) (one.symbol, sequent_at proof.now.made one.id))) }
+    ensures made { IfOk result (λ r. (given : Given) → Stands given target.old proof.now.trees env.now → TellsWhole given proof.now one.id
+        → TellsStep given proof.now one.id
+        → Holds target.new.table r.0 (part_tree given.symbols given.scope symbol (whole_type proof.now one.id) (one.symbol, sequent_at proof.now.made one.id))) }
     ensures grows { Grows target.old target.new }
 {
     let held = applied(proof, one.id);

@@ -53,7 +53,9 @@ impl Environment {
     pub fn ty(&self, target: &mut Module, proof: &Proof, id: TypeId) -> Result<LpId, Memory>
         requires id { id.0 < length proof.now.trees.types }
         requires told { (given : Given) × Stands given target.old proof.now.trees self.now × TellsType given.declarations given.symbols (type_at proof.now.trees id.0) }
-        ensures made { IfOk result (λ r. (given : Given) → Stands given target.old proof.now.trees self.now → TellsType given.declarations given.symbols (type_at proof.now.trees id.0) → Holds target.new.table r.0 (type_tree given.symbols given.scope.types (type_at proof.now.trees id.0))) }
+        ensures made { IfOk result (λ r. (given : Given) → Stands given target.old proof.now.trees self.now
+            → TellsType given.declarations given.symbols (type_at proof.now.trees id.0)
+            → Holds target.new.table r.0 (type_tree given.symbols given.scope.types (type_at proof.now.trees id.0))) }
         ensures grows { Grows target.old target.new }
     {
         ty(self.alloc, target, proof.terms().types(), &self.scope, id)
@@ -63,7 +65,8 @@ impl Environment {
     pub fn term(&self, target: &mut Module, proof: &Proof, id: TermId) -> Result<LpId, Memory>
         requires id { id.0 < length proof.now.trees.terms }
         requires told { (given : Given) × Stands given target.old proof.now.trees self.now × IsTold given (term_at proof.now.trees id.0) }
-        ensures made { IfOk result (λ r. (given : Given) → Stands given target.old proof.now.trees self.now → IsTold given (term_at proof.now.trees id.0) → Holds target.new.table r.0 (term_tree given.symbols given.scope (term_at proof.now.trees id.0))) }
+        ensures made { IfOk result (λ r. (given : Given) → Stands given target.old proof.now.trees self.now → IsTold given (term_at proof.now.trees id.0)
+            → Holds target.new.table r.0 (term_tree given.symbols given.scope (term_at proof.now.trees id.0))) }
         ensures grows { Grows target.old target.new }
     {
         tm(self.alloc, target, proof.terms(), &self.scope, id)
@@ -88,8 +91,11 @@ impl Environment {
         variable: &Variable,
     ) -> Result<LpId, Memory>
         requires variable { variable.now.ty.0 < length proof.now.trees.types }
-        requires told { (given : Given) × Stands given target.old proof.now.trees self.now × TellsType given.declarations given.symbols (type_at proof.now.trees variable.now.ty.0) }
-        ensures made { IfOk result (λ r. (given : Given) → Stands given target.old proof.now.trees self.now → TellsType given.declarations given.symbols (type_at proof.now.trees variable.now.ty.0) → Holds target.new.table r.0 (given.scope.terms (variable.now.name, type_at proof.now.trees variable.now.ty.0))) }
+        requires told { (given : Given) × Stands given target.old proof.now.trees self.now
+            × TellsType given.declarations given.symbols (type_at proof.now.trees variable.now.ty.0) }
+        ensures made { IfOk result (λ r. (given : Given) → Stands given target.old proof.now.trees self.now
+            → TellsType given.declarations given.symbols (type_at proof.now.trees variable.now.ty.0)
+            → Holds target.new.table r.0 (given.scope.terms (variable.now.name, type_at proof.now.trees variable.now.ty.0))) }
         ensures grows { Grows target.old target.new }
     {
         match self.find_term(variable) {
@@ -103,7 +109,8 @@ impl Environment {
 
     /// What proves a hypothesis.
     pub fn hypothesis(&self, target: &mut Module, id: TermId) -> Result<LpId, Memory>
-        ensures made { IfOk result (λ r. (given : Given) (trees : Trees) → Stands given target.old trees self.now → id.0 < length trees.terms → Holds target.new.table r.0 (given.scope.proofs (term_at trees id.0))) }
+        ensures made { IfOk result (λ r. (given : Given) (trees : Trees) → Stands given target.old trees self.now → id.0 < length trees.terms
+            → Holds target.new.table r.0 (given.scope.proofs (term_at trees id.0))) }
         ensures grows { Grows target.old target.new }
     {
         match self.find_proof(id) {
@@ -123,7 +130,10 @@ impl Environment {
     ) -> Result<(), Memory>
         requires id { id.0 < length proof.now.trees.types }
         requires told { (given : Given) × Stands given target.old proof.now.trees self.now × TellsType given.declarations given.symbols (type_at proof.now.trees id.0) }
-        ensures ready { OnOk result ((given : Given) (made : List Tree) → Ready given target.old proof.now.trees self.now args.old.items made → TellsType given.declarations given.symbols (type_at proof.now.trees id.0) → Ready given target.new proof.now.trees self.now args.new.items (made ++ type_tree given.symbols given.scope.types (type_at proof.now.trees id.0) ∷ [])) }
+        ensures ready { OnOk result ((given : Given) (made : List Tree) → Ready given target.old proof.now.trees self.now args.old.items made
+            → TellsType given.declarations given.symbols (type_at proof.now.trees id.0)
+            → Ready given target.new proof.now.trees self.now args.new.items
+            (made ++ type_tree given.symbols given.scope.types (type_at proof.now.trees id.0) ∷ [])) }
         ensures grows { Grows target.old target.new }
     {
         let tree = self.ty(target, proof, id)?;
@@ -141,7 +151,9 @@ impl Environment {
     ) -> Result<(), Memory>
         requires id { id.0 < length proof.now.trees.terms }
         requires told { (given : Given) × Stands given target.old proof.now.trees self.now × IsTold given (term_at proof.now.trees id.0) }
-        ensures ready { OnOk result ((given : Given) (made : List Tree) → Ready given target.old proof.now.trees self.now args.old.items made → IsTold given (term_at proof.now.trees id.0) → Ready given target.new proof.now.trees self.now args.new.items (made ++ term_tree given.symbols given.scope (term_at proof.now.trees id.0) ∷ [])) }
+        ensures ready { OnOk result ((given : Given) (made : List Tree) → Ready given target.old proof.now.trees self.now args.old.items made
+            → IsTold given (term_at proof.now.trees id.0)
+            → Ready given target.new proof.now.trees self.now args.new.items (made ++ term_tree given.symbols given.scope (term_at proof.now.trees id.0) ∷ [])) }
         ensures grows { Grows target.old target.new }
     {
         let tree = self.term(target, proof, id)?;
@@ -156,7 +168,8 @@ impl Environment {
         name: &Name,
         args: &mut Vec<LpId>,
     ) -> Result<(), Memory>
-        ensures ready { OnOk result ((given : Given) (trees : Trees) (made : List Tree) → Ready given target.old trees self.now args.old.items made → Ready given target.new trees self.now args.new.items (made ++ given.scope.types name.now ∷ [])) }
+        ensures ready { OnOk result ((given : Given) (trees : Trees) (made : List Tree) → Ready given target.old trees self.now args.old.items made
+            → Ready given target.new trees self.now args.new.items (made ++ given.scope.types name.now ∷ [])) }
         ensures grows { Grows target.old target.new }
     {
         let tree = self.type_variable(target, name)?;
@@ -173,8 +186,12 @@ impl Environment {
         args: &mut Vec<LpId>,
     ) -> Result<(), Memory>
         requires variable { variable.now.ty.0 < length proof.now.trees.types }
-        requires told { (given : Given) × Stands given target.old proof.now.trees self.now × TellsType given.declarations given.symbols (type_at proof.now.trees variable.now.ty.0) }
-        ensures ready { OnOk result ((given : Given) (made : List Tree) → Ready given target.old proof.now.trees self.now args.old.items made → TellsType given.declarations given.symbols (type_at proof.now.trees variable.now.ty.0) → Ready given target.new proof.now.trees self.now args.new.items (made ++ given.scope.terms (variable.now.name, type_at proof.now.trees variable.now.ty.0) ∷ [])) }
+        requires told { (given : Given) × Stands given target.old proof.now.trees self.now
+            × TellsType given.declarations given.symbols (type_at proof.now.trees variable.now.ty.0) }
+        ensures ready { OnOk result ((given : Given) (made : List Tree) → Ready given target.old proof.now.trees self.now args.old.items made
+            → TellsType given.declarations given.symbols (type_at proof.now.trees variable.now.ty.0)
+            → Ready given target.new proof.now.trees self.now args.new.items
+            (made ++ given.scope.terms (variable.now.name, type_at proof.now.trees variable.now.ty.0) ∷ [])) }
         ensures grows { Grows target.old target.new }
     {
         let tree = self.free_variable(target, proof, variable)?;
@@ -189,7 +206,8 @@ impl Environment {
         id: TermId,
         args: &mut Vec<LpId>,
     ) -> Result<(), Memory>
-        ensures ready { OnOk result ((given : Given) (trees : Trees) (made : List Tree) → Ready given target.old trees self.now args.old.items made → id.0 < length trees.terms → Ready given target.new trees self.now args.new.items (made ++ given.scope.proofs (term_at trees id.0) ∷ [])) }
+        ensures ready { OnOk result ((given : Given) (trees : Trees) (made : List Tree) → Ready given target.old trees self.now args.old.items made
+            → id.0 < length trees.terms → Ready given target.new trees self.now args.new.items (made ++ given.scope.proofs (term_at trees id.0) ∷ [])) }
         ensures grows { Grows target.old target.new }
     {
         let tree = self.hypothesis(target, id)?;
@@ -204,7 +222,8 @@ impl Environment {
         names: &[Name],
         args: &mut Vec<LpId>,
     ) -> Result<(), Memory>
-        ensures ready { OnOk result ((given : Given) (trees : Trees) (made : List Tree) → Ready given target.old trees self.now args.old.items made → Ready given target.new trees self.now args.new.items (made ++ map given.scope.types names.now)) }
+        ensures ready { OnOk result ((given : Given) (trees : Trees) (made : List Tree) → Ready given target.old trees self.now args.old.items made
+            → Ready given target.new trees self.now args.new.items (made ++ map given.scope.types names.now)) }
         ensures grows { Grows target.old target.new }
     {
         for name in names {
@@ -222,8 +241,11 @@ impl Environment {
         args: &mut Vec<LpId>,
     ) -> Result<(), Memory>
         requires variables { HaveTypes proof.now.trees variables.now }
-        requires told { (given : Given) × Stands given target.old proof.now.trees self.now × AllByRecursion (λ (v : ATerm). TellsType given.declarations given.symbols v.1) (variables_of proof.now.trees variables.now) }
-        ensures ready { OnOk result ((given : Given) (made : List Tree) → Ready given target.old proof.now.trees self.now args.old.items made → AllByRecursion (λ (v : ATerm). TellsType given.declarations given.symbols v.1) (variables_of proof.now.trees variables.now) → Ready given target.new proof.now.trees self.now args.new.items (made ++ map given.scope.terms (variables_of proof.now.trees variables.now))) }
+        requires told { (given : Given) × Stands given target.old proof.now.trees self.now
+            × AllByRecursion (λ (v : ATerm). TellsType given.declarations given.symbols v.1) (variables_of proof.now.trees variables.now) }
+        ensures ready { OnOk result ((given : Given) (made : List Tree) → Ready given target.old proof.now.trees self.now args.old.items made
+            → AllByRecursion (λ (v : ATerm). TellsType given.declarations given.symbols v.1) (variables_of proof.now.trees variables.now)
+            → Ready given target.new proof.now.trees self.now args.new.items (made ++ map given.scope.terms (variables_of proof.now.trees variables.now))) }
         ensures grows { Grows target.old target.new }
     {
         for variable in variables {
@@ -239,7 +261,8 @@ impl Environment {
         hyps: &[TermId],
         args: &mut Vec<LpId>,
     ) -> Result<(), Memory>
-        ensures ready { OnOk result ((given : Given) (trees : Trees) (made : List Tree) → Ready given target.old trees self.now args.old.items made → AreKnown trees hyps.now → Ready given target.new trees self.now args.new.items (made ++ map given.scope.proofs (terms_at trees hyps.now))) }
+        ensures ready { OnOk result ((given : Given) (trees : Trees) (made : List Tree) → Ready given target.old trees self.now args.old.items made
+            → AreKnown trees hyps.now → Ready given target.new trees self.now args.new.items (made ++ map given.scope.proofs (terms_at trees hyps.now))) }
         ensures grows { Grows target.old target.new }
     {
         for id in hyps {
@@ -259,7 +282,8 @@ impl Environment {
         requires kept { AreKept proof.now kept.now }
         requires premise { premise.id < step_count proof.now }
         requires told { (given : Given) × Stands given target.old proof.now.trees self.now × TellsStep given proof.now premise.id }
-        ensures made { IfOk result (λ r. (given : Given) → Stands given target.old proof.now.trees self.now → TellsStep given proof.now premise.id → Holds target.new.table r.0 (theorem_tree given.scope premise.symbol (sequent_at proof.now.made premise.id))) }
+        ensures made { IfOk result (λ r. (given : Given) → Stands given target.old proof.now.trees self.now → TellsStep given proof.now premise.id
+            → Holds target.new.table r.0 (theorem_tree given.scope premise.symbol (sequent_at proof.now.made premise.id))) }
         ensures grows { Grows target.old target.new }
     {
         let lent = kept.lend(proof, premise.id)?;
@@ -283,7 +307,8 @@ impl Environment {
         requires params { AreParams proof.now premise.id params.now }
         requires none { args.old.items ≡ [] }
         requires told { (given : Given) × Stands given target.old proof.now.trees self.now × TellsStep given proof.now premise.id }
-        ensures made { IfOk result (λ r. (given : Given) → Stands given target.old proof.now.trees self.now → TellsStep given proof.now premise.id → Holds target.new.table r.0 (theorem_tree given.scope premise.symbol (sequent_at proof.now.made premise.id))) }
+        ensures made { IfOk result (λ r. (given : Given) → Stands given target.old proof.now.trees self.now → TellsStep given proof.now premise.id
+            → Holds target.new.table r.0 (theorem_tree given.scope premise.symbol (sequent_at proof.now.made premise.id))) }
         ensures grows { Grows target.old target.new }
     {
         self.add_type_variables(target, params.type_vars.names(), args)?;
@@ -304,7 +329,10 @@ impl Environment {
         requires kept { AreKept proof.now kept.now }
         requires premise { premise.id < step_count proof.now }
         requires told { (given : Given) × Stands given target.old proof.now.trees self.now × TellsStep given proof.now premise.id }
-        ensures ready { OnOk result ((given : Given) (made : List Tree) → Ready given target.old proof.now.trees self.now args.old.items made → TellsStep given proof.now premise.id → Ready given target.new proof.now.trees self.now args.new.items (made ++ theorem_tree given.scope premise.symbol (sequent_at proof.now.made premise.id) ∷ [])) }
+        ensures ready { OnOk result ((given : Given) (made : List Tree) → Ready given target.old proof.now.trees self.now args.old.items made
+            → TellsStep given proof.now premise.id
+            → Ready given target.new proof.now.trees self.now args.new.items
+            (made ++ theorem_tree given.scope premise.symbol (sequent_at proof.now.made premise.id) ∷ [])) }
         ensures grows { Grows target.old target.new }
     {
         let tree = self.theorem(target, proof, kept, premise)?;
@@ -324,7 +352,10 @@ impl Environment {
         requires domain { domain.0 < length target.old.table }
         requires id { id.0 < length proof.now.trees.terms }
         requires told { (given : Given) × Stands given target.old proof.now.trees self.now × IsTold given (term_at proof.now.trees id.0) }
-        ensures ready { OnOk result ((given : Given) (made : List Tree) → Ready given target.old proof.now.trees self.now args.old.items made → IsTold given (term_at proof.now.trees id.0) → Ready given target.new proof.now.trees self.now args.new.items (made ++ Lam (terms_of (tree_at target.old.table domain.0)) (term_tree given.symbols given.scope (term_at proof.now.trees id.0)) ∷ [])) }
+        ensures ready { OnOk result ((given : Given) (made : List Tree) → Ready given target.old proof.now.trees self.now args.old.items made
+            → IsTold given (term_at proof.now.trees id.0)
+            → Ready given target.new proof.now.trees self.now args.new.items
+            (made ++ Lam (terms_of (tree_at target.old.table domain.0)) (term_tree given.symbols given.scope (term_at proof.now.trees id.0)) ∷ [])) }
         ensures grows { Grows target.old target.new }
     {
         let body = self.term(target, proof, id)?;
@@ -348,7 +379,11 @@ impl Environment {
         requires kept { AreKept proof.now kept.now }
         requires premise { premise.id < step_count proof.now }
         requires told { (given : Given) × Stands given target.old proof.now.trees self.now × TellsStep given proof.now premise.id }
-        ensures ready { OnOk result ((given : Given) (made : List Tree) → Ready given target.old proof.now.trees self.now args.old.items made → TellsStep given proof.now premise.id → Ready given target.new proof.now.trees self.now args.new.items (made ++ Lam (App (Sym family) (tree_at target.old.table index.0)) (theorem_tree given.scope premise.symbol (sequent_at proof.now.made premise.id)) ∷ [])) }
+        ensures ready { OnOk result ((given : Given) (made : List Tree) → Ready given target.old proof.now.trees self.now args.old.items made
+            → TellsStep given proof.now premise.id
+            → Ready given target.new proof.now.trees self.now args.new.items
+            (made ++ Lam (App (Sym family) (tree_at target.old.table index.0))
+            (theorem_tree given.scope premise.symbol (sequent_at proof.now.made premise.id)) ∷ [])) }
         ensures grows { Grows target.old target.new }
     {
         let body = self.theorem(target, proof, kept, premise)?;

@@ -58,7 +58,10 @@ pub fn refl(
     requires id { id < step_count proof.now }
     requires equation { IsEquationStep proof.now id }
     requires told { (given : Given) × Stands given target.old proof.now.trees env.now × TellsStep given proof.now id }
-    ensures made { IfOk result (λ r. (given : Given) → Stands given target.old proof.now.trees env.now → TellsStep given proof.now id → Holds target.new.table r.0 (refl_tree given.symbols given.scope (equated_type (sequent_at proof.now.made id).conclusion) (right_side (sequent_at proof.now.made id).conclusion))) }
+    ensures made { IfOk result (λ r. (given : Given) → Stands given target.old proof.now.trees env.now → TellsStep given proof.now id
+        → Holds target.new.table r.0
+        (refl_tree given.symbols given.scope (equated_type (sequent_at proof.now.made id).conclusion)
+        (right_side (sequent_at proof.now.made id).conclusion))) }
     ensures grows { Grows target.old target.new }
 {
     let own = sides(proof, id);
@@ -82,7 +85,12 @@ pub fn eq_mp(
     requires two { two.id < step_count proof.now }
     requires equation { IsEquationStep proof.now one.id }
     requires told { (given : Given) × Stands given target.old proof.now.trees env.now × TellsStep given proof.now one.id × TellsStep given proof.now two.id }
-    ensures made { IfOk result (λ r. (given : Given) → Stands given target.old proof.now.trees env.now → TellsStep given proof.now one.id → TellsStep given proof.now two.id → Holds target.new.table r.0 (eq_mp_tree given.symbols given.scope (left_side (sequent_at proof.now.made one.id).conclusion) (right_side (sequent_at proof.now.made one.id).conclusion) (one.symbol, sequent_at proof.now.made one.id) (two.symbol, sequent_at proof.now.made two.id))) }
+    ensures made { IfOk result (λ r. (given : Given) → Stands given target.old proof.now.trees env.now → TellsStep given proof.now one.id
+        → TellsStep given proof.now two.id
+        → Holds target.new.table r.0
+        (eq_mp_tree given.symbols given.scope (left_side (sequent_at proof.now.made one.id).conclusion)
+        (right_side (sequent_at proof.now.made one.id).conclusion) (one.symbol, sequent_at proof.now.made one.id)
+        (two.symbol, sequent_at proof.now.made two.id))) }
     ensures grows { Grows target.old target.new }
 {
     let first = sides(proof, one.id);
@@ -106,7 +114,11 @@ pub fn sym(
     requires one { one.id < step_count proof.now }
     requires equation { IsEquationStep proof.now one.id }
     requires told { (given : Given) × Stands given target.old proof.now.trees env.now × TellsStep given proof.now one.id }
-    ensures made { IfOk result (λ r. (given : Given) → Stands given target.old proof.now.trees env.now → TellsStep given proof.now one.id → Holds target.new.table r.0 (sym_tree given.symbols given.scope (equated_type (sequent_at proof.now.made one.id).conclusion) (left_side (sequent_at proof.now.made one.id).conclusion) (right_side (sequent_at proof.now.made one.id).conclusion) (one.symbol, sequent_at proof.now.made one.id))) }
+    ensures made { IfOk result (λ r. (given : Given) → Stands given target.old proof.now.trees env.now → TellsStep given proof.now one.id
+        → Holds target.new.table r.0
+        (sym_tree given.symbols given.scope (equated_type (sequent_at proof.now.made one.id).conclusion)
+        (left_side (sequent_at proof.now.made one.id).conclusion) (right_side (sequent_at proof.now.made one.id).conclusion)
+        (one.symbol, sequent_at proof.now.made one.id))) }
     ensures grows { Grows target.old target.new }
 {
     let first = sides(proof, one.id);
@@ -133,7 +145,13 @@ pub fn trans(
     requires first { IsEquationStep proof.now one.id }
     requires second { IsEquationStep proof.now two.id }
     requires told { (given : Given) × Stands given target.old proof.now.trees env.now × TellsStep given proof.now one.id × TellsStep given proof.now two.id }
-    ensures made { IfOk result (λ r. (given : Given) → Stands given target.old proof.now.trees env.now → TellsStep given proof.now one.id → TellsStep given proof.now two.id → Holds target.new.table r.0 (trans_tree given.symbols given.scope (equated_type (sequent_at proof.now.made one.id).conclusion) (left_side (sequent_at proof.now.made one.id).conclusion) (right_side (sequent_at proof.now.made one.id).conclusion) (right_side (sequent_at proof.now.made two.id).conclusion) (one.symbol, sequent_at proof.now.made one.id) (two.symbol, sequent_at proof.now.made two.id))) }
+    ensures made { IfOk result (λ r. (given : Given) → Stands given target.old proof.now.trees env.now → TellsStep given proof.now one.id
+        → TellsStep given proof.now two.id
+        → Holds target.new.table r.0
+        (trans_tree given.symbols given.scope (equated_type (sequent_at proof.now.made one.id).conclusion)
+        (left_side (sequent_at proof.now.made one.id).conclusion) (right_side (sequent_at proof.now.made one.id).conclusion)
+        (right_side (sequent_at proof.now.made two.id).conclusion) (one.symbol, sequent_at proof.now.made one.id)
+        (two.symbol, sequent_at proof.now.made two.id))) }
     ensures grows { Grows target.old target.new }
 {
     let first = sides(proof, one.id);
@@ -165,8 +183,16 @@ pub fn app_thm(
     requires own { IsEquationStep proof.now id }
     requires first { IsEquationStep proof.now one.id }
     requires second { IsEquationStep proof.now two.id }
-    requires told { (given : Given) × Stands given target.old proof.now.trees env.now × TellsStep given proof.now id × TellsStep given proof.now one.id × TellsStep given proof.now two.id }
-    ensures made { IfOk result (λ r. (given : Given) → Stands given target.old proof.now.trees env.now → TellsStep given proof.now id → TellsStep given proof.now one.id → TellsStep given proof.now two.id → Holds target.new.table r.0 (app_thm_tree given.symbols given.scope (equated_type (sequent_at proof.now.made two.id).conclusion) (equated_type (sequent_at proof.now.made id).conclusion) (left_side (sequent_at proof.now.made one.id).conclusion) (right_side (sequent_at proof.now.made one.id).conclusion) (left_side (sequent_at proof.now.made two.id).conclusion) (right_side (sequent_at proof.now.made two.id).conclusion) (one.symbol, sequent_at proof.now.made one.id) (two.symbol, sequent_at proof.now.made two.id))) }
+    requires told { (given : Given) × Stands given target.old proof.now.trees env.now × TellsStep given proof.now id × TellsStep given proof.now one.id
+        × TellsStep given proof.now two.id }
+    ensures made { IfOk result (λ r. (given : Given) → Stands given target.old proof.now.trees env.now → TellsStep given proof.now id
+        → TellsStep given proof.now one.id → TellsStep given proof.now two.id
+        → Holds target.new.table r.0
+        (app_thm_tree given.symbols given.scope (equated_type (sequent_at proof.now.made two.id).conclusion)
+        (equated_type (sequent_at proof.now.made id).conclusion) (left_side (sequent_at proof.now.made one.id).conclusion)
+        (right_side (sequent_at proof.now.made one.id).conclusion) (left_side (sequent_at proof.now.made two.id).conclusion)
+        (right_side (sequent_at proof.now.made two.id).conclusion) (one.symbol, sequent_at proof.now.made one.id)
+        (two.symbol, sequent_at proof.now.made two.id))) }
     ensures grows { Grows target.old target.new }
 {
     let first = sides(proof, one.id);
@@ -198,8 +224,16 @@ pub fn abs_thm(
     requires one { one.id < step_count proof.now }
     requires variable { variable.now.ty.0 < length proof.now.trees.types }
     requires equation { IsEquationStep proof.now one.id }
-    requires told { (given : Given) × Stands given target.old proof.now.trees env.now × Stands (with_scope given (under_term (variable_view proof.now.trees variable.now) given.scope)) target.old proof.now.trees inner.now × TellsType given.declarations given.symbols (type_at proof.now.trees variable.now.ty.0) × TellsStep given proof.now one.id }
-    ensures made { IfOk result (λ r. (given : Given) → Stands given target.old proof.now.trees env.now → Stands (with_scope given (under_term (variable_view proof.now.trees variable.now) given.scope)) target.old proof.now.trees inner.now → TellsType given.declarations given.symbols (type_at proof.now.trees variable.now.ty.0) → TellsStep given proof.now one.id → Holds target.new.table r.0 (fun_ext_tree given.symbols given.scope (variable_view proof.now.trees variable.now) (equated_type (sequent_at proof.now.made one.id).conclusion) (left_side (sequent_at proof.now.made one.id).conclusion) (right_side (sequent_at proof.now.made one.id).conclusion) (one.symbol, sequent_at proof.now.made one.id))) }
+    requires told { (given : Given) × Stands given target.old proof.now.trees env.now
+        × Stands (with_scope given (under_term (variable_view proof.now.trees variable.now) given.scope)) target.old proof.now.trees inner.now
+        × TellsType given.declarations given.symbols (type_at proof.now.trees variable.now.ty.0) × TellsStep given proof.now one.id }
+    ensures made { IfOk result (λ r. (given : Given) → Stands given target.old proof.now.trees env.now
+        → Stands (with_scope given (under_term (variable_view proof.now.trees variable.now) given.scope)) target.old proof.now.trees inner.now
+        → TellsType given.declarations given.symbols (type_at proof.now.trees variable.now.ty.0) → TellsStep given proof.now one.id
+        → Holds target.new.table r.0
+        (fun_ext_tree given.symbols given.scope (variable_view proof.now.trees variable.now) (equated_type (sequent_at proof.now.made one.id).conclusion)
+        (left_side (sequent_at proof.now.made one.id).conclusion) (right_side (sequent_at proof.now.made one.id).conclusion)
+        (one.symbol, sequent_at proof.now.made one.id))) }
     ensures grows { Grows target.old target.new }
 {
     let first = sides(proof, one.id);
@@ -228,8 +262,17 @@ pub fn deduct_antisym(
     requires kept { AreKept proof.now kept.now }
     requires one { one.id < step_count proof.now }
     requires two { two.id < step_count proof.now }
-    requires told { (given : Given) × Stands given target.old proof.now.trees env.now × Stands (with_scope given (under_proof (sequent_at proof.now.made one.id).conclusion given.scope)) target.old proof.now.trees first.now × Stands (with_scope given (under_proof (sequent_at proof.now.made two.id).conclusion given.scope)) target.old proof.now.trees second.now × TellsStep given proof.now one.id × TellsStep given proof.now two.id }
-    ensures made { IfOk result (λ r. (given : Given) → Stands given target.old proof.now.trees env.now → Stands (with_scope given (under_proof (sequent_at proof.now.made one.id).conclusion given.scope)) target.old proof.now.trees first.now → Stands (with_scope given (under_proof (sequent_at proof.now.made two.id).conclusion given.scope)) target.old proof.now.trees second.now → TellsStep given proof.now one.id → TellsStep given proof.now two.id → Holds target.new.table r.0 (prop_ext_tree given.symbols given.scope (sequent_at proof.now.made one.id).conclusion (sequent_at proof.now.made two.id).conclusion (one.symbol, sequent_at proof.now.made one.id) (two.symbol, sequent_at proof.now.made two.id))) }
+    requires told { (given : Given) × Stands given target.old proof.now.trees env.now
+        × Stands (with_scope given (under_proof (sequent_at proof.now.made one.id).conclusion given.scope)) target.old proof.now.trees first.now
+        × Stands (with_scope given (under_proof (sequent_at proof.now.made two.id).conclusion given.scope)) target.old proof.now.trees second.now
+        × TellsStep given proof.now one.id × TellsStep given proof.now two.id }
+    ensures made { IfOk result (λ r. (given : Given) → Stands given target.old proof.now.trees env.now
+        → Stands (with_scope given (under_proof (sequent_at proof.now.made one.id).conclusion given.scope)) target.old proof.now.trees first.now
+        → Stands (with_scope given (under_proof (sequent_at proof.now.made two.id).conclusion given.scope)) target.old proof.now.trees second.now
+        → TellsStep given proof.now one.id → TellsStep given proof.now two.id
+        → Holds target.new.table r.0
+        (prop_ext_tree given.symbols given.scope (sequent_at proof.now.made one.id).conclusion (sequent_at proof.now.made two.id).conclusion
+        (one.symbol, sequent_at proof.now.made one.id) (two.symbol, sequent_at proof.now.made two.id))) }
     ensures grows { Grows target.old target.new }
 {
     let mut args = Vec::new(env.alloc);
@@ -251,7 +294,8 @@ fn conclusion(
 ) -> Result<LpId, Memory>
     requires id { id < step_count proof.now }
     requires told { (given : Given) × Stands given target.old proof.now.trees env.now × TellsStep given proof.now id }
-    ensures made { IfOk result (λ r. (given : Given) → Stands given target.old proof.now.trees env.now → TellsStep given proof.now id → Holds target.new.table r.0 (term_tree given.symbols given.scope (sequent_at proof.now.made id).conclusion)) }
+    ensures made { IfOk result (λ r. (given : Given) → Stands given target.old proof.now.trees env.now → TellsStep given proof.now id
+        → Holds target.new.table r.0 (term_tree given.symbols given.scope (sequent_at proof.now.made id).conclusion)) }
     ensures grows { Grows target.old target.new }
 {
     proof.is_proof();
@@ -271,7 +315,11 @@ pub fn prove_hyp(
     requires one { one.id < step_count proof.now }
     requires two { two.id < step_count proof.now }
     requires told { (given : Given) × Stands given target.old proof.now.trees env.old × TellsStep given proof.now one.id × TellsStep given proof.now two.id }
-    ensures made { IfOk result (λ r. (given : Given) → Stands given target.old proof.now.trees env.old → TellsStep given proof.now one.id → TellsStep given proof.now two.id → Holds target.new.table r.0 (prove_hyp_tree given.symbols given.scope (sequent_at proof.now.made one.id).conclusion (one.symbol, sequent_at proof.now.made one.id) (two.symbol, sequent_at proof.now.made two.id))) }
+    ensures made { IfOk result (λ r. (given : Given) → Stands given target.old proof.now.trees env.old → TellsStep given proof.now one.id
+        → TellsStep given proof.now two.id
+        → Holds target.new.table r.0
+        (prove_hyp_tree given.symbols given.scope (sequent_at proof.now.made one.id).conclusion (one.symbol, sequent_at proof.now.made one.id)
+        (two.symbol, sequent_at proof.now.made two.id))) }
     ensures grows { Grows target.old target.new }
 {
     let p = proof.sequent(one.id).concl;

@@ -49,7 +49,8 @@ impl Environment {
         inside: u128,
     ) -> Result<Environment, Memory>
         requires { inside < 2 ^ 64 }
-        ensures made { IfOk result (λ env. (given : Given) (trees : Trees) → IsPlaced given target.old trees params.now.type_vars params.now.free_vars hyps.now inside → Stands given target.new trees env) }
+        ensures made { IfOk result (λ env. (given : Given) (trees : Trees)
+            → IsPlaced given target.old trees params.now.type_vars params.now.free_vars hyps.now inside → Stands given target.new trees env) }
         ensures grows { Grows target.old target.new }
     {
         let mut made = Environment::new(alloc);
@@ -65,7 +66,8 @@ impl Environment {
         inside: u128,
     ) -> Result<Environment, Memory>
         requires { inside < 2 ^ 65 }
-        ensures made { IfOk result (λ env. (given : Given) (trees : Trees) → IsPlaced given target.old trees names.now [] [] inside → Stands given target.new trees env) }
+        ensures made { IfOk result (λ env. (given : Given) (trees : Trees) → IsPlaced given target.old trees names.now [] [] inside
+            → Stands given target.new trees env) }
         ensures grows { Grows target.old target.new }
     {
         let mut made = Environment::new(alloc);
@@ -87,7 +89,8 @@ impl Environment {
         requires proofs { self.old.proofs ≡ [] }
         requires scope_types { self.old.scope.types ≡ [] }
         requires scope_terms { self.old.scope.terms ≡ [] }
-        ensures made { OnOk result ((given : Given) (trees : Trees) → IsPlaced given target.old trees params.now.type_vars params.now.free_vars hyps.now inside → Stands given target.new trees self.new) }
+        ensures made { OnOk result ((given : Given) (trees : Trees)
+            → IsPlaced given target.old trees params.now.type_vars params.now.free_vars hyps.now inside → Stands given target.new trees self.new) }
         ensures grows { Grows target.old target.new }
     {
         let names = params.type_vars.names();
@@ -109,7 +112,9 @@ impl Environment {
         hyps: &[TermId],
         variable: &Variable,
     ) -> Result<Environment, Memory>
-        ensures made { IfOk result (λ env. (given : Given) (trees : Trees) → IsPlaced given target.old trees params.now.type_vars params.now.free_vars hyps.now 1 → variable.now.ty.0 < length trees.types → Stands (with_scope given (set_term (variable_view trees variable.now) (Var 0) given.scope)) target.new trees env) }
+        ensures made { IfOk result (λ env. (given : Given) (trees : Trees)
+            → IsPlaced given target.old trees params.now.type_vars params.now.free_vars hyps.now 1 → variable.now.ty.0 < length trees.types
+            → Stands (with_scope given (set_term (variable_view trees variable.now) (Var 0) given.scope)) target.new trees env) }
         ensures grows { Grows target.old target.new }
     {
         let mut made = Environment::of(alloc, target, params, hyps, 1)?;
@@ -125,7 +130,9 @@ impl Environment {
         hyps: &[TermId],
         id: TermId,
     ) -> Result<Environment, Memory>
-        ensures made { IfOk result (λ env. (given : Given) (trees : Trees) → IsPlaced given target.old trees params.now.type_vars params.now.free_vars hyps.now 1 → id.0 < length trees.terms → Stands (with_scope given (set_proof (term_at trees id.0) (Var 0) given.scope)) target.new trees env) }
+        ensures made { IfOk result (λ env. (given : Given) (trees : Trees)
+            → IsPlaced given target.old trees params.now.type_vars params.now.free_vars hyps.now 1 → id.0 < length trees.terms
+            → Stands (with_scope given (set_proof (term_at trees id.0) (Var 0) given.scope)) target.new trees env) }
         ensures grows { Grows target.old target.new }
     {
         let mut made = Environment::of(alloc, target, params, hyps, 1)?;
@@ -135,7 +142,8 @@ impl Environment {
 
     /// Lets the innermost binder stand for a variable.
     fn bind_variable(&mut self, target: &mut Module, variable: &Variable) -> Result<(), Memory>
-        ensures bound { OnOk result ((given : Given) (trees : Trees) → Stands given target.old trees self.old → variable.now.ty.0 < length trees.types → Stands (with_scope given (set_term (variable_view trees variable.now) (Var 0) given.scope)) target.new trees self.new) }
+        ensures bound { OnOk result ((given : Given) (trees : Trees) → Stands given target.old trees self.old → variable.now.ty.0 < length trees.types
+            → Stands (with_scope given (set_term (variable_view trees variable.now) (Var 0) given.scope)) target.new trees self.new) }
         ensures grows { Grows target.old target.new }
     {
         let tree = target.table.node(LpNode::Var(0))?;
@@ -145,7 +153,8 @@ impl Environment {
 
     /// Lets it prove a formula.
     fn bind_proof(&mut self, target: &mut Module, id: TermId) -> Result<(), Memory>
-        ensures bound { OnOk result ((given : Given) (trees : Trees) → Stands given target.old trees self.old → id.0 < length trees.terms → Stands (with_scope given (set_proof (term_at trees id.0) (Var 0) given.scope)) target.new trees self.new) }
+        ensures bound { OnOk result ((given : Given) (trees : Trees) → Stands given target.old trees self.old → id.0 < length trees.terms
+            → Stands (with_scope given (set_proof (term_at trees id.0) (Var 0) given.scope)) target.new trees self.new) }
         ensures grows { Grows target.old target.new }
     {
         let tree = target.table.node(LpNode::Var(0))?;
@@ -177,7 +186,8 @@ impl Environment {
         names: &[Name],
         depth: u128,
     ) -> Result<(), Memory>
-        ensures types { OnOk result ((scope : TypeScope) → TellTypes target.old.table self.old.types scope → TellTypes target.new.table self.new.types (placed name_eq depth names.now scope)) }
+        ensures types { OnOk result ((scope : TypeScope) → TellTypes target.old.table self.old.types scope
+            → TellTypes target.new.table self.new.types (placed name_eq depth names.now scope)) }
         ensures alone { OnOk result (TypesAlone self.old self.new) }
         ensures grows { Grows target.old target.new }
     {
@@ -197,7 +207,9 @@ impl Environment {
         variables: &[Variable],
         depth: u128,
     ) -> Result<(), Memory>
-        ensures terms { OnOk result ((trees : Trees) (other scope : ATerm → Tree) → type.IsDistinct trees.types → HaveTypes trees variables.now → TellTerms trees.types target.old.table self.old.terms other scope → TellTerms trees.types target.new.table self.new.terms other (placed variable_eq depth (variables_of trees variables.now) scope)) }
+        ensures terms { OnOk result ((trees : Trees) (other scope : ATerm → Tree) → type.IsDistinct trees.types → HaveTypes trees variables.now
+            → TellTerms trees.types target.old.table self.old.terms other scope
+            → TellTerms trees.types target.new.table self.new.terms other (placed variable_eq depth (variables_of trees variables.now) scope)) }
         ensures alone { OnOk result (TermsAlone self.old self.new) }
         ensures grows { Grows target.old target.new }
     {
@@ -217,7 +229,9 @@ impl Environment {
         hyps: &[TermId],
         depth: u128,
     ) -> Result<(), Memory>
-        ensures proofs { OnOk result ((trees : Trees) (other scope : Term → Tree) → IsDistinct trees.terms → AreKnown trees hyps.now → TellProofs trees target.old.table self.old.proofs other scope → TellProofs trees target.new.table self.new.proofs other (placed term_eq depth (terms_at trees hyps.now) scope)) }
+        ensures proofs { OnOk result ((trees : Trees) (other scope : Term → Tree) → IsDistinct trees.terms → AreKnown trees hyps.now
+            → TellProofs trees target.old.table self.old.proofs other scope
+            → TellProofs trees target.new.table self.new.proofs other (placed term_eq depth (terms_at trees hyps.now) scope)) }
         ensures alone { OnOk result (ProofsAlone self.old self.new) }
         ensures grows { Grows target.old target.new }
     {

@@ -77,7 +77,8 @@ pub(crate) fn close_variables(
     table: &TermTable,
 ) -> Result<Vec<ClosedType>, Memory>
     requires { HaveTypes table.now params.now.free_vars }
-    ensures { IfOk result (λ closed. map closed_type_view closed.items ≡ map (λ v. closed_type params.now.type_vars v.1) (variables_of table.now params.now.free_vars)) }
+    ensures { IfOk result (λ closed. map closed_type_view closed.items ≡ map (λ v. closed_type params.now.type_vars v.1)
+        (variables_of table.now params.now.free_vars)) }
 {
     let names = params.type_vars.names();
     let mut closed = Vec::new(alloc);
@@ -97,7 +98,8 @@ pub(crate) fn close_terms(
     requires ids { AreKnown table.now ids.now }
     requires types { HaveTypes table.now params.now.free_vars }
     requires distinct { type.IsDistinct table.now.types }
-    ensures { IfOk result (λ closed. map closed_term_view closed.items ≡ map (closed_term params.now.type_vars (variables_of table.now params.now.free_vars)) (terms_at table.now ids.now)) }
+    ensures { IfOk result (λ closed. map closed_term_view closed.items ≡ map (closed_term params.now.type_vars (variables_of table.now params.now.free_vars))
+        (terms_at table.now ids.now)) }
 {
     let mut closed = Vec::new(alloc);
     for id in ids {
@@ -116,7 +118,8 @@ pub(crate) fn close_term(
     requires id { id.0 < length table.now.terms }
     requires types { HaveTypes table.now params.now.free_vars }
     requires distinct { type.IsDistinct table.now.types }
-    ensures { IfOk result (λ closed. closed_term_view closed ≡ closed_term params.now.type_vars (variables_of table.now params.now.free_vars) (term_at table.now id.0)) }
+    ensures { IfOk result (λ closed. closed_term_view closed ≡ closed_term params.now.type_vars (variables_of table.now params.now.free_vars)
+        (term_at table.now id.0)) }
 {
     let mut tasks = Stack::new(alloc);
     let mut nodes = Vec::new(alloc);
@@ -139,7 +142,9 @@ fn visit(
     requires id { id.0 < length table.now.terms }
     requires types { HaveTypes table.now params.now.free_vars }
     requires distinct { type.IsDistinct table.now.types }
-    ensures walk { OnOk result ((root : AClosedTerm) → IsWalk table.now params.now.type_vars (variables_of table.now params.now.free_vars) root (id ∷ tasks.old) nodes.old.items → IsWalk table.now params.now.type_vars (variables_of table.now params.now.free_vars) root tasks.new nodes.new.items) }
+    ensures walk { OnOk result ((root : AClosedTerm)
+        → IsWalk table.now params.now.type_vars (variables_of table.now params.now.free_vars) root (id ∷ tasks.old) nodes.old.items
+        → IsWalk table.now params.now.type_vars (variables_of table.now params.now.free_vars) root tasks.new nodes.new.items) }
     ensures less { OnOk result (work table.now tasks.new < work table.now (id ∷ tasks.old)) }
 {
     match table.view(id) {
@@ -195,7 +200,8 @@ fn visit_type(
     nodes: &mut Vec<TypeNode>,
 ) -> Result<(), Memory>
     requires { id.0 < length types.now }
-    ensures walk { OnOk result ((root : AClosedType) → IsTypeWalk types.now names.now root (id ∷ tasks.old) nodes.old.items → IsTypeWalk types.now names.now root tasks.new nodes.new.items) }
+    ensures walk { OnOk result ((root : AClosedType) → IsTypeWalk types.now names.now root (id ∷ tasks.old) nodes.old.items
+        → IsTypeWalk types.now names.now root tasks.new nodes.new.items) }
     ensures less { OnOk result (type_work types.now tasks.new < type_work types.now (id ∷ tasks.old)) }
 {
     match types.view(id) {

@@ -54,7 +54,8 @@ impl Hyps {
     /// These numbers, each where it occurs first.
     pub fn of(alloc: Global, ids: &[TermId]) -> Result<Hyps, Memory>
         ensures numbers { IfOk result (λ hyps. hyps ≡ distinct same_id ids.now) }
-        ensures terms { IfOk result (λ hyps. (trees : Trees) → HasOneOfEach trees.terms → AreKnown trees ids.now → hyps_at trees hyps ≡ distinct term_eq (hyps_at trees ids.now)) }
+        ensures terms { IfOk result (λ hyps. (trees : Trees) → HasOneOfEach trees.terms → AreKnown trees ids.now
+            → hyps_at trees hyps ≡ distinct term_eq (hyps_at trees ids.now)) }
         ensures known { IfOk result (λ hyps. (trees : Trees) → AreKnown trees ids.now → AreKnown trees hyps) }
     {
         let list = Ids::of(alloc, ids)?;
@@ -77,7 +78,8 @@ impl Hyps {
     /// These numbers, each where it occurs first: in the same list where they are this one's.
     pub fn again(&self, alloc: Global, ids: &[TermId]) -> Result<Hyps, Memory>
         ensures numbers { IfOk result (λ hyps. hyps ≡ distinct same_id ids.now) }
-        ensures terms { IfOk result (λ hyps. (trees : Trees) → HasOneOfEach trees.terms → AreKnown trees ids.now → hyps_at trees hyps ≡ distinct term_eq (hyps_at trees ids.now)) }
+        ensures terms { IfOk result (λ hyps. (trees : Trees) → HasOneOfEach trees.terms → AreKnown trees ids.now
+            → hyps_at trees hyps ≡ distinct term_eq (hyps_at trees ids.now)) }
         ensures known { IfOk result (λ hyps. (trees : Trees) → AreKnown trees ids.now → AreKnown trees hyps) }
     {
         if self.ids() == ids {

@@ -29,9 +29,9 @@ mod hyps;
 mod ids;
 mod params;
 
-use common::Memory;
 pub use closed::{Closed, ClosedTerm, ClosedType, TermNode, TypeNode};
 use closed::{close_term, close_terms, close_variables};
+use common::Memory;
 use hol_term::{TermId, TermTable};
 pub use hyps::Hyps;
 pub use params::{Params, Variables};
@@ -48,7 +48,8 @@ impl Sequent {
     /// The hypotheses `a`, followed by what is new of `b` (HOL Light's kernel, `term_union`).
     pub fn union(alloc: Global, a: &Hyps, b: &Hyps) -> Result<Hyps, Memory>
         ensures numbers { IfOk result (λ hyps. hyps ≡ united same_id a.now b.now) }
-        ensures terms { IfOk result (λ hyps. (trees : Trees) → IsDistinct trees.terms → AreKnown trees a.now → AreKnown trees b.now → hyps_at trees hyps ≡ united term_eq (hyps_at trees a.now) (hyps_at trees b.now)) }
+        ensures terms { IfOk result (λ hyps. (trees : Trees) → IsDistinct trees.terms → AreKnown trees a.now → AreKnown trees b.now
+            → hyps_at trees hyps ≡ united term_eq (hyps_at trees a.now) (hyps_at trees b.now)) }
         ensures known { IfOk result (λ hyps. (trees : Trees) → AreKnown trees a.now → AreKnown trees b.now → AreKnown trees hyps) }
     {
         a.united(alloc, b)
@@ -57,7 +58,8 @@ impl Sequent {
     /// The hypotheses `a` without `p`; the rest keeps its order (HOL Light's kernel, `term_remove`).
     pub fn without(alloc: Global, a: &Hyps, p: TermId) -> Result<Hyps, Memory>
         ensures numbers { IfOk result (λ hyps. hyps ≡ all_but same_id a.now p) }
-        ensures terms { IfOk result (λ hyps. (trees : Trees) → IsDistinct trees.terms → AreKnown trees a.now → p.0 < length trees.terms → hyps_at trees hyps ≡ all_but term_eq (hyps_at trees a.now) (term_at trees p.0)) }
+        ensures terms { IfOk result (λ hyps. (trees : Trees) → IsDistinct trees.terms → AreKnown trees a.now → p.0 < length trees.terms
+            → hyps_at trees hyps ≡ all_but term_eq (hyps_at trees a.now) (term_at trees p.0)) }
         ensures known { IfOk result (λ hyps. (trees : Trees) → AreKnown trees a.now → AreKnown trees hyps) }
     {
         a.without(alloc, p)
@@ -65,14 +67,16 @@ impl Sequent {
 
     /// Whether the hypotheses are equal as sets and the conclusions are equal. It takes no memory.
     pub fn same(a: &Sequent, b: &Sequent) -> bool
-        ensures { (trees : Trees) → IsDistinct trees.terms → IsKnown trees a.now → IsKnown trees b.now → result ≡ is_same (sequent_at trees a.now) (sequent_at trees b.now) }
+        ensures { (trees : Trees) → IsDistinct trees.terms → IsKnown trees a.now → IsKnown trees b.now
+            → result ≡ is_same (sequent_at trees a.now) (sequent_at trees b.now) }
     {
         Sequent::within(a, b) && Sequent::within(b, a)
     }
 
     /// Whether the hypotheses of `a` are among those of `b` and the conclusions are equal. It takes no memory.
     pub fn within(a: &Sequent, b: &Sequent) -> bool
-        ensures { (trees : Trees) → IsDistinct trees.terms → IsKnown trees a.now → IsKnown trees b.now → result ≡ is_within (sequent_at trees a.now) (sequent_at trees b.now) }
+        ensures { (trees : Trees) → IsDistinct trees.terms → IsKnown trees a.now → IsKnown trees b.now
+            → result ≡ is_within (sequent_at trees a.now) (sequent_at trees b.now) }
     {
         a.hyps.are_among(&b.hyps) && a.concl == b.concl
     }

@@ -51,7 +51,8 @@ impl Params {
     pub(crate) fn visit(&mut self, table: &TermTable, id: TermId) -> Result<(), Memory>
         requires { id.0 < length table.now.terms }
         ensures type_vars { OnOk result (self.new.type_vars ≡ union name_eq self.old.type_vars (type_variable_places (term_at table.now id.0))) }
-        ensures free_vars { OnOk result (HaveTypes table.now self.old.free_vars → variables_of table.now self.new.free_vars ≡ union variable_eq (variables_of table.now self.old.free_vars) (free_places (term_at table.now id.0))) }
+        ensures free_vars { OnOk result (HaveTypes table.now self.old.free_vars
+            → variables_of table.now self.new.free_vars ≡ union variable_eq (variables_of table.now self.old.free_vars) (free_places (term_at table.now id.0))) }
         ensures known { OnOk result (HaveTypes table.now self.old.free_vars → HaveTypes table.now self.new.free_vars) }
         ensures one_each { OnOk result (type.IsDistinct table.now.types) }
     {

@@ -40,7 +40,8 @@ fn made_body(made: &[LpId], body: Option<LpId>) -> Option<LpId>
 // The declaration over what was made of its trees.
 fn kept(alloc: Global, decl: &Decl, made: &[LpId]) -> Result<Decl, Memory>
     requires { IsBelow (length made.now) decl.now }
-    ensures { IfOk result (λ d. (place : ℕ → ℕ) (source target : List Tree) → AreMade place source target made.now → IsMadeOf target (moved_declaration place (declaration_in source decl.now)) d) }
+    ensures { IfOk result (λ d. (place : ℕ → ℕ) (source target : List Tree) → AreMade place source target made.now
+        → IsMadeOf target (moved_declaration place (declaration_in source decl.now)) d) }
 {
     let name = copied(alloc, decl.name.as_bytes())?;
     Ok(Decl {
@@ -61,7 +62,8 @@ fn abbreviated(
 ) -> Result<Decl, Memory>
     requires body { body.0 < length made.now }
     requires ty { ty.0 < length made.now }
-    ensures { IfOk result (λ d. (place : ℕ → ℕ) (source target : List Tree) → AreMade place source target made.now → IsMadeOf target (abbreviation_of place source body ty number) d) }
+    ensures { IfOk result (λ d. (place : ℕ → ℕ) (source target : List Tree) → AreMade place source target made.now
+        → IsMadeOf target (abbreviation_of place source body ty number) d) }
 {
     let name = short_name(alloc, number)?;
     Ok(Decl {
@@ -82,7 +84,8 @@ fn declared(
 ) -> Result<Decl, Memory>
     requires below { AreBelow (length made.now) source.now.decls }
     requires listed { IsListed (length source.now.decls) (length made.now) (length made.now) entry }
-    ensures { IfOk result (λ d. (place : ℕ → ℕ) (target : List Tree) → AreMade place source.now.table target made.now → IsMadeOf target (declaration_of place number (entry_in (declarations_of source.now) source.now.table entry)) d) }
+    ensures { IfOk result (λ d. (place : ℕ → ℕ) (target : List Tree) → AreMade place source.now.table target made.now
+        → IsMadeOf target (declaration_of place number (entry_in (declarations_of source.now) source.now.table entry)) d) }
 {
     match entry {
         Listed::Kept(i) => kept(alloc, source.decls.get(i), made),
@@ -102,10 +105,13 @@ fn declare_one(
     requires below { AreBelow (length made.now) source.now.decls }
     requires listed { IsListed (length source.now.decls) (length made.now) (length made.now) entry }
     requires held { IsHeld target.old }
-    requires follows { (place : ℕ → ℕ) × AreMade place source.now.table target.old.table made.now × MayFollow (signature ++ declarations_of target.old) (declaration_of place number (entry_in (declarations_of source.now) source.now.table entry)) }
+    requires follows { (place : ℕ → ℕ) × AreMade place source.now.table target.old.table made.now
+        × MayFollow (signature ++ declarations_of target.old) (declaration_of place number (entry_in (declarations_of source.now) source.now.table entry)) }
     ensures table { target.new.table ≡ target.old.table }
     ensures held { OnOk result (IsHeld target.new) }
-    ensures declared { OnOk result ((place : ℕ → ℕ) → AreMade place source.now.table target.old.table made.now → declarations_of target.new ≡ declarations_of target.old ++ declaration_of place number (entry_in (declarations_of source.now) source.now.table entry) ∷ []) }
+    ensures declared { OnOk result ((place : ℕ → ℕ) → AreMade place source.now.table target.old.table made.now
+        → declarations_of target.new ≡ declarations_of target.old ++ declaration_of place number
+        (entry_in (declarations_of source.now) source.now.table entry) ∷ []) }
 {
     let decl = declared(alloc, source, made, entry, number)?;
     target.push(decl)
@@ -134,9 +140,12 @@ pub(crate) fn declare(
     requires below { AreBelow (length made.now) source.now.decls }
     requires listed { AreListed (length source.now.decls) (length made.now) (length made.now) entries.now }
     requires held { IsHeld target.old }
-    requires follow { (place : ℕ → ℕ) × AreMade place source.now.table target.old.table made.now × AreDeclared (signature ++ declarations_of target.old) (declarations place 0 (entries_in (declarations_of source.now) source.now.table entries.now)) }
+    requires follow { (place : ℕ → ℕ) × AreMade place source.now.table target.old.table made.now
+        × AreDeclared (signature ++ declarations_of target.old) (declarations place 0 (entries_in (declarations_of source.now) source.now.table entries.now)) }
     ensures held { OnOk result (IsHeld target.new) }
-    ensures declared { OnOk result ((place : ℕ → ℕ) → AreMade place source.now.table target.old.table made.now → declarations_of target.new ≡ declarations_of target.old ++ declarations place 0 (entries_in (declarations_of source.now) source.now.table entries.now)) }
+    ensures declared { OnOk result ((place : ℕ → ℕ) → AreMade place source.now.table target.old.table made.now
+        → declarations_of target.new ≡ declarations_of target.old ++ declarations place 0
+        (entries_in (declarations_of source.now) source.now.table entries.now)) }
 {
     let mut number = 0;
     for i in 0..entries.len() {

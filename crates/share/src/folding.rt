@@ -81,8 +81,10 @@ fn list(source: &mut Module, folding: &mut Folding) -> Result<(), Memory>
     ensures keeps { Keeps source.old.table source.new.table }
     ensures below { OnOk result (AreBelow (length folding.new.counts.items) source.new.decls) }
     ensures within { OnOk result (length folding.new.counts.items ≤ length source.new.table) }
-    ensures known { OnOk result (AreListed (length source.new.decls) (length folding.new.counts.items) (length source.new.table) folding.new.listing.entries.items) }
-    ensures listed { OnOk result (entries_in (declarations_of source.old) source.new.table folding.new.listing.entries.items ≡ entries_of (declarations_of source.old)) }
+    ensures known { OnOk result (AreListed (length source.new.decls) (length folding.new.counts.items)
+        (length source.new.table) folding.new.listing.entries.items) }
+    ensures listed { OnOk result (entries_in (declarations_of source.old) source.new.table folding.new.listing.entries.items ≡ entries_of
+        (declarations_of source.old)) }
     ensures places { folding.new.places ≡ folding.old.places }
     ensures made { folding.new.made ≡ folding.old.made }
 {

@@ -46,7 +46,8 @@ pub(crate) fn visit(table: &LpTable, id: LpId, meeting: &mut Meeting) -> Result<
 fn take(table: &LpTable, turn: Turn, meeting: &mut Meeting) -> Result<(), Memory>
     requires meeting { IsMeeting table.now meeting.old.met.items meeting.old.order.items }
     requires below { AreTurnsBelow (length meeting.old.met.items) (turn ∷ meeting.old.turns) }
-    ensures order { OnOk result (unwound table.now meeting.new.turns (trees_at table.now meeting.new.order.items) ≡ unwound table.now (turn ∷ meeting.old.turns) (trees_at table.now meeting.old.order.items)) }
+    ensures order { OnOk result (unwound table.now meeting.new.turns (trees_at table.now meeting.new.order.items) ≡ unwound table.now
+        (turn ∷ meeting.old.turns) (trees_at table.now meeting.old.order.items)) }
     ensures meeting { OnOk result (IsMeeting table.now meeting.new.met.items meeting.new.order.items) }
     ensures below { OnOk result (AreTurnsBelow (length meeting.new.met.items) meeting.new.turns) }
     ensures length { OnOk result (length meeting.new.met.items ≡ length meeting.old.met.items) }

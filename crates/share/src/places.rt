@@ -83,7 +83,8 @@ fn hand_down(table: &LpTable, counts: &mut [u8])
     requires { length counts.old ≤ length table.now }
     ensures length { length counts.new ≡ length counts.old }
     ensures lower { AreLower table.now (length counts.old) }
-    ensures handed { IsDistinct table.now → (c : Tree → ℕ) → Agrees table.now counts.old c → Agrees table.now counts.new (passed (down table.now (length counts.old)) c) }
+    ensures handed { IsDistinct table.now → (c : Tree → ℕ) → Agrees table.now counts.old c
+        → Agrees table.now counts.new (passed (down table.now (length counts.old)) c) }
 {
     let mut left = counts.len();
     while left > 0 {
@@ -98,7 +99,8 @@ fn hand_parts(table: &LpTable, id: LpId, counts: &mut [u8])
     requires within { length counts.old ≤ length table.now }
     ensures length { length counts.new ≡ length counts.old }
     ensures lower { IsLower table.now id.0 }
-    ensures handed { IsDistinct table.now → (c : Tree → ℕ) → Agrees table.now counts.old c → Agrees table.now counts.new (handed (direct (tree_at table.now id.0)) (c (tree_at table.now id.0)) c) }
+    ensures handed { IsDistinct table.now → (c : Tree → ℕ) → Agrees table.now counts.old c
+        → Agrees table.now counts.new (handed (direct (tree_at table.now id.0)) (c (tree_at table.now id.0)) c) }
 {
     if let Some((first, second)) = two_parts(table.view(id)) {
         let count = counts[id.0];

@@ -56,7 +56,8 @@ fn turn(source: &mut Module, answers: &Answers, question: LpId) -> Result<Turn, 
     requires question { IsQuestion (declarations_of source.old) source.old.table question }
     ensures decls { source.new.decls ≡ source.old.decls }
     ensures keeps { Keeps source.old.table source.new.table }
-    ensures turn { IfOk result (λ turn. Turns (declarations_of source.old) source.new.table turn (answer (declarations_of source.old) (tree_at source.old.table question.0))) }
+    ensures turn { IfOk result (λ turn. Turns (declarations_of source.old) source.new.table turn
+        (answer (declarations_of source.old) (tree_at source.old.table question.0))) }
 {
     match source.table.view(question) {
         LpNode::Pi(context, tree) => term_turn(&mut source.table, answers, context, tree),
@@ -72,7 +73,8 @@ fn turn(source: &mut Module, answers: &Answers, question: LpId) -> Result<Turn, 
 
 // The question on top of those that wait, or else this one.
 fn next(waiting: &mut Stack<LpId>, question: LpId) -> LpId
-    ensures { (m : List Declaration) (trees : List Tree) → IsQuestion m trees question → AreQuestions m trees waiting.old → IsQuestion m trees result × AreQuestions m trees waiting.new }
+    ensures { (m : List Declaration) (trees : List Tree) → IsQuestion m trees question → AreQuestions m trees waiting.old
+        → IsQuestion m trees result × AreQuestions m trees waiting.new }
 {
     match waiting.pop() {
         Some(top) => top,

@@ -22,7 +22,8 @@ use std::alloc::Global;
 /// The list of types at a depth of the stack.
 fn types_on(alloc: Global, store: &Store, stack: &Stack, depth: usize) -> Result<Vec<TypeId>, Fault>
     requires { AreKnown store.now stack.now }
-    ensures { Operand store.now as_types (λ ids. types_at store.now.trees.types ids.items) (λ ids. AreTypes store.now.trees.types ids.items) stack.now depth result }
+    ensures { Operand store.now as_types (λ ids. types_at store.now.trees.types ids.items)
+        (λ ids. AreTypes store.now.trees.types ids.items) stack.now depth result }
 {
     let list = list_on(stack, depth)?;
     store.types_in(alloc, list)

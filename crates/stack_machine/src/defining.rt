@@ -64,7 +64,8 @@ impl Store {
     pub(crate) fn define_const(&mut self, name: NameId, t: TermId) -> Result<StepId, Fault>
         requires name { IsName self.old name.0 }
         requires term { IsTerm self.old t.0 }
-        ensures { Infers self.old (defining (Symbol.defined (Definition.constant (name_at self.old name.0) (term_at self.old.trees t.0)) ∷ []) (define_const_step self.old.run.made (name_at self.old name.0) (term_at self.old.trees t.0))) self.new result }
+        ensures { Infers self.old (defining (Symbol.defined (Definition.constant (name_at self.old name.0) (term_at self.old.trees t.0)) ∷ [])
+            (define_const_step self.old.run.made (name_at self.old name.0) (term_at self.old.trees t.0))) self.new result }
     {
         let own = self.name(name)?;
         self.define_const_as(&own, t)
@@ -73,7 +74,8 @@ impl Store {
     // The same by a name.
     fn define_const_as(&mut self, name: &Name, t: TermId) -> Result<StepId, Fault>
         requires { IsTerm self.old t.0 }
-        ensures { Infers self.old (defining (Symbol.defined (Definition.constant name.now (term_at self.old.trees t.0)) ∷ []) (define_const_step self.old.run.made name.now (term_at self.old.trees t.0))) self.new result }
+        ensures { Infers self.old (defining (Symbol.defined (Definition.constant name.now (term_at self.old.trees t.0)) ∷ [])
+            (define_const_step self.old.run.made name.now (term_at self.old.trees t.0))) self.new result }
     {
         self.proof.define_const(name, t)
     }
@@ -86,7 +88,9 @@ impl Store {
     ) -> Result<StepId, Fault>
         requires pairs { AreConstantPairsKnown self.old.trees pairs.now }
         requires one { IsStep self.old one }
-        ensures { Infers self.old (defining (map Symbol.defined (definitions_in (constant_pairs_at self.old.trees pairs.now) (sequent_at self.old.run.made one).hypotheses)) (define_const_list_step self.old.run.made (constant_pairs_at self.old.trees pairs.now) one)) self.new result }
+        ensures { Infers self.old (defining
+            (map Symbol.defined (definitions_in (constant_pairs_at self.old.trees pairs.now) (sequent_at self.old.run.made one).hypotheses))
+            (define_const_list_step self.old.run.made (constant_pairs_at self.old.trees pairs.now) one)) self.new result }
     {
         self.proof.define_const_list(pairs, one)
     }
@@ -105,7 +109,9 @@ impl Store {
         requires abs { IsName self.old abs.0 }
         requires rep { IsName self.old rep.0 }
         requires one { IsStep self.old one }
-        ensures { InfersTwo self.old (defining_type (type_laws version self.old.run.made (named (name_at self.old op.0) (name_at self.old abs.0) (name_at self.old rep.0) names.now) one)) self.new result }
+        ensures { InfersTwo self.old (defining_type
+            (type_laws version self.old.run.made
+            (named (name_at self.old op.0) (name_at self.old abs.0) (name_at self.old rep.0) names.now) one)) self.new result }
     {
         let op = self.name(op)?;
         let abs = self.name(abs)?;

@@ -36,7 +36,8 @@ fn constant_pairs_on(
     depth: usize,
 ) -> Result<Vec<(Name, Variable)>, Fault>
     requires { AreKnown store.now stack.now }
-    ensures { Operand store.now as_constant_pairs (λ pairs. constant_pairs_at store.now.trees pairs.items) (λ pairs. AreConstantPairsKnown store.now.trees pairs.items) stack.now depth result }
+    ensures { Operand store.now as_constant_pairs (λ pairs. constant_pairs_at store.now.trees pairs.items)
+        (λ pairs. AreConstantPairsKnown store.now.trees pairs.items) stack.now depth result }
 {
     let list = list_on(stack, depth)?;
     store.constant_pairs_in(alloc, list)

@@ -53,7 +53,8 @@ pub(crate) fn make_operator(
     ensures known { IfOk result (λ id. id.0 < length proof.new.trees.types) }
     ensures made { IfOk result (λ id. type_at proof.new.trees id.0 ≡ operator name.now (types_of (types_at proof.old.trees.types args.now))) }
     ensures fits { OnOk result (operator_fits (symbols_of proof.old.made) name.now (types_at proof.old.trees.types args.now) ≡ Ok tt) }
-    ensures takes { OnOk result (proof.new.made ≡ proof.old.made ++ map Made.symbol (new_operator (symbols_of proof.old.made) name.now (length (types_at proof.old.trees.types args.now)))) }
+    ensures takes { OnOk result (proof.new.made ≡ proof.old.made ++ map Made.symbol
+        (new_operator (symbols_of proof.old.made) name.now (length (types_at proof.old.trees.types args.now)))) }
     ensures refused { IfErr result (λ fault. Fails fault (operator_fits (symbols_of proof.old.made) name.now (types_at proof.old.trees.types args.now))) }
     ensures unchanged { OnErr result (proof.new.made ≡ proof.old.made) }
     ensures keeps { Keeps proof.old.trees proof.new.trees }
@@ -72,7 +73,8 @@ fn own_operator(proof: &mut Proof, name: &Name, args: &[TypeId]) -> Result<TypeI
     ensures known { IfOk result (λ id. id.0 < length proof.new.trees.types) }
     ensures made { IfOk result (λ id. type_at proof.new.trees id.0 ≡ operator name.now (types_of (types_at proof.old.trees.types args.now))) }
     ensures fits { OnOk result (operator_fits (symbols_of proof.old.made) name.now (types_at proof.old.trees.types args.now) ≡ Ok tt) }
-    ensures takes { OnOk result (proof.new.made ≡ proof.old.made ++ map Made.symbol (new_operator (symbols_of proof.old.made) name.now (length (types_at proof.old.trees.types args.now)))) }
+    ensures takes { OnOk result (proof.new.made ≡ proof.old.made ++ map Made.symbol
+        (new_operator (symbols_of proof.old.made) name.now (length (types_at proof.old.trees.types args.now)))) }
     ensures refused { IfErr result (λ fault. Fails fault (operator_fits (symbols_of proof.old.made) name.now (types_at proof.old.trees.types args.now))) }
     ensures unchanged { OnErr result (proof.new.made ≡ proof.old.made) }
     ensures keeps { Keeps proof.old.trees proof.new.trees }
@@ -89,7 +91,8 @@ fn input_operator(proof: &mut Proof, name: &Name, args: &[TypeId]) -> Result<Typ
     ensures known { IfOk result (λ id. id.0 < length proof.new.trees.types) }
     ensures made { IfOk result (λ id. type_at proof.new.trees id.0 ≡ operator name.now (types_of (types_at proof.old.trees.types args.now))) }
     ensures fits { OnOk result (operator_fits (symbols_of proof.old.made) name.now (types_at proof.old.trees.types args.now) ≡ Ok tt) }
-    ensures takes { OnOk result (proof.new.made ≡ proof.old.made ++ map Made.symbol (new_operator (symbols_of proof.old.made) name.now (length (types_at proof.old.trees.types args.now)))) }
+    ensures takes { OnOk result (proof.new.made ≡ proof.old.made ++ map Made.symbol
+        (new_operator (symbols_of proof.old.made) name.now (length (types_at proof.old.trees.types args.now)))) }
     ensures refused { IfErr result (λ fault. Fails fault (operator_fits (symbols_of proof.old.made) name.now (types_at proof.old.trees.types args.now))) }
     ensures unchanged { OnErr result (proof.new.made ≡ proof.old.made) }
     ensures keeps { Keeps proof.old.trees proof.new.trees }

@@ -78,7 +78,8 @@ impl Store {
     // A variable and a term.
     fn term_pair_in(&self, object: Object) -> Result<(Variable, TermId), Fault>
         requires { IsKnown self.now object }
-        ensures pair { IfOk result (λ p. pair_of as_variable as_term (object_view self.now object) ≡ Ok (variable_view self.now.trees p.0, term_at self.now.trees p.1.0)) }
+        ensures pair { IfOk result (λ p. pair_of as_variable as_term (object_view self.now object) ≡ Ok
+            (variable_view self.now.trees p.0, term_at self.now.trees p.1.0)) }
         ensures known { IfOk result (λ p. IsType self.now p.0.ty.0 × IsTerm self.now p.1.0) }
         ensures refused { IfErr result (λ fault. Fails fault (pair_of as_variable as_term (object_view self.now object))) }
     {

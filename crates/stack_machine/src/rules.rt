@@ -138,7 +138,9 @@ impl Store {
     pub(crate) fn subst_prepared(&mut self, put: &Put, one: StepId) -> Result<StepId, Fault>
         requires put { IsReady self.old.trees put.now }
         requires one { IsStep self.old one }
-        ensures { Infers self.old (by_step (subst_step self.old.run.made (pairs_at self.old.trees.types put.now.types.items) (term_pairs_at self.old.trees put.now.terms.items) one)) self.new result }
+        ensures { Infers self.old (by_step
+            (subst_step self.old.run.made (pairs_at self.old.trees.types put.now.types.items)
+            (term_pairs_at self.old.trees put.now.terms.items) one)) self.new result }
     {
         self.proof.subst_prepared(put, one)
     }

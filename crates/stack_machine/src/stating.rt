@@ -106,7 +106,8 @@ fn restate_into(
     requires one { one < step_count proof.old }
     requires hyps { AreTermsAt proof.old.trees hyps.now }
     requires concl { IsTermAt proof.old.trees concl.0 }
-    ensures concludes { Concludes proof.old (restate_step proof.old.made one (terms_at proof.old.trees hyps.now) (term_at proof.old.trees concl.0)) proof.new result }
+    ensures concludes { Concludes proof.old (restate_step proof.old.made one (terms_at proof.old.trees hyps.now)
+        (term_at proof.old.trees concl.0)) proof.new result }
     ensures noted { OnOk result (noted.new ≡ noted.old ++ said sequent (step_count proof.old) ∷ []) }
     ensures unchanged { OnErr result (noted.new ≡ noted.old) }
 {
@@ -143,7 +144,8 @@ impl Store {
     // The step that meets what an article assumes.
     fn known(&self, sequent: &Sequent) -> Option<StepId>
         requires { numbers.IsKnown self.now.trees sequent.now }
-        ensures first { result ≡ option_or (first_saying self.now (numbers.sequent_at self.now.trees sequent.now) self.now.run.pool) (first_saying self.now (numbers.sequent_at self.now.trees sequent.now) self.now.run.assumptions) }
+        ensures first { result ≡ option_or (first_saying self.now (numbers.sequent_at self.now.trees sequent.now) self.now.run.pool)
+            (first_saying self.now (numbers.sequent_at self.now.trees sequent.now) self.now.run.assumptions) }
         ensures step { IfSome result (λ id. IsStep self.now id) }
     {
         match self.exported(sequent) {

@@ -216,9 +216,11 @@ impl Store {
         requires ty { IsType self.old ty.0 }
         requires body { IsTerm self.old body.0 }
         ensures known { IfOk result (λ id. IsTerm self.new id.0) }
-        ensures made { IfOk result (λ id. term_at self.new.trees id.0 ≡ abstraction (name_at self.old name.0, type_at self.old.trees ty.0) (term_at self.old.trees body.0)) }
+        ensures made { IfOk result (λ id. term_at self.new.trees id.0 ≡ abstraction (name_at self.old name.0, type_at self.old.trees ty.0)
+            (term_at self.old.trees body.0)) }
         ensures fits { OnOk result (term_in_limits (abstraction (name_at self.old name.0, type_at self.old.trees ty.0) (term_at self.old.trees body.0)) ≡ Ok tt) }
-        ensures refused { IfErr result (λ fault. Fails fault (term_in_limits (abstraction (name_at self.old name.0, type_at self.old.trees ty.0) (term_at self.old.trees body.0)))) }
+        ensures refused { IfErr result (λ fault. Fails fault
+            (term_in_limits (abstraction (name_at self.old name.0, type_at self.old.trees ty.0) (term_at self.old.trees body.0)))) }
         ensures grows { Grows self.old self.new }
         ensures run { self.new.run ≡ self.old.run }
     {
@@ -250,9 +252,12 @@ impl Store {
         requires ty { IsType self.old variable.now.ty.0 }
         requires body { IsTerm self.old body.0 }
         ensures known { IfOk result (λ id. IsTerm self.new id.0) }
-        ensures made { IfOk result (λ id. term_at self.new.trees id.0 ≡ abstraction (variable.now.name, type_at self.old.trees variable.now.ty.0) (term_at self.old.trees body.0)) }
-        ensures fits { OnOk result (term_in_limits (abstraction (variable.now.name, type_at self.old.trees variable.now.ty.0) (term_at self.old.trees body.0)) ≡ Ok tt) }
-        ensures refused { IfErr result (λ fault. Fails fault (term_in_limits (abstraction (variable.now.name, type_at self.old.trees variable.now.ty.0) (term_at self.old.trees body.0)))) }
+        ensures made { IfOk result (λ id. term_at self.new.trees id.0 ≡ abstraction (variable.now.name, type_at self.old.trees variable.now.ty.0)
+            (term_at self.old.trees body.0)) }
+        ensures fits { OnOk result (term_in_limits
+            (abstraction (variable.now.name, type_at self.old.trees variable.now.ty.0) (term_at self.old.trees body.0)) ≡ Ok tt) }
+        ensures refused { IfErr result (λ fault. Fails fault
+            (term_in_limits (abstraction (variable.now.name, type_at self.old.trees variable.now.ty.0) (term_at self.old.trees body.0)))) }
         ensures grows { Grows self.old self.new }
         ensures run { self.new.run ≡ self.old.run }
     {
@@ -266,8 +271,10 @@ impl Store {
         ensures known { IfOk result (λ id. IsType self.new id.0) }
         ensures made { IfOk result (λ id. type_at self.new.trees id.0 ≡ operator (name_at self.old name.0) (types_of (types_at self.old.trees.types args.now))) }
         ensures fits { OnOk result (operator_fits (taken_symbols self.old) (name_at self.old name.0) (types_at self.old.trees.types args.now) ≡ Ok tt) }
-        ensures takes { OnOk result (self.new.run ≡ taking self.old.run (new_operator (taken_symbols self.old) (name_at self.old name.0) (length (types_at self.old.trees.types args.now)))) }
-        ensures refused { IfErr result (λ fault. Fails fault (operator_fits (taken_symbols self.old) (name_at self.old name.0) (types_at self.old.trees.types args.now))) }
+        ensures takes { OnOk result (self.new.run ≡ taking self.old.run
+            (new_operator (taken_symbols self.old) (name_at self.old name.0) (length (types_at self.old.trees.types args.now)))) }
+        ensures refused { IfErr result (λ fault. Fails fault
+            (operator_fits (taken_symbols self.old) (name_at self.old name.0) (types_at self.old.trees.types args.now))) }
         ensures unchanged { OnErr result (self.new.run ≡ self.old.run) }
         ensures grows { Grows self.old self.new }
     {

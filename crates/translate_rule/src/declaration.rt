@@ -52,7 +52,10 @@ pub fn step(
     requires symbols { id ≤ length symbols.now }
     requires held { IsHeld target.old }
     requires told { (tables : Symbols) × TellsContent (declarations_of target.old) tables (content_at symbols.now proof.now.made id) }
-    ensures made { IfOk result (λ decl. (tables : Symbols) → TellsContent (declarations_of target.old) tables (content_at symbols.now proof.now.made id) → declaration_in target.new.table decl ≡ declaration_of tables (name_of_step (record { made = proof.now.made; assumptions = assumptions.now; exports = exports.now }) id (step_at proof.now.made id).kind) (content_at symbols.now proof.now.made id)) }
+    ensures made { IfOk result (λ decl. (tables : Symbols) → TellsContent (declarations_of target.old) tables (content_at symbols.now proof.now.made id)
+        → declaration_in target.new.table decl ≡ declaration_of tables
+        (name_of_step (record { made = proof.now.made; assumptions = assumptions.now; exports = exports.now }) id (step_at proof.now.made id).kind)
+        (content_at symbols.now proof.now.made id)) }
     ensures known { IfOk result (IsKnown target.new.table) }
     ensures grows { Grows target.old target.new }
 {
@@ -89,7 +92,10 @@ pub(crate) fn step_with(
     requires symbols { id ≤ length symbols.now }
     requires held { IsHeld target.old }
     requires told { (tables : Symbols) × TellsContent (declarations_of target.old) tables (content_at symbols.now proof.now.made id) }
-    ensures made { IfOk result (λ decl. (tables : Symbols) → TellsContent (declarations_of target.old) tables (content_at symbols.now proof.now.made id) → declaration_in target.new.table decl ≡ declaration_of tables (name_of_step (record { made = proof.now.made; assumptions = assumptions.now; exports = exports.now }) id (step_at proof.now.made id).kind) (content_at symbols.now proof.now.made id)) }
+    ensures made { IfOk result (λ decl. (tables : Symbols) → TellsContent (declarations_of target.old) tables (content_at symbols.now proof.now.made id)
+        → declaration_in target.new.table decl ≡ declaration_of tables
+        (name_of_step (record { made = proof.now.made; assumptions = assumptions.now; exports = exports.now }) id (step_at proof.now.made id).kind)
+        (content_at symbols.now proof.now.made id)) }
     ensures known { IfOk result (IsKnown target.new.table) }
     ensures grows { Grows target.old target.new }
 {
@@ -122,7 +128,9 @@ fn stated(
     requires params { AreParams proof.now id params.now.type_vars params.now.free_vars }
     requires held { IsHeld target.old }
     requires told { (tables : Symbols) × TellsContent (declarations_of target.old) tables (content_at symbols.now proof.now.made id) }
-    ensures made { IfOk result (λ r. (tables : Symbols) (name : List ℕ) → TellsContent (declarations_of target.old) tables (content_at symbols.now proof.now.made id) → named_in target.new.table name r ≡ declaration_of tables name (content_at symbols.now proof.now.made id)) }
+    ensures made { IfOk result (λ r. (tables : Symbols) (name : List ℕ)
+        → TellsContent (declarations_of target.old) tables (content_at symbols.now proof.now.made id)
+        → named_in target.new.table name r ≡ declaration_of tables name (content_at symbols.now proof.now.made id)) }
     ensures known { IfOk result (IsUnnamedKnown target.new.table) }
     ensures grows { Grows target.old target.new }
 {
@@ -147,8 +155,13 @@ fn stated_in_environment(
     requires id { id < step_count proof.now }
     requires symbols { id ≤ length symbols.now }
     requires params { AreParams proof.now id params.now.type_vars params.now.free_vars }
-    requires told { (tables : Symbols) × Stands (given_at (declarations_of target.old) tables (sequent_at proof.now.made id)) target.old proof.now.trees env.old × TellsContent (declarations_of target.old) tables (content_at symbols.now proof.now.made id) }
-    ensures made { IfOk result (λ r. (tables : Symbols) (name : List ℕ) → Stands (given_at (declarations_of target.old) tables (sequent_at proof.now.made id)) target.old proof.now.trees env.old → TellsContent (declarations_of target.old) tables (content_at symbols.now proof.now.made id) → named_in target.new.table name r ≡ declaration_of tables name (content_at symbols.now proof.now.made id)) }
+    requires told { (tables : Symbols)
+        × Stands (given_at (declarations_of target.old) tables (sequent_at proof.now.made id)) target.old proof.now.trees env.old
+        × TellsContent (declarations_of target.old) tables (content_at symbols.now proof.now.made id) }
+    ensures made { IfOk result (λ r. (tables : Symbols) (name : List ℕ)
+        → Stands (given_at (declarations_of target.old) tables (sequent_at proof.now.made id)) target.old proof.now.trees env.old
+        → TellsContent (declarations_of target.old) tables (content_at symbols.now proof.now.made id)
+        → named_in target.new.table name r ≡ declaration_of tables name (content_at symbols.now proof.now.made id)) }
     ensures known { IfOk result (IsUnnamedKnown target.new.table) }
     ensures grows { Grows target.old target.new }
 {

@@ -74,7 +74,9 @@ pub(crate) fn declaration(
     requires exports { IsRising exports.now }
     requires held { IsHeld target.old }
     requires told { (tables : Tables) × TellsContent (declarations_of target.old) tables (item_content proof.now numbers.now item) }
-    ensures made { IfOk result (λ decl. (tables : Tables) → TellsContent (declarations_of target.old) tables (item_content proof.now numbers.now item.entry) → declaration_in target.new.table decl ≡ declaration_of tables (item_name (run_of proof.now assumptions.now exports.now) item.entry) (item_content proof.now numbers.now item.entry)) }
+    ensures made { IfOk result (λ decl. (tables : Tables) → TellsContent (declarations_of target.old) tables (item_content proof.now numbers.now item.entry)
+        → declaration_in target.new.table decl ≡ declaration_of tables (item_name (run_of proof.now assumptions.now exports.now) item.entry)
+        (item_content proof.now numbers.now item.entry)) }
     ensures known { IfOk result (IsKnown target.new.table) }
     ensures grows { Grows target.old target.new }
     ensures kept { AreKept proof.now kept.new }
@@ -108,7 +110,8 @@ pub(crate) fn declaration(
 
 // An input constant.
 fn input_constant(alloc: Global, target: &mut Module, name: &Name) -> Result<Decl, Memory>
-    ensures made { IfOk result (λ decl. (tables : Tables) → declaration_in target.new.table decl ≡ declaration_of tables (name_of_input_constant name.now) (Content.constant name.now generic)) }
+    ensures made { IfOk result (λ decl. (tables : Tables)
+        → declaration_in target.new.table decl ≡ declaration_of tables (name_of_input_constant name.now) (Content.constant name.now generic)) }
     ensures known { IfOk result (IsKnown target.new.table) }
     ensures grows { Grows target.old target.new }
 {
@@ -119,7 +122,8 @@ fn input_constant(alloc: Global, target: &mut Module, name: &Name) -> Result<Dec
 
 // An operator with so many arguments.
 fn operator(target: &mut Module, text: Vec<u8>, arity: usize) -> Result<Decl, Memory>
-    ensures made { IfOk result (λ decl. (tables : Tables) (n : List (List ℕ)) → declaration_in target.new.table decl ≡ declaration_of tables text.items (Content.operator n arity)) }
+    ensures made { IfOk result (λ decl. (tables : Tables) (n : List (List ℕ))
+        → declaration_in target.new.table decl ≡ declaration_of tables text.items (Content.operator n arity)) }
     ensures known { IfOk result (IsKnown target.new.table) }
     ensures grows { Grows target.old target.new }
 {
@@ -139,8 +143,12 @@ fn constant(
     requires term { term.0 < length table.now.terms }
     requires id { id.0 < length table.now.types }
     requires held { IsHeld target.old }
-    requires told { (tables : Tables) × TellsType (declarations_of target.old) tables (type_at table.now id.0) × TellsTerm (declarations_of target.old) tables (term_at table.now term.0) }
-    ensures made { IfOk result (λ decl. (tables : Tables) → TellsType (declarations_of target.old) tables (type_at table.now id.0) → TellsTerm (declarations_of target.old) tables (term_at table.now term.0) → declaration_in target.new.table decl ≡ declaration_of tables (name_of_constant name.now) (Content.defined_constant name.now (type_at table.now id.0) (term_at table.now term.0))) }
+    requires told { (tables : Tables) × TellsType (declarations_of target.old) tables (type_at table.now id.0)
+        × TellsTerm (declarations_of target.old) tables (term_at table.now term.0) }
+    ensures made { IfOk result (λ decl. (tables : Tables) → TellsType (declarations_of target.old) tables (type_at table.now id.0)
+        → TellsTerm (declarations_of target.old) tables (term_at table.now term.0)
+        → declaration_in target.new.table decl ≡ declaration_of tables (name_of_constant name.now)
+        (Content.defined_constant name.now (type_at table.now id.0) (term_at table.now term.0))) }
     ensures known { IfOk result (IsKnown target.new.table) }
     ensures grows { Grows target.old target.new }
 {
@@ -177,7 +185,8 @@ pub(crate) fn constant_type(
     requires id { id.0 < length types.now }
     requires held { IsHeld target.old }
     requires told { (tables : Tables) × TellsType (declarations_of target.old) tables (type.tree_at types.now id.0) }
-    ensures made { IfOk result (λ r. (tables : Tables) → TellsType (declarations_of target.old) tables (type.tree_at types.now id.0) → Holds target.new.table r.0 (generic_tree tables (type.tree_at types.now id.0))) }
+    ensures made { IfOk result (λ r. (tables : Tables) → TellsType (declarations_of target.old) tables (type.tree_at types.now id.0)
+        → Holds target.new.table r.0 (generic_tree tables (type.tree_at types.now id.0))) }
     ensures known { IfOk result (λ r. r.0 < length target.new.table) }
     ensures grows { Grows target.old target.new }
 {
@@ -200,7 +209,8 @@ fn definition(
     requires id { id.0 < length table.now.types }
     requires held { IsHeld target.old }
     requires told { (tables : Tables) × TellsTerm (declarations_of target.old) tables (term_at table.now term.0) }
-    ensures made { IfOk result (λ r. (tables : Tables) → TellsTerm (declarations_of target.old) tables (term_at table.now term.0) → Holds target.new.table r.0 (definition_tree tables (type_at table.now id.0) (term_at table.now term.0))) }
+    ensures made { IfOk result (λ r. (tables : Tables) → TellsTerm (declarations_of target.old) tables (term_at table.now term.0)
+        → Holds target.new.table r.0 (definition_tree tables (type_at table.now id.0) (term_at table.now term.0))) }
     ensures known { IfOk result (λ r. r.0 < length target.new.table) }
     ensures grows { Grows target.old target.new }
 {

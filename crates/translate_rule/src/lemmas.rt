@@ -160,7 +160,8 @@ fn declare(
     requires ty { ty < length ids.now }
     requires body { body < length ids.now }
     requires follows { MayFollow (signature ++ declarations_of target.old) (theorem_at (trees_at target.old.table ids.now) name.now ty body) }
-    ensures declared { OnOk result (declarations_of target.new ≡ declarations_of target.old ++ theorem_at (trees_at target.old.table ids.now) name.now ty body ∷ []) }
+    ensures declared { OnOk result (declarations_of target.new ≡ declarations_of target.old ++ theorem_at
+        (trees_at target.old.table ids.now) name.now ty body ∷ []) }
     ensures table { target.new.table ≡ target.old.table }
     ensures held { IsHeld target.new }
 {

@@ -89,8 +89,11 @@ impl Making {
     ) -> Result<(), Memory>
         requires kept { AreKept proof.now self.old.kept }
         requires run { IsRun proof.now assumptions.now exports.now reached.now }
-        requires next { (earlier later : List AMade) × (y : AMade) × (proof.now.made ≡ earlier ++ y ∷ later) × IsSameKind one.now y × IsMaking (run_of proof.now assumptions.now exports.now) earlier self.old }
-        ensures making { OnOk result ((earlier later : List AMade) (y : AMade) → proof.now.made ≡ earlier ++ y ∷ later → IsSameKind one.now y → IsMaking (run_of proof.now assumptions.now exports.now) earlier self.old → IsMaking (run_of proof.now assumptions.now exports.now) (earlier ++ y ∷ []) self.new) }
+        requires next { (earlier later : List AMade) × (y : AMade) × (proof.now.made ≡ earlier ++ y ∷ later) × IsSameKind one.now y
+            × IsMaking (run_of proof.now assumptions.now exports.now) earlier self.old }
+        ensures making { OnOk result ((earlier later : List AMade) (y : AMade) → proof.now.made ≡ earlier ++ y ∷ later → IsSameKind one.now y
+            → IsMaking (run_of proof.now assumptions.now exports.now) earlier self.old
+            → IsMaking (run_of proof.now assumptions.now exports.now) (earlier ++ y ∷ []) self.new) }
         ensures kept { AreKept proof.now self.new.kept }
     {
         match one {
@@ -109,8 +112,11 @@ impl Making {
     ) -> Result<(), Memory>
         requires kept { AreKept proof.now self.old.kept }
         requires run { IsRun proof.now assumptions.now exports.now reached.now }
-        requires next { (earlier later : List AMade) × (x : AStep) × (proof.now.made ≡ earlier ++ AMade.step x ∷ later) × IsMaking (run_of proof.now assumptions.now exports.now) earlier self.old }
-        ensures making { OnOk result ((earlier later : List AMade) (x : AStep) → proof.now.made ≡ earlier ++ AMade.step x ∷ later → IsMaking (run_of proof.now assumptions.now exports.now) earlier self.old → IsMaking (run_of proof.now assumptions.now exports.now) (earlier ++ AMade.step x ∷ []) self.new) }
+        requires next { (earlier later : List AMade) × (x : AStep) × (proof.now.made ≡ earlier ++ AMade.step x ∷ later)
+            × IsMaking (run_of proof.now assumptions.now exports.now) earlier self.old }
+        ensures making { OnOk result ((earlier later : List AMade) (x : AStep) → proof.now.made ≡ earlier ++ AMade.step x ∷ later
+            → IsMaking (run_of proof.now assumptions.now exports.now) earlier self.old
+            → IsMaking (run_of proof.now assumptions.now exports.now) (earlier ++ AMade.step x ∷ []) self.new) }
         ensures kept { AreKept proof.now self.new.kept }
     {
         let id = self.numbers.len();
@@ -131,8 +137,11 @@ impl Making {
     ) -> Result<(), Memory>
         requires kept { AreKept proof.now self.old.kept }
         requires run { IsRun proof.now assumptions.now exports.now reached.now }
-        requires next { (earlier later : List AMade) × (y : AMade) × (proof.now.made ≡ earlier ++ y ∷ later) × IsNoted y one.now × IsMaking (run_of proof.now assumptions.now exports.now) earlier self.old }
-        ensures making { OnOk result ((earlier later : List AMade) (y : AMade) → proof.now.made ≡ earlier ++ y ∷ later → IsNoted y one.now → IsMaking (run_of proof.now assumptions.now exports.now) earlier self.old → IsMaking (run_of proof.now assumptions.now exports.now) (earlier ++ y ∷ []) self.new) }
+        requires next { (earlier later : List AMade) × (y : AMade) × (proof.now.made ≡ earlier ++ y ∷ later) × IsNoted y one.now
+            × IsMaking (run_of proof.now assumptions.now exports.now) earlier self.old }
+        ensures making { OnOk result ((earlier later : List AMade) (y : AMade) → proof.now.made ≡ earlier ++ y ∷ later → IsNoted y one.now
+            → IsMaking (run_of proof.now assumptions.now exports.now) earlier self.old
+            → IsMaking (run_of proof.now assumptions.now exports.now) (earlier ++ y ∷ []) self.new) }
         ensures kept { AreKept proof.now self.new.kept }
     {
         let symbols = proof.symbols();
@@ -156,8 +165,14 @@ impl Making {
         requires kept { AreKept proof.now self.old.kept }
         requires run { IsRun proof.now assumptions.now exports.now reached.now }
         requires known { IsKnownSymbol proof.now.trees (taken_of_view taken) }
-        requires next { (earlier later : List AMade) × (y : AMade) × (proof.now.made ≡ earlier ++ y ∷ later) × IsNoted y one.now × (made_symbol y ≡ Some (symbol_at proof.now.trees (taken_of_view taken))) × IsMaking (run_of proof.now assumptions.now exports.now) earlier self.old }
-        ensures counted { OnOk result ((earlier later : List AMade) (y : AMade) → proof.now.made ≡ earlier ++ y ∷ later → IsNoted y one.now → made_symbol y ≡ Some (symbol_at proof.now.trees (taken_of_view taken.entry)) → IsMaking (run_of proof.now assumptions.now exports.now) earlier self.old → AreCounted (run_of proof.now assumptions.now exports.now) (items_made (run_of proof.now assumptions.now exports.now) (earlier ++ y ∷ [])) self.new) }
+        requires next { (earlier later : List AMade) × (y : AMade) × (proof.now.made ≡ earlier ++ y ∷ later) × IsNoted y one.now
+            × (made_symbol y ≡ Some (symbol_at proof.now.trees (taken_of_view taken)))
+            × IsMaking (run_of proof.now assumptions.now exports.now) earlier self.old }
+        ensures counted { OnOk result ((earlier later : List AMade) (y : AMade) → proof.now.made ≡ earlier ++ y ∷ later → IsNoted y one.now
+            → made_symbol y ≡ Some (symbol_at proof.now.trees (taken_of_view taken.entry))
+            → IsMaking (run_of proof.now assumptions.now exports.now) earlier self.old
+            → AreCounted (run_of proof.now assumptions.now exports.now)
+            (items_made (run_of proof.now assumptions.now exports.now) (earlier ++ y ∷ [])) self.new) }
         ensures numbers { self.new.numbers ≡ self.old.numbers }
         ensures symbol { self.new.symbol ≡ self.old.symbol }
         ensures kept { AreKept proof.now self.new.kept }
@@ -210,8 +225,15 @@ impl Making {
         requires kept { AreKept proof.now self.old.kept }
         requires run { IsRun proof.now assumptions.now exports.now reached.now }
         requires known { IsKnownSymbol proof.now.trees (operator_of_view definition.view) }
-        requires next { (earlier later : List AMade) × (proof.now.made ≡ earlier ++ definition_made proof.now.trees definition.view definition.premise ∷ later) × IsMaking (run_of proof.now assumptions.now exports.now) earlier self.old }
-        ensures counted { OnOk result ((earlier later : List AMade) → proof.now.made ≡ earlier ++ definition_made proof.now.trees definition.entry.view definition.entry.premise ∷ later → IsMaking (run_of proof.now assumptions.now exports.now) earlier self.old → AreCounted (run_of proof.now assumptions.now exports.now) (items_made (run_of proof.now assumptions.now exports.now) (earlier ++ definition_made proof.now.trees definition.entry.view definition.entry.premise ∷ [])) self.new) }
+        requires next { (earlier later : List AMade)
+            × (proof.now.made ≡ earlier ++ definition_made proof.now.trees definition.view definition.premise ∷ later)
+            × IsMaking (run_of proof.now assumptions.now exports.now) earlier self.old }
+        ensures counted { OnOk result ((earlier later : List AMade)
+            → proof.now.made ≡ earlier ++ definition_made proof.now.trees definition.entry.view definition.entry.premise ∷ later
+            → IsMaking (run_of proof.now assumptions.now exports.now) earlier self.old
+            → AreCounted (run_of proof.now assumptions.now exports.now)
+            (items_made (run_of proof.now assumptions.now exports.now)
+            (earlier ++ definition_made proof.now.trees definition.entry.view definition.entry.premise ∷ [])) self.new) }
         ensures numbers { self.new.numbers ≡ self.old.numbers }
         ensures symbol { self.new.symbol ≡ self.old.symbol }
         ensures kept { AreKept proof.now self.new.kept }
@@ -250,8 +272,11 @@ impl Making {
     ) -> Result<(), Memory>
         requires kept { AreKept proof.now self.old.kept }
         requires run { IsRun proof.now assumptions.now exports.now reached.now }
-        requires next { (items grown : List AnItem) × AreCounted (run_of proof.now assumptions.now exports.now) items self.old × IsNextItem (run_of proof.now assumptions.now exports.now) items grown proof.now self.old.numbers.items item }
-        ensures counted { OnOk result ((items grown : List AnItem) → AreCounted (run_of proof.now assumptions.now exports.now) items self.old → IsNextItem (run_of proof.now assumptions.now exports.now) items grown proof.now self.old.numbers.items item.entry → AreCounted (run_of proof.now assumptions.now exports.now) grown self.new) }
+        requires next { (items grown : List AnItem) × AreCounted (run_of proof.now assumptions.now exports.now) items self.old
+            × IsNextItem (run_of proof.now assumptions.now exports.now) items grown proof.now self.old.numbers.items item }
+        ensures counted { OnOk result ((items grown : List AnItem) → AreCounted (run_of proof.now assumptions.now exports.now) items self.old
+            → IsNextItem (run_of proof.now assumptions.now exports.now) items grown proof.now self.old.numbers.items item.entry
+            → AreCounted (run_of proof.now assumptions.now exports.now) grown self.new) }
         ensures numbers { self.new.numbers ≡ self.old.numbers }
         ensures symbol { self.new.symbol ≡ self.old.symbol }
         ensures kept { AreKept proof.now self.new.kept }
@@ -273,8 +298,11 @@ impl Making {
     ) -> Result<(), Memory>
         requires kept { AreKept proof.now self.old.kept }
         requires run { IsRun proof.now assumptions.now exports.now reached.now }
-        requires next { (items grown : List AnItem) × AreCounted (run_of proof.now assumptions.now exports.now) items self.old × IsNextItem (run_of proof.now assumptions.now exports.now) items grown proof.now self.old.numbers.items item }
-        ensures declared { OnOk result ((items grown : List AnItem) → AreCounted (run_of proof.now assumptions.now exports.now) items self.old → IsNextItem (run_of proof.now assumptions.now exports.now) items grown proof.now self.old.numbers.items item.entry → AreDeclared (run_of proof.now assumptions.now exports.now) grown self.new.target) }
+        requires next { (items grown : List AnItem) × AreCounted (run_of proof.now assumptions.now exports.now) items self.old
+            × IsNextItem (run_of proof.now assumptions.now exports.now) items grown proof.now self.old.numbers.items item }
+        ensures declared { OnOk result ((items grown : List AnItem) → AreCounted (run_of proof.now assumptions.now exports.now) items self.old
+            → IsNextItem (run_of proof.now assumptions.now exports.now) items grown proof.now self.old.numbers.items item.entry
+            → AreDeclared (run_of proof.now assumptions.now exports.now) grown self.new.target) }
         ensures item { self.new.item ≡ self.old.item }
         ensures numbers { self.new.numbers ≡ self.old.numbers }
         ensures symbol { self.new.symbol ≡ self.old.symbol }
@@ -298,8 +326,11 @@ impl Making {
         requires kept { AreKept proof.now self.old.kept }
         requires sound { IsSoundRun (run_of proof.now assumptions.now exports.now) }
         requires named { HasNames (run_of proof.now assumptions.now exports.now) }
-        requires next { (items grown : List AnItem) × AreDeclared (run_of proof.now assumptions.now exports.now) items self.old.target × IsKeptItem (run_of proof.now assumptions.now exports.now) items grown proof.now self.old.numbers.items item }
-        ensures declared { OnOk result ((items grown : List AnItem) → AreDeclared (run_of proof.now assumptions.now exports.now) items self.old.target → IsKeptItem (run_of proof.now assumptions.now exports.now) items grown proof.now self.old.numbers.items item.entry → AreDeclared (run_of proof.now assumptions.now exports.now) grown self.new.target) }
+        requires next { (items grown : List AnItem) × AreDeclared (run_of proof.now assumptions.now exports.now) items self.old.target
+            × IsKeptItem (run_of proof.now assumptions.now exports.now) items grown proof.now self.old.numbers.items item }
+        ensures declared { OnOk result ((items grown : List AnItem) → AreDeclared (run_of proof.now assumptions.now exports.now) items self.old.target
+            → IsKeptItem (run_of proof.now assumptions.now exports.now) items grown proof.now self.old.numbers.items item.entry
+            → AreDeclared (run_of proof.now assumptions.now exports.now) grown self.new.target) }
         ensures item { self.new.item ≡ self.old.item }
         ensures numbers { self.new.numbers ≡ self.old.numbers }
         ensures symbol { self.new.symbol ≡ self.old.symbol }

@@ -51,7 +51,8 @@ pub(crate) fn own_environment(
     requires id { id < step_count proof.now }
     requires params { AreParams proof.now id params.now.type_vars params.now.free_vars }
     requires held { IsHeld target.old }
-    ensures made { IfOk result (λ env. (declarations : List Declaration) (symbols : Symbols) → declarations_of target.old ≡ declarations → Stands (given_at declarations symbols (sequent_at proof.now.made id)) target.new proof.now.trees env) }
+    ensures made { IfOk result (λ env. (declarations : List Declaration) (symbols : Symbols) → declarations_of target.old ≡ declarations
+        → Stands (given_at declarations symbols (sequent_at proof.now.made id)) target.new proof.now.trees env) }
     ensures grows { Grows target.old target.new }
 {
     Environment::of(alloc, target, params, proof.sequent(id).hyps.ids(), 0)
@@ -68,7 +69,9 @@ pub(crate) fn variable_environment(
     requires id { id < step_count proof.now }
     requires params { AreParams proof.now id params.now.type_vars params.now.free_vars }
     requires held { IsHeld target.old }
-    ensures made { IfOk result (λ env. (declarations : List Declaration) (symbols : Symbols) → declarations_of target.old ≡ declarations → Stands (with_scope (given_at declarations symbols (sequent_at proof.now.made id)) (scope_of_terms symbols (sequent_at proof.now.made id))) target.new proof.now.trees env) }
+    ensures made { IfOk result (λ env. (declarations : List Declaration) (symbols : Symbols) → declarations_of target.old ≡ declarations
+        → Stands (with_scope (given_at declarations symbols (sequent_at proof.now.made id))
+        (scope_of_terms symbols (sequent_at proof.now.made id))) target.new proof.now.trees env) }
     ensures grows { Grows target.old target.new }
 {
     Environment::of(alloc, target, params, &[], 0)
@@ -84,7 +87,8 @@ pub(crate) fn type_environment(
 ) -> Result<Environment, Memory>
     requires id { id < step_count proof.now }
     requires held { IsHeld target.old }
-    ensures made { IfOk result (λ env. (declarations : List Declaration) (symbols : Symbols) → declarations_of target.old ≡ declarations → Stands (given_over declarations symbols names.now) target.new proof.now.trees env) }
+    ensures made { IfOk result (λ env. (declarations : List Declaration) (symbols : Symbols) → declarations_of target.old ≡ declarations
+        → Stands (given_over declarations symbols names.now) target.new proof.now.trees env) }
     ensures grows { Grows target.old target.new }
 {
     let table = proof.terms();
@@ -106,7 +110,8 @@ pub(crate) fn outer_environment(
     requires id { id < step_count proof.now }
     requires params { AreParams proof.now id params.now.type_vars params.now.free_vars }
     requires held { IsHeld target.old }
-    ensures made { IfOk result (λ env. (declarations : List Declaration) (symbols : Symbols) → declarations_of target.old ≡ declarations → Stands (over_types (given_at declarations symbols (sequent_at proof.now.made id))) target.new proof.now.trees env) }
+    ensures made { IfOk result (λ env. (declarations : List Declaration) (symbols : Symbols) → declarations_of target.old ≡ declarations
+        → Stands (over_types (given_at declarations symbols (sequent_at proof.now.made id))) target.new proof.now.trees env) }
     ensures grows { Grows target.old target.new }
 {
     let variables = params.free_vars.variables().len();
@@ -126,7 +131,9 @@ pub(crate) fn under_binder(
     requires id { id < step_count proof.now }
     requires params { AreParams proof.now id params.now.type_vars params.now.free_vars }
     requires held { IsHeld target.old }
-    ensures made { IfOk result (λ env. (declarations : List Declaration) (symbols : Symbols) → declarations_of target.old ≡ declarations → Stands (with_scope (given_at declarations symbols (sequent_at proof.now.made id)) (lifted (scope_of symbols (sequent_at proof.now.made id)))) target.new proof.now.trees env) }
+    ensures made { IfOk result (λ env. (declarations : List Declaration) (symbols : Symbols) → declarations_of target.old ≡ declarations
+        → Stands (with_scope (given_at declarations symbols (sequent_at proof.now.made id))
+        (lifted (scope_of symbols (sequent_at proof.now.made id)))) target.new proof.now.trees env) }
     ensures grows { Grows target.old target.new }
 {
     Environment::of(alloc, target, params, proof.sequent(id).hyps.ids(), 1)
@@ -145,7 +152,9 @@ pub(crate) fn under_variable(
     requires params { AreParams proof.now id params.now.type_vars params.now.free_vars }
     requires variable { variable.now.ty.0 < length proof.now.trees.types }
     requires held { IsHeld target.old }
-    ensures made { IfOk result (λ env. (declarations : List Declaration) (symbols : Symbols) → declarations_of target.old ≡ declarations → Stands (with_scope (given_at declarations symbols (sequent_at proof.now.made id)) (under_term (variable_view proof.now.trees variable.now) (scope_of symbols (sequent_at proof.now.made id)))) target.new proof.now.trees env) }
+    ensures made { IfOk result (λ env. (declarations : List Declaration) (symbols : Symbols) → declarations_of target.old ≡ declarations
+        → Stands (with_scope (given_at declarations symbols (sequent_at proof.now.made id))
+        (under_term (variable_view proof.now.trees variable.now) (scope_of symbols (sequent_at proof.now.made id)))) target.new proof.now.trees env) }
     ensures grows { Grows target.old target.new }
 {
     let hyps = proof.sequent(id).hyps.ids();
@@ -165,7 +174,9 @@ pub(crate) fn under_proof(
     requires params { AreParams proof.now id params.now.type_vars params.now.free_vars }
     requires formula { formula.0 < length proof.now.trees.terms }
     requires held { IsHeld target.old }
-    ensures made { IfOk result (λ env. (declarations : List Declaration) (symbols : Symbols) → declarations_of target.old ≡ declarations → Stands (with_scope (given_at declarations symbols (sequent_at proof.now.made id)) (proof_under (term_at proof.now.trees formula.0) (scope_of symbols (sequent_at proof.now.made id)))) target.new proof.now.trees env) }
+    ensures made { IfOk result (λ env. (declarations : List Declaration) (symbols : Symbols) → declarations_of target.old ≡ declarations
+        → Stands (with_scope (given_at declarations symbols (sequent_at proof.now.made id))
+        (proof_under (term_at proof.now.trees formula.0) (scope_of symbols (sequent_at proof.now.made id)))) target.new proof.now.trees env) }
     ensures grows { Grows target.old target.new }
 {
     let hyps = proof.sequent(id).hyps.ids();

@@ -48,10 +48,12 @@ pub(crate) fn part_declaration(
 ) -> Result<Decl, Memory>
     requires known { IsKnownSymbol proof.now.trees (operator_of_view view) }
     requires one { one.id < step_count proof.now }
-    requires defines { IsTypeDefinition (names_of_view view) (type_at proof.now.trees view.whole.0) (term_at proof.now.trees view.predicate.0) (sequent_at proof.now.made one.id) }
+    requires defines { IsTypeDefinition (names_of_view view) (type_at proof.now.trees view.whole.0) (term_at proof.now.trees view.predicate.0)
+        (sequent_at proof.now.made one.id) }
     requires held { IsHeld target.old }
     requires told { (tables : Symbols) × TellsContent (declarations_of target.old) tables (part_at proof.now part view one) }
-    ensures made { IfOk result (λ decl. (tables : Symbols) → TellsContent (declarations_of target.old) tables (part_at proof.now part view.entry one) → declaration_in target.new.table decl ≡ declaration_of tables (name_of_part part (names_of_view view.entry)) (part_at proof.now part view.entry one)) }
+    ensures made { IfOk result (λ decl. (tables : Symbols) → TellsContent (declarations_of target.old) tables (part_at proof.now part view.entry one)
+        → declaration_in target.new.table decl ≡ declaration_of tables (name_of_part part (names_of_view view.entry)) (part_at proof.now part view.entry one)) }
     ensures known { IfOk result (IsKnown target.new.table) }
     ensures grows { Grows target.old target.new }
 {
@@ -89,7 +91,8 @@ fn part_type(
     requires known { IsKnownSymbol proof.now.trees (operator_of_view view) }
     requires held { IsHeld target.old }
     requires told { (tables : Symbols) × TellsContent (declarations_of target.old) tables (part_at proof.now part view one) }
-    ensures made { IfOk result (λ r. (tables : Symbols) → TellsContent (declarations_of target.old) tables (part_at proof.now part view.entry one) → Holds target.new.table r.0 (type_of_part tables part (names_of_view view.entry) (type_at proof.now.trees view.entry.whole.0))) }
+    ensures made { IfOk result (λ r. (tables : Symbols) → TellsContent (declarations_of target.old) tables (part_at proof.now part view.entry one)
+        → Holds target.new.table r.0 (type_of_part tables part (names_of_view view.entry) (type_at proof.now.trees view.entry.whole.0))) }
     ensures known { IfOk result (λ r. r.0 < length target.new.table) }
     ensures grows { Grows target.old target.new }
 {
@@ -112,10 +115,14 @@ fn part_body(
 ) -> Result<LpId, Memory>
     requires known { IsKnownSymbol proof.now.trees (operator_of_view view) }
     requires one { one.id < step_count proof.now }
-    requires defines { IsTypeDefinition (names_of_view view) (type_at proof.now.trees view.whole.0) (term_at proof.now.trees view.predicate.0) (sequent_at proof.now.made one.id) }
+    requires defines { IsTypeDefinition (names_of_view view) (type_at proof.now.trees view.whole.0) (term_at proof.now.trees view.predicate.0)
+        (sequent_at proof.now.made one.id) }
     requires held { IsHeld target.old }
     requires told { (tables : Symbols) × TellsContent (declarations_of target.old) tables (part_at proof.now part view one) }
-    ensures made { IfOk result (λ r. (tables : Symbols) → TellsContent (declarations_of target.old) tables (part_at proof.now part view.entry one) → Holds target.new.table r.0 (part_definition_tree tables (part_variables part (names_of_view view.entry) (type_at proof.now.trees view.entry.whole.0)) (part_symbol part) (type_at proof.now.trees view.entry.whole.0) one.symbol (sequent_at proof.now.made one.id))) }
+    ensures made { IfOk result (λ r. (tables : Symbols) → TellsContent (declarations_of target.old) tables (part_at proof.now part view.entry one)
+        → Holds target.new.table r.0
+        (part_definition_tree tables (part_variables part (names_of_view view.entry) (type_at proof.now.trees view.entry.whole.0)) (part_symbol part)
+        (type_at proof.now.trees view.entry.whole.0) one.symbol (sequent_at proof.now.made one.id))) }
     ensures known { IfOk result (λ r. r.0 < length target.new.table) }
     ensures grows { Grows target.old target.new }
 {
@@ -139,8 +146,13 @@ fn over_type(
     requires one { one.id < step_count proof.now }
     requires defines { IsDefiningStep proof.now one.id }
     requires held { IsHeld target.old }
-    requires told { (tables : Symbols) × TellsType (declarations_of target.old) tables (whole_type proof.now one.id) × TellsSequent (declarations_of target.old) tables (sequent_at proof.now.made one.id) }
-    ensures made { IfOk result (λ r. (tables : Symbols) → TellsType (declarations_of target.old) tables (whole_type proof.now one.id) → TellsSequent (declarations_of target.old) tables (sequent_at proof.now.made one.id) → Holds target.new.table r.0 (part_definition_tree tables (type_variables (type_at proof.now.trees id.0)) (part_symbol part) (whole_type proof.now one.id) one.symbol (sequent_at proof.now.made one.id))) }
+    requires told { (tables : Symbols) × TellsType (declarations_of target.old) tables (whole_type proof.now one.id)
+        × TellsSequent (declarations_of target.old) tables (sequent_at proof.now.made one.id) }
+    ensures made { IfOk result (λ r. (tables : Symbols) → TellsType (declarations_of target.old) tables (whole_type proof.now one.id)
+        → TellsSequent (declarations_of target.old) tables (sequent_at proof.now.made one.id)
+        → Holds target.new.table r.0
+        (part_definition_tree tables (type_variables (type_at proof.now.trees id.0)) (part_symbol part) (whole_type proof.now one.id) one.symbol
+        (sequent_at proof.now.made one.id))) }
     ensures known { IfOk result (λ r. r.0 < length target.new.table) }
     ensures grows { Grows target.old target.new }
 {
@@ -160,8 +172,12 @@ fn over_types(
     requires one { one.id < step_count proof.now }
     requires defines { IsDefiningStep proof.now one.id }
     requires held { IsHeld target.old }
-    requires told { (tables : Symbols) × TellsType (declarations_of target.old) tables (whole_type proof.now one.id) × TellsSequent (declarations_of target.old) tables (sequent_at proof.now.made one.id) }
-    ensures made { IfOk result (λ r. (tables : Symbols) → TellsType (declarations_of target.old) tables (whole_type proof.now one.id) → TellsSequent (declarations_of target.old) tables (sequent_at proof.now.made one.id) → Holds target.new.table r.0 (part_definition_tree tables names.now (part_symbol part) (whole_type proof.now one.id) one.symbol (sequent_at proof.now.made one.id))) }
+    requires told { (tables : Symbols) × TellsType (declarations_of target.old) tables (whole_type proof.now one.id)
+        × TellsSequent (declarations_of target.old) tables (sequent_at proof.now.made one.id) }
+    ensures made { IfOk result (λ r. (tables : Symbols) → TellsType (declarations_of target.old) tables (whole_type proof.now one.id)
+        → TellsSequent (declarations_of target.old) tables (sequent_at proof.now.made one.id)
+        → Holds target.new.table r.0
+        (part_definition_tree tables names.now (part_symbol part) (whole_type proof.now one.id) one.symbol (sequent_at proof.now.made one.id))) }
     ensures known { IfOk result (λ r. r.0 < length target.new.table) }
     ensures grows { Grows target.old target.new }
 {
@@ -183,7 +199,11 @@ fn under_types(
     requires one { one.id < step_count proof.now }
     requires defines { IsDefiningStep proof.now one.id }
     requires told { (given : Given) × Stands given target.old proof.now.trees env.now × TellsWhole given proof.now one.id × TellsStep given proof.now one.id }
-    ensures made { IfOk result (λ r. (given : Given) → Stands given target.old proof.now.trees env.now → TellsWhole given proof.now one.id → TellsStep given proof.now one.id → Holds target.new.table r.0 (abstractions (replicate count simple_types) (part_tree given.symbols given.scope (part_symbol part) (whole_type proof.now one.id) (one.symbol, sequent_at proof.now.made one.id)))) }
+    ensures made { IfOk result (λ r. (given : Given) → Stands given target.old proof.now.trees env.now → TellsWhole given proof.now one.id
+        → TellsStep given proof.now one.id
+        → Holds target.new.table r.0
+        (abstractions (replicate count simple_types)
+        (part_tree given.symbols given.scope (part_symbol part) (whole_type proof.now one.id) (one.symbol, sequent_at proof.now.made one.id)))) }
     ensures known { IfOk result (λ r. r.0 < length target.new.table) }
     ensures grows { Grows target.old target.new }
 {

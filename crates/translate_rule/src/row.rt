@@ -48,8 +48,13 @@ pub(crate) fn needed_row(
     requires symbols { id ≤ length symbols.now }
     requires row { row_of_kind (step_at proof.now.made id).kind ≡ true }
     requires params { AreParams proof.now id params.now.type_vars params.now.free_vars }
-    requires told { (declarations : List Declaration) × (tables : Symbols) × Stands (given_at declarations tables (sequent_at proof.now.made id)) target.old proof.now.trees env.old × TellsRow declarations tables proof.now.made (needed_at proof.now.made id) }
-    ensures made { IfOk result (λ r. (declarations : List Declaration) (tables : Symbols) → Stands (given_at declarations tables (sequent_at proof.now.made id)) target.old proof.now.trees env.old → TellsRow declarations tables proof.now.made (needed_at proof.now.made id) → Holds target.new.table r.0 (row_of tables (scope_of tables (sequent_at proof.now.made id)) symbols.now proof.now.made (needed_at proof.now.made id))) }
+    requires told { (declarations : List Declaration) × (tables : Symbols)
+        × Stands (given_at declarations tables (sequent_at proof.now.made id)) target.old proof.now.trees env.old
+        × TellsRow declarations tables proof.now.made (needed_at proof.now.made id) }
+    ensures made { IfOk result (λ r. (declarations : List Declaration) (tables : Symbols)
+        → Stands (given_at declarations tables (sequent_at proof.now.made id)) target.old proof.now.trees env.old
+        → TellsRow declarations tables proof.now.made (needed_at proof.now.made id)
+        → Holds target.new.table r.0 (row_of tables (scope_of tables (sequent_at proof.now.made id)) symbols.now proof.now.made (needed_at proof.now.made id))) }
     ensures grows { Grows target.old target.new }
 {
     proof.is_proof();
@@ -77,8 +82,13 @@ fn row(
     requires symbols { id ≤ length symbols.now }
     requires row { row_of_kind (step_at proof.now.made id).kind ≡ true }
     requires params { AreParams proof.now id params.now.type_vars params.now.free_vars }
-    requires told { (declarations : List Declaration) × (tables : Symbols) × Stands (given_at declarations tables (sequent_at proof.now.made id)) target.old proof.now.trees env.old × TellsRow declarations tables proof.now.made (step_at proof.now.made id) }
-    ensures made { IfOk result (λ r. (declarations : List Declaration) (tables : Symbols) → Stands (given_at declarations tables (sequent_at proof.now.made id)) target.old proof.now.trees env.old → TellsRow declarations tables proof.now.made (step_at proof.now.made id) → Holds target.new.table r.0 (row_of tables (scope_of tables (sequent_at proof.now.made id)) symbols.now proof.now.made (step_at proof.now.made id))) }
+    requires told { (declarations : List Declaration) × (tables : Symbols)
+        × Stands (given_at declarations tables (sequent_at proof.now.made id)) target.old proof.now.trees env.old
+        × TellsRow declarations tables proof.now.made (step_at proof.now.made id) }
+    ensures made { IfOk result (λ r. (declarations : List Declaration) (tables : Symbols)
+        → Stands (given_at declarations tables (sequent_at proof.now.made id)) target.old proof.now.trees env.old
+        → TellsRow declarations tables proof.now.made (step_at proof.now.made id)
+        → Holds target.new.table r.0 (row_of tables (scope_of tables (sequent_at proof.now.made id)) symbols.now proof.now.made (step_at proof.now.made id))) }
     ensures grows { Grows target.old target.new }
 {
     proof.is_proof();
@@ -105,8 +115,14 @@ fn plain_row(
     requires id { id < step_count proof.now }
     requires premises { length (step_at proof.now.made id).premises ≡ 0 }
     requires row { row_of_kind (step_at proof.now.made id).kind ≡ true }
-    requires told { (declarations : List Declaration) × (tables : Symbols) × Stands (given_at declarations tables (sequent_at proof.now.made id)) target.old proof.now.trees env.now × TellsSequent declarations tables (sequent_at proof.now.made id) }
-    ensures made { IfOk result (λ r. (declarations : List Declaration) (tables : Symbols) → Stands (given_at declarations tables (sequent_at proof.now.made id)) target.old proof.now.trees env.now → TellsSequent declarations tables (sequent_at proof.now.made id) → Holds target.new.table r.0 (proof_tree tables (scope_of tables (sequent_at proof.now.made id)) (step_at proof.now.made id).kind [] [] (step_at proof.now.made id).parameters)) }
+    requires told { (declarations : List Declaration) × (tables : Symbols)
+        × Stands (given_at declarations tables (sequent_at proof.now.made id)) target.old proof.now.trees env.now
+        × TellsSequent declarations tables (sequent_at proof.now.made id) }
+    ensures made { IfOk result (λ r. (declarations : List Declaration) (tables : Symbols)
+        → Stands (given_at declarations tables (sequent_at proof.now.made id)) target.old proof.now.trees env.now
+        → TellsSequent declarations tables (sequent_at proof.now.made id)
+        → Holds target.new.table r.0
+        (proof_tree tables (scope_of tables (sequent_at proof.now.made id)) (step_at proof.now.made id).kind [] [] (step_at proof.now.made id).parameters)) }
     ensures grows { Grows target.old target.new }
 {
     proof.is_proof();
@@ -136,8 +152,15 @@ fn one_row(
     requires one { one.id < step_count proof.now }
     requires row { row_of_kind (step_at proof.now.made id).kind ≡ true }
     requires params { AreParams proof.now id params.now.type_vars params.now.free_vars }
-    requires told { (declarations : List Declaration) × (tables : Symbols) × Stands (given_at declarations tables (sequent_at proof.now.made id)) target.old proof.now.trees env.now × TellsRow declarations tables proof.now.made (step_at proof.now.made id) }
-    ensures made { IfOk result (λ r. (declarations : List Declaration) (tables : Symbols) → Stands (given_at declarations tables (sequent_at proof.now.made id)) target.old proof.now.trees env.now → TellsRow declarations tables proof.now.made (step_at proof.now.made id) → Holds target.new.table r.0 (proof_tree tables (scope_of tables (sequent_at proof.now.made id)) (step_at proof.now.made id).kind (one.symbol ∷ []) (sequent_at proof.now.made one.id ∷ []) (step_at proof.now.made id).parameters)) }
+    requires told { (declarations : List Declaration) × (tables : Symbols)
+        × Stands (given_at declarations tables (sequent_at proof.now.made id)) target.old proof.now.trees env.now
+        × TellsRow declarations tables proof.now.made (step_at proof.now.made id) }
+    ensures made { IfOk result (λ r. (declarations : List Declaration) (tables : Symbols)
+        → Stands (given_at declarations tables (sequent_at proof.now.made id)) target.old proof.now.trees env.now
+        → TellsRow declarations tables proof.now.made (step_at proof.now.made id)
+        → Holds target.new.table r.0
+        (proof_tree tables (scope_of tables (sequent_at proof.now.made id)) (step_at proof.now.made id).kind (one.symbol ∷ [])
+        (sequent_at proof.now.made one.id ∷ []) (step_at proof.now.made id).parameters)) }
     ensures grows { Grows target.old target.new }
 {
     proof.is_proof();
@@ -171,8 +194,15 @@ fn two_row(
     requires one { one.id < step_count proof.now }
     requires two { two.id < step_count proof.now }
     requires params { AreParams proof.now id params.now.type_vars params.now.free_vars }
-    requires told { (declarations : List Declaration) × (tables : Symbols) × Stands (given_at declarations tables (sequent_at proof.now.made id)) target.old proof.now.trees env.old × TellsRow declarations tables proof.now.made (step_at proof.now.made id) }
-    ensures made { IfOk result (λ r. (declarations : List Declaration) (tables : Symbols) → Stands (given_at declarations tables (sequent_at proof.now.made id)) target.old proof.now.trees env.old → TellsRow declarations tables proof.now.made (step_at proof.now.made id) → Holds target.new.table r.0 (proof_tree tables (scope_of tables (sequent_at proof.now.made id)) (step_at proof.now.made id).kind (one.symbol ∷ two.symbol ∷ []) (sequent_at proof.now.made one.id ∷ sequent_at proof.now.made two.id ∷ []) (step_at proof.now.made id).parameters)) }
+    requires told { (declarations : List Declaration) × (tables : Symbols)
+        × Stands (given_at declarations tables (sequent_at proof.now.made id)) target.old proof.now.trees env.old
+        × TellsRow declarations tables proof.now.made (step_at proof.now.made id) }
+    ensures made { IfOk result (λ r. (declarations : List Declaration) (tables : Symbols)
+        → Stands (given_at declarations tables (sequent_at proof.now.made id)) target.old proof.now.trees env.old
+        → TellsRow declarations tables proof.now.made (step_at proof.now.made id)
+        → Holds target.new.table r.0
+        (proof_tree tables (scope_of tables (sequent_at proof.now.made id)) (step_at proof.now.made id).kind (one.symbol ∷ two.symbol ∷ [])
+        (sequent_at proof.now.made one.id ∷ sequent_at proof.now.made two.id ∷ []) (step_at proof.now.made id).parameters)) }
     ensures grows { Grows target.old target.new }
 {
     proof.is_proof();
@@ -205,8 +235,15 @@ fn abs_row(
     requires premise { (step_at proof.now.made id).premises ≡ one.id ∷ [] }
     requires one { one.id < step_count proof.now }
     requires params { AreParams proof.now id params.now.type_vars params.now.free_vars }
-    requires told { (declarations : List Declaration) × (tables : Symbols) × Stands (given_at declarations tables (sequent_at proof.now.made id)) target.old proof.now.trees env.now × TellsSequent declarations tables (sequent_at proof.now.made id) × TellsSequent declarations tables (sequent_at proof.now.made one.id) }
-    ensures made { IfOk result (λ r. (declarations : List Declaration) (tables : Symbols) → Stands (given_at declarations tables (sequent_at proof.now.made id)) target.old proof.now.trees env.now → TellsSequent declarations tables (sequent_at proof.now.made id) → TellsSequent declarations tables (sequent_at proof.now.made one.id) → Holds target.new.table r.0 (proof_tree tables (scope_of tables (sequent_at proof.now.made id)) AbsThm (one.symbol ∷ []) (sequent_at proof.now.made one.id ∷ []) (step_at proof.now.made id).parameters)) }
+    requires told { (declarations : List Declaration) × (tables : Symbols)
+        × Stands (given_at declarations tables (sequent_at proof.now.made id)) target.old proof.now.trees env.now
+        × TellsSequent declarations tables (sequent_at proof.now.made id) × TellsSequent declarations tables (sequent_at proof.now.made one.id) }
+    ensures made { IfOk result (λ r. (declarations : List Declaration) (tables : Symbols)
+        → Stands (given_at declarations tables (sequent_at proof.now.made id)) target.old proof.now.trees env.now
+        → TellsSequent declarations tables (sequent_at proof.now.made id) → TellsSequent declarations tables (sequent_at proof.now.made one.id)
+        → Holds target.new.table r.0
+        (proof_tree tables (scope_of tables (sequent_at proof.now.made id)) AbsThm (one.symbol ∷ []) (sequent_at proof.now.made one.id ∷ [])
+        (step_at proof.now.made id).parameters)) }
     ensures grows { Grows target.old target.new }
 {
     proof.is_proof();
@@ -234,8 +271,15 @@ fn deduct_row(
     requires one { one.id < step_count proof.now }
     requires two { two.id < step_count proof.now }
     requires params { AreParams proof.now id params.now.type_vars params.now.free_vars }
-    requires told { (declarations : List Declaration) × (tables : Symbols) × Stands (given_at declarations tables (sequent_at proof.now.made id)) target.old proof.now.trees env.now × TellsSequent declarations tables (sequent_at proof.now.made one.id) × TellsSequent declarations tables (sequent_at proof.now.made two.id) }
-    ensures made { IfOk result (λ r. (declarations : List Declaration) (tables : Symbols) → Stands (given_at declarations tables (sequent_at proof.now.made id)) target.old proof.now.trees env.now → TellsSequent declarations tables (sequent_at proof.now.made one.id) → TellsSequent declarations tables (sequent_at proof.now.made two.id) → Holds target.new.table r.0 (prop_ext_tree tables (scope_of tables (sequent_at proof.now.made id)) (sequent_at proof.now.made one.id).conclusion (sequent_at proof.now.made two.id).conclusion (one.symbol, sequent_at proof.now.made one.id) (two.symbol, sequent_at proof.now.made two.id))) }
+    requires told { (declarations : List Declaration) × (tables : Symbols)
+        × Stands (given_at declarations tables (sequent_at proof.now.made id)) target.old proof.now.trees env.now
+        × TellsSequent declarations tables (sequent_at proof.now.made one.id) × TellsSequent declarations tables (sequent_at proof.now.made two.id) }
+    ensures made { IfOk result (λ r. (declarations : List Declaration) (tables : Symbols)
+        → Stands (given_at declarations tables (sequent_at proof.now.made id)) target.old proof.now.trees env.now
+        → TellsSequent declarations tables (sequent_at proof.now.made one.id) → TellsSequent declarations tables (sequent_at proof.now.made two.id)
+        → Holds target.new.table r.0
+        (prop_ext_tree tables (scope_of tables (sequent_at proof.now.made id)) (sequent_at proof.now.made one.id).conclusion
+        (sequent_at proof.now.made two.id).conclusion (one.symbol, sequent_at proof.now.made one.id) (two.symbol, sequent_at proof.now.made two.id))) }
     ensures grows { Grows target.old target.new }
 {
     let p = proof.sequent(one.id).concl;
@@ -259,8 +303,15 @@ fn subst_row(
     requires kind { (step_at proof.now.made id).kind ≡ Subst }
     requires premise { (step_at proof.now.made id).premises ≡ one.id ∷ [] }
     requires one { one.id < step_count proof.now }
-    requires told { (declarations : List Declaration) × (tables : Symbols) × Stands (given_at declarations tables (sequent_at proof.now.made id)) target.old proof.now.trees env.now × TellsSequent declarations tables (sequent_at proof.now.made id) }
-    ensures made { IfOk result (λ r. (declarations : List Declaration) (tables : Symbols) → Stands (given_at declarations tables (sequent_at proof.now.made id)) target.old proof.now.trees env.now → TellsSequent declarations tables (sequent_at proof.now.made id) → Holds target.new.table r.0 (proof_tree tables (scope_of tables (sequent_at proof.now.made id)) Subst (one.symbol ∷ []) (sequent_at proof.now.made one.id ∷ []) (step_at proof.now.made id).parameters)) }
+    requires told { (declarations : List Declaration) × (tables : Symbols)
+        × Stands (given_at declarations tables (sequent_at proof.now.made id)) target.old proof.now.trees env.now
+        × TellsSequent declarations tables (sequent_at proof.now.made id) }
+    ensures made { IfOk result (λ r. (declarations : List Declaration) (tables : Symbols)
+        → Stands (given_at declarations tables (sequent_at proof.now.made id)) target.old proof.now.trees env.now
+        → TellsSequent declarations tables (sequent_at proof.now.made id)
+        → Holds target.new.table r.0
+        (proof_tree tables (scope_of tables (sequent_at proof.now.made id)) Subst (one.symbol ∷ []) (sequent_at proof.now.made one.id ∷ [])
+        (step_at proof.now.made id).parameters)) }
     ensures grows { Grows target.old target.new }
 {
     proof.is_proof();
@@ -282,8 +333,15 @@ fn list_row(
     requires kind { (step_at proof.now.made id).kind ≡ DefineConstList }
     requires premise { (step_at proof.now.made id).premises ≡ one.id ∷ [] }
     requires one { one.id < step_count proof.now }
-    requires told { (declarations : List Declaration) × (tables : Symbols) × Stands (given_at declarations tables (sequent_at proof.now.made id)) target.old proof.now.trees env.now × TellsSequent declarations tables (sequent_at proof.now.made one.id) × TellsGiven declarations tables (step_at proof.now.made id).parameters }
-    ensures made { IfOk result (λ r. (declarations : List Declaration) (tables : Symbols) → Stands (given_at declarations tables (sequent_at proof.now.made id)) target.old proof.now.trees env.now → TellsSequent declarations tables (sequent_at proof.now.made one.id) → TellsGiven declarations tables (step_at proof.now.made id).parameters → Holds target.new.table r.0 (proof_tree tables (scope_of tables (sequent_at proof.now.made id)) DefineConstList (one.symbol ∷ []) (sequent_at proof.now.made one.id ∷ []) (step_at proof.now.made id).parameters)) }
+    requires told { (declarations : List Declaration) × (tables : Symbols)
+        × Stands (given_at declarations tables (sequent_at proof.now.made id)) target.old proof.now.trees env.now
+        × TellsSequent declarations tables (sequent_at proof.now.made one.id) × TellsGiven declarations tables (step_at proof.now.made id).parameters }
+    ensures made { IfOk result (λ r. (declarations : List Declaration) (tables : Symbols)
+        → Stands (given_at declarations tables (sequent_at proof.now.made id)) target.old proof.now.trees env.now
+        → TellsSequent declarations tables (sequent_at proof.now.made one.id) → TellsGiven declarations tables (step_at proof.now.made id).parameters
+        → Holds target.new.table r.0
+        (proof_tree tables (scope_of tables (sequent_at proof.now.made id)) DefineConstList (one.symbol ∷ []) (sequent_at proof.now.made one.id ∷ [])
+        (step_at proof.now.made id).parameters)) }
     ensures grows { Grows target.old target.new }
 {
     proof.is_proof();
@@ -320,8 +378,15 @@ fn first_law_row(
     requires premise { (step_at proof.now.made id).premises ≡ one.id ∷ [] }
     requires one { one.id < step_count proof.now }
     requires params { AreParams proof.now id params.now.type_vars params.now.free_vars }
-    requires told { (declarations : List Declaration) × (tables : Symbols) × Stands (given_at declarations tables (sequent_at proof.now.made id)) target.old proof.now.trees env.now × TellsSequent declarations tables (sequent_at proof.now.made id) × TellsSequent declarations tables (sequent_at proof.now.made one.id) }
-    ensures made { IfOk result (λ r. (declarations : List Declaration) (tables : Symbols) → Stands (given_at declarations tables (sequent_at proof.now.made id)) target.old proof.now.trees env.now → TellsSequent declarations tables (sequent_at proof.now.made id) → TellsSequent declarations tables (sequent_at proof.now.made one.id) → Holds target.new.table r.0 (proof_tree tables (scope_of tables (sequent_at proof.now.made id)) FirstLaw (one.symbol ∷ []) (sequent_at proof.now.made one.id ∷ []) (step_at proof.now.made id).parameters)) }
+    requires told { (declarations : List Declaration) × (tables : Symbols)
+        × Stands (given_at declarations tables (sequent_at proof.now.made id)) target.old proof.now.trees env.now
+        × TellsSequent declarations tables (sequent_at proof.now.made id) × TellsSequent declarations tables (sequent_at proof.now.made one.id) }
+    ensures made { IfOk result (λ r. (declarations : List Declaration) (tables : Symbols)
+        → Stands (given_at declarations tables (sequent_at proof.now.made id)) target.old proof.now.trees env.now
+        → TellsSequent declarations tables (sequent_at proof.now.made id) → TellsSequent declarations tables (sequent_at proof.now.made one.id)
+        → Holds target.new.table r.0
+        (proof_tree tables (scope_of tables (sequent_at proof.now.made id)) FirstLaw (one.symbol ∷ []) (sequent_at proof.now.made one.id ∷ [])
+        (step_at proof.now.made id).parameters)) }
     ensures grows { Grows target.old target.new }
 {
     proof.is_proof();
@@ -345,8 +410,15 @@ fn first_law_free_row(
     requires one { one.id < step_count proof.now }
     requires law { IsFirstLawStep Five proof.now id one.id }
     requires params { AreParams proof.now id params.now.type_vars params.now.free_vars }
-    requires told { (declarations : List Declaration) × (tables : Symbols) × Stands (given_at declarations tables (sequent_at proof.now.made id)) target.old proof.now.trees env.now × TellsSequent declarations tables (sequent_at proof.now.made id) × TellsSequent declarations tables (sequent_at proof.now.made one.id) }
-    ensures made { IfOk result (λ r. (declarations : List Declaration) (tables : Symbols) → Stands (given_at declarations tables (sequent_at proof.now.made id)) target.old proof.now.trees env.now → TellsSequent declarations tables (sequent_at proof.now.made id) → TellsSequent declarations tables (sequent_at proof.now.made one.id) → Holds target.new.table r.0 (proof_tree tables (scope_of tables (sequent_at proof.now.made id)) FirstLaw (one.symbol ∷ []) (sequent_at proof.now.made one.id ∷ []) (step_at proof.now.made id).parameters)) }
+    requires told { (declarations : List Declaration) × (tables : Symbols)
+        × Stands (given_at declarations tables (sequent_at proof.now.made id)) target.old proof.now.trees env.now
+        × TellsSequent declarations tables (sequent_at proof.now.made id) × TellsSequent declarations tables (sequent_at proof.now.made one.id) }
+    ensures made { IfOk result (λ r. (declarations : List Declaration) (tables : Symbols)
+        → Stands (given_at declarations tables (sequent_at proof.now.made id)) target.old proof.now.trees env.now
+        → TellsSequent declarations tables (sequent_at proof.now.made id) → TellsSequent declarations tables (sequent_at proof.now.made one.id)
+        → Holds target.new.table r.0
+        (proof_tree tables (scope_of tables (sequent_at proof.now.made id)) FirstLaw (one.symbol ∷ []) (sequent_at proof.now.made one.id ∷ [])
+        (step_at proof.now.made id).parameters)) }
     ensures grows { Grows target.old target.new }
 {
     let outer = outer_environment(alloc, target, proof, params, id)?;
@@ -367,8 +439,15 @@ fn first_law_bound_row(
     requires one { one.id < step_count proof.now }
     requires law { IsFirstLawStep Six proof.now id one.id }
     requires params { AreParams proof.now id params.now.type_vars params.now.free_vars }
-    requires told { (declarations : List Declaration) × (tables : Symbols) × Stands (given_at declarations tables (sequent_at proof.now.made id)) target.old proof.now.trees env.now × TellsSequent declarations tables (sequent_at proof.now.made id) × TellsSequent declarations tables (sequent_at proof.now.made one.id) }
-    ensures made { IfOk result (λ r. (declarations : List Declaration) (tables : Symbols) → Stands (given_at declarations tables (sequent_at proof.now.made id)) target.old proof.now.trees env.now → TellsSequent declarations tables (sequent_at proof.now.made id) → TellsSequent declarations tables (sequent_at proof.now.made one.id) → Holds target.new.table r.0 (proof_tree tables (scope_of tables (sequent_at proof.now.made id)) FirstLaw (one.symbol ∷ []) (sequent_at proof.now.made one.id ∷ []) (step_at proof.now.made id).parameters)) }
+    requires told { (declarations : List Declaration) × (tables : Symbols)
+        × Stands (given_at declarations tables (sequent_at proof.now.made id)) target.old proof.now.trees env.now
+        × TellsSequent declarations tables (sequent_at proof.now.made id) × TellsSequent declarations tables (sequent_at proof.now.made one.id) }
+    ensures made { IfOk result (λ r. (declarations : List Declaration) (tables : Symbols)
+        → Stands (given_at declarations tables (sequent_at proof.now.made id)) target.old proof.now.trees env.now
+        → TellsSequent declarations tables (sequent_at proof.now.made id) → TellsSequent declarations tables (sequent_at proof.now.made one.id)
+        → Holds target.new.table r.0
+        (proof_tree tables (scope_of tables (sequent_at proof.now.made id)) FirstLaw (one.symbol ∷ []) (sequent_at proof.now.made one.id ∷ [])
+        (step_at proof.now.made id).parameters)) }
     ensures grows { Grows target.old target.new }
 {
     let inner = under_binder(alloc, target, proof, params, id)?;
@@ -390,8 +469,15 @@ fn second_law_row(
     requires premise { (step_at proof.now.made id).premises ≡ one.id ∷ [] }
     requires one { one.id < step_count proof.now }
     requires params { AreParams proof.now id params.now.type_vars params.now.free_vars }
-    requires told { (declarations : List Declaration) × (tables : Symbols) × Stands (given_at declarations tables (sequent_at proof.now.made id)) target.old proof.now.trees env.now × TellsSequent declarations tables (sequent_at proof.now.made id) × TellsSequent declarations tables (sequent_at proof.now.made one.id) }
-    ensures made { IfOk result (λ r. (declarations : List Declaration) (tables : Symbols) → Stands (given_at declarations tables (sequent_at proof.now.made id)) target.old proof.now.trees env.now → TellsSequent declarations tables (sequent_at proof.now.made id) → TellsSequent declarations tables (sequent_at proof.now.made one.id) → Holds target.new.table r.0 (proof_tree tables (scope_of tables (sequent_at proof.now.made id)) SecondLaw (one.symbol ∷ []) (sequent_at proof.now.made one.id ∷ []) (step_at proof.now.made id).parameters)) }
+    requires told { (declarations : List Declaration) × (tables : Symbols)
+        × Stands (given_at declarations tables (sequent_at proof.now.made id)) target.old proof.now.trees env.now
+        × TellsSequent declarations tables (sequent_at proof.now.made id) × TellsSequent declarations tables (sequent_at proof.now.made one.id) }
+    ensures made { IfOk result (λ r. (declarations : List Declaration) (tables : Symbols)
+        → Stands (given_at declarations tables (sequent_at proof.now.made id)) target.old proof.now.trees env.now
+        → TellsSequent declarations tables (sequent_at proof.now.made id) → TellsSequent declarations tables (sequent_at proof.now.made one.id)
+        → Holds target.new.table r.0
+        (proof_tree tables (scope_of tables (sequent_at proof.now.made id)) SecondLaw (one.symbol ∷ []) (sequent_at proof.now.made one.id ∷ [])
+        (step_at proof.now.made id).parameters)) }
     ensures grows { Grows target.old target.new }
 {
     proof.is_proof();
@@ -415,8 +501,15 @@ fn second_law_free_row(
     requires one { one.id < step_count proof.now }
     requires law { IsSecondLawStep Five proof.now id one.id }
     requires params { AreParams proof.now id params.now.type_vars params.now.free_vars }
-    requires told { (declarations : List Declaration) × (tables : Symbols) × Stands (given_at declarations tables (sequent_at proof.now.made id)) target.old proof.now.trees env.now × TellsSequent declarations tables (sequent_at proof.now.made id) × TellsSequent declarations tables (sequent_at proof.now.made one.id) }
-    ensures made { IfOk result (λ r. (declarations : List Declaration) (tables : Symbols) → Stands (given_at declarations tables (sequent_at proof.now.made id)) target.old proof.now.trees env.now → TellsSequent declarations tables (sequent_at proof.now.made id) → TellsSequent declarations tables (sequent_at proof.now.made one.id) → Holds target.new.table r.0 (proof_tree tables (scope_of tables (sequent_at proof.now.made id)) SecondLaw (one.symbol ∷ []) (sequent_at proof.now.made one.id ∷ []) (step_at proof.now.made id).parameters)) }
+    requires told { (declarations : List Declaration) × (tables : Symbols)
+        × Stands (given_at declarations tables (sequent_at proof.now.made id)) target.old proof.now.trees env.now
+        × TellsSequent declarations tables (sequent_at proof.now.made id) × TellsSequent declarations tables (sequent_at proof.now.made one.id) }
+    ensures made { IfOk result (λ r. (declarations : List Declaration) (tables : Symbols)
+        → Stands (given_at declarations tables (sequent_at proof.now.made id)) target.old proof.now.trees env.now
+        → TellsSequent declarations tables (sequent_at proof.now.made id) → TellsSequent declarations tables (sequent_at proof.now.made one.id)
+        → Holds target.new.table r.0
+        (proof_tree tables (scope_of tables (sequent_at proof.now.made id)) SecondLaw (one.symbol ∷ []) (sequent_at proof.now.made one.id ∷ [])
+        (step_at proof.now.made id).parameters)) }
     ensures grows { Grows target.old target.new }
 {
     let outer = outer_environment(alloc, target, proof, params, id)?;
@@ -437,8 +530,15 @@ fn second_law_bound_row(
     requires one { one.id < step_count proof.now }
     requires law { IsSecondLawStep Six proof.now id one.id }
     requires params { AreParams proof.now id params.now.type_vars params.now.free_vars }
-    requires told { (declarations : List Declaration) × (tables : Symbols) × Stands (given_at declarations tables (sequent_at proof.now.made id)) target.old proof.now.trees env.now × TellsSequent declarations tables (sequent_at proof.now.made id) × TellsSequent declarations tables (sequent_at proof.now.made one.id) }
-    ensures made { IfOk result (λ r. (declarations : List Declaration) (tables : Symbols) → Stands (given_at declarations tables (sequent_at proof.now.made id)) target.old proof.now.trees env.now → TellsSequent declarations tables (sequent_at proof.now.made id) → TellsSequent declarations tables (sequent_at proof.now.made one.id) → Holds target.new.table r.0 (proof_tree tables (scope_of tables (sequent_at proof.now.made id)) SecondLaw (one.symbol ∷ []) (sequent_at proof.now.made one.id ∷ []) (step_at proof.now.made id).parameters)) }
+    requires told { (declarations : List Declaration) × (tables : Symbols)
+        × Stands (given_at declarations tables (sequent_at proof.now.made id)) target.old proof.now.trees env.now
+        × TellsSequent declarations tables (sequent_at proof.now.made id) × TellsSequent declarations tables (sequent_at proof.now.made one.id) }
+    ensures made { IfOk result (λ r. (declarations : List Declaration) (tables : Symbols)
+        → Stands (given_at declarations tables (sequent_at proof.now.made id)) target.old proof.now.trees env.now
+        → TellsSequent declarations tables (sequent_at proof.now.made id) → TellsSequent declarations tables (sequent_at proof.now.made one.id)
+        → Holds target.new.table r.0
+        (proof_tree tables (scope_of tables (sequent_at proof.now.made id)) SecondLaw (one.symbol ∷ []) (sequent_at proof.now.made one.id ∷ [])
+        (step_at proof.now.made id).parameters)) }
     ensures grows { Grows target.old target.new }
 {
     let inner = under_binder(alloc, target, proof, params, id)?;

@@ -43,8 +43,13 @@ pub(crate) fn theorem_type(
 ) -> Result<LpId, Memory>
     requires id { id < step_count proof.now }
     requires params { AreParams proof.now id params.now.type_vars params.now.free_vars }
-    requires told { (tables : Symbols) × Stands (given_at (declarations_of target.old) tables (sequent_at proof.now.made id)) target.old proof.now.trees env.now × TellsSequent (declarations_of target.old) tables (sequent_at proof.now.made id) }
-    ensures made { IfOk result (λ r. (tables : Symbols) → Stands (given_at (declarations_of target.old) tables (sequent_at proof.now.made id)) target.old proof.now.trees env.now → TellsSequent (declarations_of target.old) tables (sequent_at proof.now.made id) → Holds target.new.table r.0 (sequent_tree tables (sequent_at proof.now.made id))) }
+    requires told { (tables : Symbols)
+        × Stands (given_at (declarations_of target.old) tables (sequent_at proof.now.made id)) target.old proof.now.trees env.now
+        × TellsSequent (declarations_of target.old) tables (sequent_at proof.now.made id) }
+    ensures made { IfOk result (λ r. (tables : Symbols)
+        → Stands (given_at (declarations_of target.old) tables (sequent_at proof.now.made id)) target.old proof.now.trees env.now
+        → TellsSequent (declarations_of target.old) tables (sequent_at proof.now.made id)
+        → Holds target.new.table r.0 (sequent_tree tables (sequent_at proof.now.made id))) }
     ensures known { IfOk result (λ r. r.0 < length target.new.table) }
     ensures grows { Grows target.old target.new }
 {
@@ -66,8 +71,13 @@ fn conclusion(
     env: &Environment,
 ) -> Result<LpId, Memory>
     requires id { id < step_count proof.now }
-    requires told { (tables : Symbols) × Stands (given_at (declarations_of target.old) tables (sequent_at proof.now.made id)) target.old proof.now.trees env.now × TellsSequent (declarations_of target.old) tables (sequent_at proof.now.made id) }
-    ensures made { IfOk result (λ r. (tables : Symbols) → Stands (given_at (declarations_of target.old) tables (sequent_at proof.now.made id)) target.old proof.now.trees env.now → TellsSequent (declarations_of target.old) tables (sequent_at proof.now.made id) → Holds target.new.table r.0 (conclusion_tree tables (sequent_at proof.now.made id))) }
+    requires told { (tables : Symbols)
+        × Stands (given_at (declarations_of target.old) tables (sequent_at proof.now.made id)) target.old proof.now.trees env.now
+        × TellsSequent (declarations_of target.old) tables (sequent_at proof.now.made id) }
+    ensures made { IfOk result (λ r. (tables : Symbols)
+        → Stands (given_at (declarations_of target.old) tables (sequent_at proof.now.made id)) target.old proof.now.trees env.now
+        → TellsSequent (declarations_of target.old) tables (sequent_at proof.now.made id)
+        → Holds target.new.table r.0 (conclusion_tree tables (sequent_at proof.now.made id))) }
     ensures known { IfOk result (λ r. r.0 < length target.new.table) }
     ensures grows { Grows target.old target.new }
 {
@@ -90,7 +100,10 @@ fn over_hypotheses(
     requires inside { inside.0 < length target.old.table }
     requires held { IsHeld target.old }
     requires told { (tables : Symbols) × TellsSequent (declarations_of target.old) tables (sequent_at proof.now.made id) }
-    ensures made { IfOk result (λ r. (tables : Symbols) → TellsSequent (declarations_of target.old) tables (sequent_at proof.now.made id) → Holds target.new.table r.0 (products (proof_domains tables (sequent_at proof.now.made id).hypotheses (scope_of_terms tables (sequent_at proof.now.made id))) (tree_at target.old.table inside.0))) }
+    ensures made { IfOk result (λ r. (tables : Symbols) → TellsSequent (declarations_of target.old) tables (sequent_at proof.now.made id)
+        → Holds target.new.table r.0
+        (products (proof_domains tables (sequent_at proof.now.made id).hypotheses (scope_of_terms tables (sequent_at proof.now.made id)))
+        (tree_at target.old.table inside.0))) }
     ensures known { IfOk result (λ r. r.0 < length target.new.table) }
     ensures grows { Grows target.old target.new }
 {
@@ -116,7 +129,11 @@ fn over_formulas(
     requires hyps { AreKnown proof.now.trees hyps.now }
     requires inside { inside.0 < length target.old.table }
     requires told { (given : Given) × Stands given target.old proof.now.trees env.now × AllByRecursion (IsTold given) (terms_at proof.now.trees hyps.now) }
-    ensures made { IfOk result (λ r. (given : Given) → Stands given target.old proof.now.trees env.now → AllByRecursion (IsTold given) (terms_at proof.now.trees hyps.now) → Holds target.new.table r.0 (products (lifted_domains proof_symbol (term_tree given.symbols given.scope) 0 (terms_at proof.now.trees hyps.now)) (tree_at target.old.table inside.0))) }
+    ensures made { IfOk result (λ r. (given : Given) → Stands given target.old proof.now.trees env.now
+        → AllByRecursion (IsTold given) (terms_at proof.now.trees hyps.now)
+        → Holds target.new.table r.0
+        (products (lifted_domains proof_symbol (term_tree given.symbols given.scope) 0 (terms_at proof.now.trees hyps.now))
+        (tree_at target.old.table inside.0))) }
     ensures known { IfOk result (λ r. r.0 < length target.new.table) }
     ensures grows { Grows target.old target.new }
 {
@@ -141,7 +158,9 @@ fn over_formula(
     requires id { id.0 < length proof.now.trees.terms }
     requires inside { inside.0 < length target.old.table }
     requires told { (given : Given) × Stands given target.old proof.now.trees env.now × IsTold given (term_at proof.now.trees id.0) }
-    ensures made { IfOk result (λ r. (given : Given) → Stands given target.old proof.now.trees env.now → IsTold given (term_at proof.now.trees id.0) → Holds target.new.table r.0 (Pi (proof_of (lift outside (term_tree given.symbols given.scope (term_at proof.now.trees id.0)))) (tree_at target.old.table inside.0))) }
+    ensures made { IfOk result (λ r. (given : Given) → Stands given target.old proof.now.trees env.now → IsTold given (term_at proof.now.trees id.0)
+        → Holds target.new.table r.0
+        (Pi (proof_of (lift outside (term_tree given.symbols given.scope (term_at proof.now.trees id.0)))) (tree_at target.old.table inside.0))) }
     ensures known { IfOk result (λ r. r.0 < length target.new.table) }
     ensures grows { Grows target.old target.new }
 {
@@ -163,7 +182,10 @@ fn over_variables(
     requires inside { inside.0 < length target.old.table }
     requires held { IsHeld target.old }
     requires told { (tables : Symbols) × TellsSequent (declarations_of target.old) tables (sequent_at proof.now.made id) }
-    ensures made { IfOk result (λ r. (tables : Symbols) → TellsSequent (declarations_of target.old) tables (sequent_at proof.now.made id) → Holds target.new.table r.0 (products (term_domains tables (free_variables_of (sequent_at proof.now.made id)) (scope_of_types tables (sequent_at proof.now.made id))) (tree_at target.old.table inside.0))) }
+    ensures made { IfOk result (λ r. (tables : Symbols) → TellsSequent (declarations_of target.old) tables (sequent_at proof.now.made id)
+        → Holds target.new.table r.0
+        (products (term_domains tables (free_variables_of (sequent_at proof.now.made id)) (scope_of_types tables (sequent_at proof.now.made id)))
+        (tree_at target.old.table inside.0))) }
     ensures known { IfOk result (λ r. r.0 < length target.new.table) }
     ensures grows { Grows target.old target.new }
 {
@@ -187,8 +209,13 @@ fn over_terms(
 ) -> Result<LpId, Memory>
     requires variables { HaveTypes proof.now.trees variables.now }
     requires inside { inside.0 < length target.old.table }
-    requires told { (given : Given) × Stands given target.old proof.now.trees env.now × AllByRecursion (λ (v : ATerm). TellsType given.declarations given.symbols v.1) (variables_of proof.now.trees variables.now) }
-    ensures made { IfOk result (λ r. (given : Given) → Stands given target.old proof.now.trees env.now → AllByRecursion (λ (v : ATerm). TellsType given.declarations given.symbols v.1) (variables_of proof.now.trees variables.now) → Holds target.new.table r.0 (products (lifted_domains term_symbol (λ (v : ATerm). type_tree given.symbols given.scope.types v.1) 0 (variables_of proof.now.trees variables.now)) (tree_at target.old.table inside.0))) }
+    requires told { (given : Given) × Stands given target.old proof.now.trees env.now
+        × AllByRecursion (λ (v : ATerm). TellsType given.declarations given.symbols v.1) (variables_of proof.now.trees variables.now) }
+    ensures made { IfOk result (λ r. (given : Given) → Stands given target.old proof.now.trees env.now
+        → AllByRecursion (λ (v : ATerm). TellsType given.declarations given.symbols v.1) (variables_of proof.now.trees variables.now)
+        → Holds target.new.table r.0
+        (products (lifted_domains term_symbol (λ (v : ATerm). type_tree given.symbols given.scope.types v.1) 0 (variables_of proof.now.trees variables.now))
+        (tree_at target.old.table inside.0))) }
     ensures known { IfOk result (λ r. r.0 < length target.new.table) }
     ensures grows { Grows target.old target.new }
 {
@@ -213,7 +240,10 @@ fn over_type(
     requires id { id.0 < length proof.now.trees.types }
     requires inside { inside.0 < length target.old.table }
     requires told { (given : Given) × Stands given target.old proof.now.trees env.now × TellsType given.declarations given.symbols (type_at proof.now.trees id.0) }
-    ensures made { IfOk result (λ r. (given : Given) → Stands given target.old proof.now.trees env.now → TellsType given.declarations given.symbols (type_at proof.now.trees id.0) → Holds target.new.table r.0 (Pi (term_of (lift outside (type_tree given.symbols given.scope.types (type_at proof.now.trees id.0)))) (tree_at target.old.table inside.0))) }
+    ensures made { IfOk result (λ r. (given : Given) → Stands given target.old proof.now.trees env.now
+        → TellsType given.declarations given.symbols (type_at proof.now.trees id.0)
+        → Holds target.new.table r.0
+        (Pi (term_of (lift outside (type_tree given.symbols given.scope.types (type_at proof.now.trees id.0)))) (tree_at target.old.table inside.0))) }
     ensures known { IfOk result (λ r. r.0 < length target.new.table) }
     ensures grows { Grows target.old target.new }
 {

@@ -57,7 +57,8 @@ pub(crate) fn closed_type(
 ) -> Result<LpId, Memory>
     requires held { IsHeld target.old }
     requires told { (symbols : Symbols) × (s : Sequent) × TellsClosed (declarations_of target.old) symbols s (closed_view closed.now) }
-    ensures made { IfOk result (λ r. (symbols : Symbols) (s : Sequent) → TellsClosed (declarations_of target.old) symbols s (closed_view closed.now) → Holds target.new.table r.0 (sequent_tree symbols s)) }
+    ensures made { IfOk result (λ r. (symbols : Symbols) (s : Sequent) → TellsClosed (declarations_of target.old) symbols s (closed_view closed.now)
+        → Holds target.new.table r.0 (sequent_tree symbols s)) }
     ensures grows { Grows target.old target.new }
 {
     let under_terms = statement(alloc, target, closed)?;
@@ -75,7 +76,8 @@ pub(crate) fn closed_type(
 fn statement(alloc: Global, target: &mut Module, closed: &Closed) -> Result<LpId, Memory>
     requires held { IsHeld target.old }
     requires told { (symbols : Symbols) × (s : Sequent) × TellsClosed (declarations_of target.old) symbols s (closed_view closed.now) }
-    ensures made { IfOk result (λ r. (symbols : Symbols) (s : Sequent) → TellsClosed (declarations_of target.old) symbols s (closed_view closed.now) → Holds target.new.table r.0 (statement_under (numbered_of (declarations_of target.old) symbols s) s)) }
+    ensures made { IfOk result (λ r. (symbols : Symbols) (s : Sequent) → TellsClosed (declarations_of target.old) symbols s (closed_view closed.now)
+        → Holds target.new.table r.0 (statement_under (numbered_of (declarations_of target.old) symbols s) s)) }
     ensures grows { Grows target.old target.new }
 {
     let terms = closed.type_vars as u128 + closed.free_vars.len() as u128;
@@ -96,7 +98,9 @@ fn over_hypotheses(
 ) -> Result<LpId, Memory>
     requires are { (given : Numbered) × (hs : List ATerm) × AreHypotheses given hs target.old type_vars outside (map closed_term_view hyps.now) inside }
     requires small { outside < 2 ^ 65 }
-    ensures made { IfOk result (λ r. (given : Numbered) (hs : List ATerm) → AreHypotheses given hs target.old type_vars outside (map closed_term_view hyps.now) inside → Holds target.new.table r.0 (products (hypothesis_domains given outside hs) (tree_at target.old.table inside.0))) }
+    ensures made { IfOk result (λ r. (given : Numbered) (hs : List ATerm)
+        → AreHypotheses given hs target.old type_vars outside (map closed_term_view hyps.now) inside
+        → Holds target.new.table r.0 (products (hypothesis_domains given outside hs) (tree_at target.old.table inside.0))) }
     ensures grows { Grows target.old target.new }
 {
     let mut product = inside;
@@ -119,7 +123,9 @@ fn over_variables(
     inside: LpId,
 ) -> Result<LpId, Memory>
     requires { (given : Numbered) × (ts : List HolType) × AreVariables given ts target.old type_vars (map closed_type_view types.now) inside }
-    ensures made { IfOk result (λ r. (given : Numbered) (ts : List HolType) → AreVariables given ts target.old type_vars (map closed_type_view types.now) inside → Holds target.new.table r.0 (products (variable_domains given type_vars ts) (tree_at target.old.table inside.0))) }
+    ensures made { IfOk result (λ r. (given : Numbered) (ts : List HolType)
+        → AreVariables given ts target.old type_vars (map closed_type_view types.now) inside
+        → Holds target.new.table r.0 (products (variable_domains given type_vars ts) (tree_at target.old.table inside.0))) }
     ensures grows { Grows target.old target.new }
 {
     let mut product = inside;
@@ -172,7 +178,8 @@ fn tree_of_type(
     depth: u128,
 ) -> Result<LpId, Memory>
     requires { (given : Numbered) × (t : HolType) × IsTypeToMake given t target.old (closed_type_view ty.now) }
-    ensures made { IfOk result (λ r. (given : Numbered) (t : HolType) → IsTypeToMake given t target.old (closed_type_view ty.now) → Holds target.new.table r.0 (type_tree given.symbols (types_under given depth) t)) }
+    ensures made { IfOk result (λ r. (given : Numbered) (t : HolType) → IsTypeToMake given t target.old (closed_type_view ty.now)
+        → Holds target.new.table r.0 (type_tree given.symbols (types_under given depth) t)) }
     ensures grows { Grows target.old target.new }
 {
     let mut works = Stack::new(alloc);
@@ -193,7 +200,8 @@ fn type_made(
     made: &mut Stack<LpId>,
 ) -> Result<LpId, Memory>
     requires { (given : Numbered) × (root : Tree) × IsTypeWalk given root target.old depth (type_work.Next ∷ works.old) (spelled_types nodes.now) made.old }
-    ensures made { IfOk result (λ r. (given : Numbered) (root : Tree) → IsTypeWalk given root target.old depth (type_work.Next ∷ works.old) (spelled_types nodes.now) made.old → Holds target.new.table r.0 root) }
+    ensures made { IfOk result (λ r. (given : Numbered) (root : Tree)
+        → IsTypeWalk given root target.old depth (type_work.Next ∷ works.old) (spelled_types nodes.now) made.old → Holds target.new.table r.0 root) }
     ensures grows { Grows target.old target.new }
 {
     works.push(TypeWork::Next)?;
@@ -216,7 +224,9 @@ fn turn_type<'a>(
 ) -> Result<&'a [TypeNode], Memory>
     requires { (given : Numbered) × (root : Tree) × IsTypeWalk given root target.old depth (work ∷ works.old) (spelled_types nodes.now) made.old }
     ensures grows { Grows target.old target.new }
-    ensures walk { IfOk result (λ left. (given : Numbered) (root : Tree) → IsTypeWalk given root target.old depth (work ∷ works.old) (spelled_types nodes.now) made.old → IsTypeWalk given root target.new depth works.new (spelled_types left.now) made.new) }
+    ensures walk { IfOk result (λ left. (given : Numbered) (root : Tree)
+        → IsTypeWalk given root target.old depth (work ∷ works.old) (spelled_types nodes.now) made.old
+        → IsTypeWalk given root target.new depth works.new (spelled_types left.now) made.new) }
     ensures less { IfOk result (λ left. works_of works.new + nodes_work left.now < works_of (work ∷ works.old) + nodes_work nodes.now) }
 {
     match work {
@@ -244,7 +254,9 @@ fn begin_type<'a>(
 ) -> Result<&'a [TypeNode], Memory>
     requires { (given : Numbered) × (root : Tree) × IsTypeWalk given root target.old depth (type_work.Next ∷ works.old) (spelled_types nodes.now) made.old }
     ensures grows { Grows target.old target.new }
-    ensures walk { IfOk result (λ left. (given : Numbered) (root : Tree) → IsTypeWalk given root target.old depth (type_work.Next ∷ works.old) (spelled_types nodes.now) made.old → IsTypeWalk given root target.new depth works.new (spelled_types left.now) made.new) }
+    ensures walk { IfOk result (λ left. (given : Numbered) (root : Tree)
+        → IsTypeWalk given root target.old depth (type_work.Next ∷ works.old) (spelled_types nodes.now) made.old
+        → IsTypeWalk given root target.new depth works.new (spelled_types left.now) made.new) }
     ensures less { IfOk result (λ left. works_of works.new + nodes_work left.now ≤ works_of works.old + nodes_work nodes.now) }
 {
     match nodes {
@@ -268,9 +280,12 @@ fn visit_type(
     works: &mut Stack<TypeWork>,
     made: &mut Stack<LpId>,
 ) -> Result<(), Memory>
-    requires { (given : Numbered) × (root : Tree) × (ts : List AClosedType) × IsTypeWalk given root target.old depth (type_work.Next ∷ works.old) (type_step node.now ts) made.old }
+    requires { (given : Numbered) × (root : Tree) × (ts : List AClosedType)
+        × IsTypeWalk given root target.old depth (type_work.Next ∷ works.old) (type_step node.now ts) made.old }
     ensures grows { Grows target.old target.new }
-    ensures walk { OnOk result ((given : Numbered) (root : Tree) (ts : List AClosedType) → IsTypeWalk given root target.old depth (type_work.Next ∷ works.old) (type_step node.now ts) made.old → IsTypeWalk given root target.new depth works.new ts made.new) }
+    ensures walk { OnOk result ((given : Numbered) (root : Tree) (ts : List AClosedType)
+        → IsTypeWalk given root target.old depth (type_work.Next ∷ works.old) (type_step node.now ts) made.old
+        → IsTypeWalk given root target.new depth works.new ts made.new) }
     ensures less { OnOk result (works_of works.new ≤ works_of works.old + nodes_work (node.now ∷ [])) }
 {
     match node {
@@ -284,7 +299,8 @@ fn visit_type(
 
 // Sets out to apply what was made to so many types, the first innermost.
 fn set_out_to_apply(count: usize, works: &mut Stack<TypeWork>) -> Result<(), Memory>
-    ensures makes { OnOk result ((given : Numbered) (depth : ℕ) (root : Tree) (ts : List AClosedType) (made : List Tree) → MakesTypes given depth root (type_work.ApplyTo count ∷ works.old) ts made → MakesTypes given depth root works.new ts made) }
+    ensures makes { OnOk result ((given : Numbered) (depth : ℕ) (root : Tree) (ts : List AClosedType) (made : List Tree)
+        → MakesTypes given depth root (type_work.ApplyTo count ∷ works.old) ts made → MakesTypes given depth root works.new ts made) }
     ensures less { OnOk result (works_of works.new < works_of (type_work.ApplyTo count ∷ works.old)) }
 {
     let Some(others) = count.checked_sub(1) else {
@@ -304,7 +320,8 @@ fn tree_of_term(
     depth: u128,
 ) -> Result<LpId, Memory>
     requires { (given : Numbered) × (t : ATerm) × IsTermToMake given t target.old type_vars (closed_term_view term.now) depth }
-    ensures made { IfOk result (λ r. (given : Numbered) (t : ATerm) → IsTermToMake given t target.old type_vars (closed_term_view term.now) depth → Holds target.new.table r.0 (term_tree given.symbols (scope_under given depth) t)) }
+    ensures made { IfOk result (λ r. (given : Numbered) (t : ATerm) → IsTermToMake given t target.old type_vars (closed_term_view term.now) depth
+        → Holds target.new.table r.0 (term_tree given.symbols (scope_under given depth) t)) }
     ensures grows { Grows target.old target.new }
 {
     let mut works = Stack::new(alloc);
@@ -333,8 +350,10 @@ fn term_made(
     works: &mut Stack<TermWork>,
     made: &mut Stack<LpId>,
 ) -> Result<LpId, Memory>
-    requires { (given : Numbered) × (root : Tree) × IsTermWalk given root target.old type_vars (term_work.Next depth ∷ works.old) (spelled_terms nodes.now) made.old }
-    ensures made { IfOk result (λ r. (given : Numbered) (root : Tree) → IsTermWalk given root target.old type_vars (term_work.Next depth ∷ works.old) (spelled_terms nodes.now) made.old → Holds target.new.table r.0 root) }
+    requires { (given : Numbered) × (root : Tree)
+        × IsTermWalk given root target.old type_vars (term_work.Next depth ∷ works.old) (spelled_terms nodes.now) made.old }
+    ensures made { IfOk result (λ r. (given : Numbered) (root : Tree)
+        → IsTermWalk given root target.old type_vars (term_work.Next depth ∷ works.old) (spelled_terms nodes.now) made.old → Holds target.new.table r.0 root) }
     ensures grows { Grows target.old target.new }
 {
     works.push(TermWork::Next(depth))?;
@@ -357,7 +376,9 @@ fn turn_term<'a>(
 ) -> Result<&'a [TermNode], Memory>
     requires { (given : Numbered) × (root : Tree) × IsTermWalk given root target.old type_vars (work ∷ works.old) (spelled_terms nodes.now) made.old }
     ensures grows { Grows target.old target.new }
-    ensures walk { IfOk result (λ left. (given : Numbered) (root : Tree) → IsTermWalk given root target.old type_vars (work ∷ works.old) (spelled_terms nodes.now) made.old → IsTermWalk given root target.new type_vars works.new (spelled_terms left.now) made.new) }
+    ensures walk { IfOk result (λ left. (given : Numbered) (root : Tree)
+        → IsTermWalk given root target.old type_vars (work ∷ works.old) (spelled_terms nodes.now) made.old
+        → IsTermWalk given root target.new type_vars works.new (spelled_terms left.now) made.new) }
     ensures less { IfOk result (λ left. length works.new + 3 * length left.now < length (work ∷ works.old) + 3 * length nodes.now) }
 {
     match work {
@@ -385,9 +406,12 @@ fn begin_term<'a>(
     works: &mut Stack<TermWork>,
     made: &mut Stack<LpId>,
 ) -> Result<&'a [TermNode], Memory>
-    requires { (given : Numbered) × (root : Tree) × IsTermWalk given root target.old type_vars (term_work.Next depth ∷ works.old) (spelled_terms nodes.now) made.old }
+    requires { (given : Numbered) × (root : Tree)
+        × IsTermWalk given root target.old type_vars (term_work.Next depth ∷ works.old) (spelled_terms nodes.now) made.old }
     ensures grows { Grows target.old target.new }
-    ensures walk { IfOk result (λ left. (given : Numbered) (root : Tree) → IsTermWalk given root target.old type_vars (term_work.Next depth ∷ works.old) (spelled_terms nodes.now) made.old → IsTermWalk given root target.new type_vars works.new (spelled_terms left.now) made.new) }
+    ensures walk { IfOk result (λ left. (given : Numbered) (root : Tree)
+        → IsTermWalk given root target.old type_vars (term_work.Next depth ∷ works.old) (spelled_terms nodes.now) made.old
+        → IsTermWalk given root target.new type_vars works.new (spelled_terms left.now) made.new) }
     ensures less { IfOk result (λ left. length works.new + 3 * length left.now ≤ length works.old + 3 * length nodes.now) }
 {
     match nodes {
@@ -412,9 +436,12 @@ fn visit_term(
     works: &mut Stack<TermWork>,
     made: &mut Stack<LpId>,
 ) -> Result<(), Memory>
-    requires { (given : Numbered) × (root : Tree) × (ts : List AClosedTerm) × IsTermWalk given root target.old type_vars (term_work.Next depth ∷ works.old) (term_step node.now ts) made.old }
+    requires { (given : Numbered) × (root : Tree) × (ts : List AClosedTerm)
+        × IsTermWalk given root target.old type_vars (term_work.Next depth ∷ works.old) (term_step node.now ts) made.old }
     ensures grows { Grows target.old target.new }
-    ensures walk { OnOk result ((given : Numbered) (root : Tree) (ts : List AClosedTerm) → IsTermWalk given root target.old type_vars (term_work.Next depth ∷ works.old) (term_step node.now ts) made.old → IsTermWalk given root target.new type_vars works.new ts made.new) }
+    ensures walk { OnOk result ((given : Numbered) (root : Tree) (ts : List AClosedTerm)
+        → IsTermWalk given root target.old type_vars (term_work.Next depth ∷ works.old) (term_step node.now ts) made.old
+        → IsTermWalk given root target.new type_vars works.new ts made.new) }
     ensures less { OnOk result (length works.new ≤ length works.old + 3) }
 {
     match node {
@@ -515,7 +542,8 @@ fn put_operator(
     made: &mut Stack<LpId>,
 ) -> Result<(), Memory>
     requires { IsSome (told_operator (declarations_of target.old) name.now arity) }
-    ensures made { OnOk result ((symbol : ℕ) → told_operator (declarations_of target.old) name.now arity ≡ Some symbol → IsPut made.old made.new target.new.table (Sym symbol)) }
+    ensures made { OnOk result ((symbol : ℕ) → told_operator (declarations_of target.old) name.now arity ≡ Some symbol
+        → IsPut made.old made.new target.new.table (Sym symbol)) }
     ensures grows { Grows target.old target.new }
 {
     let symbol = operator(alloc, target, name, arity)?.unwrap();
@@ -531,7 +559,8 @@ fn put_constant(
     made: &mut Stack<LpId>,
 ) -> Result<(), Memory>
     requires { (symbols : Symbols) × (scope : TypeScope) × (t : HolType) × IsTypeTree symbols scope t target.old name.now ty }
-    ensures made { OnOk result ((symbols : Symbols) (scope : TypeScope) (t : HolType) → IsTypeTree symbols scope t target.old name.now ty → IsPut made.old made.new target.new.table (constant_tree symbols scope name.now t)) }
+    ensures made { OnOk result ((symbols : Symbols) (scope : TypeScope) (t : HolType) → IsTypeTree symbols scope t target.old name.now ty
+        → IsPut made.old made.new target.new.table (constant_tree symbols scope name.now t)) }
     ensures grows { Grows target.old target.new }
 {
     let tree = constant_of(alloc, target, name, ty)?;

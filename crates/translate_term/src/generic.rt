@@ -79,7 +79,8 @@ pub(crate) fn constant_of(
     ty: LpId,
 ) -> Result<LpId, Memory>
     requires { (symbols : Symbols) × (scope : TypeScope) × (t : HolType) × IsTypeTree symbols scope t target.old name.now ty }
-    ensures made { IfOk result (λ r. (symbols : Symbols) (scope : TypeScope) (t : HolType) → IsTypeTree symbols scope t target.old name.now ty → Holds target.new.table r.0 (constant_tree symbols scope name.now t)) }
+    ensures made { IfOk result (λ r. (symbols : Symbols) (scope : TypeScope) (t : HolType) → IsTypeTree symbols scope t target.old name.now ty
+        → Holds target.new.table r.0 (constant_tree symbols scope name.now t)) }
     ensures grows { Grows target.old target.new }
 {
     let symbol = symbols::constant(alloc, target, name)?.unwrap();
@@ -95,8 +96,11 @@ fn type_arguments(
     ty: LpId,
 ) -> Result<Vec<LpId>, Memory>
     requires held { IsHeld source.now }
-    requires instance { (symbols : Symbols) × (scope : TypeScope) × (generic : HolType) × (t : HolType) × IsGeneric (declarations_of source.now) symbol symbols scope generic t source.now.table ty }
-    ensures arguments { IfOk result (λ args. (symbols : Symbols) (scope : TypeScope) (generic t : HolType) → IsGeneric (declarations_of source.now) symbol symbols scope generic t source.now.table ty → trees_at source.now.table args.items ≡ map (type_tree symbols scope) (arguments_of generic t)) }
+    requires instance { (symbols : Symbols) × (scope : TypeScope) × (generic : HolType) × (t : HolType)
+        × IsGeneric (declarations_of source.now) symbol symbols scope generic t source.now.table ty }
+    ensures arguments { IfOk result (λ args. (symbols : Symbols) (scope : TypeScope) (generic t : HolType)
+        → IsGeneric (declarations_of source.now) symbol symbols scope generic t source.now.table ty
+        → trees_at source.now.table args.items ≡ map (type_tree symbols scope) (arguments_of generic t)) }
     ensures known { IfOk result (λ args. AreKnown source.now.table args.items) }
 {
     let (count, pattern) = generic_type(source, symbol);
@@ -114,7 +118,8 @@ fn type_arguments(
 fn generic_type(source: &Module, symbol: usize) -> (u128, LpId)
     requires held { IsHeld source.now }
     requires declared { symbol < length (signature ++ declarations_of source.now) }
-    ensures is { (k : ℕ) (pattern : Tree) → symbol_type (declarations_of source.now) symbol ≡ Some (products (replicate k types) (term_of pattern)) → (result.0 ≡ k) × (tree_at source.now.table result.1.0 ≡ pattern) }
+    ensures is { (k : ℕ) (pattern : Tree) → symbol_type (declarations_of source.now) symbol ≡ Some (products (replicate k types) (term_of pattern))
+        → (result.0 ≡ k) × (tree_at source.now.table result.1.0 ≡ pattern) }
     ensures known { result.1.0 < length source.now.table }
 {
     let mut count = 0;
@@ -140,7 +145,8 @@ fn matched(alloc: Global, trees: &LpTable, pattern: LpId, instance: LpId) -> Res
     requires pattern { pattern.0 < length trees.now }
     requires instance { instance.0 < length trees.now }
     requires fits { (want : ℕ → Tree) × (tree_at trees.now instance.0 ≡ sub want (tree_at trees.now pattern.0)) }
-    ensures noted { IfOk result (λ found. (want : ℕ → Tree) → tree_at trees.now instance.0 ≡ sub want (tree_at trees.now pattern.0) → (k : ℕ) (id : AnId) → IsNoted found k id → (id.0 < length trees.now) × (tree_at trees.now id.0 ≡ want k)) }
+    ensures noted { IfOk result (λ found. (want : ℕ → Tree) → tree_at trees.now instance.0 ≡ sub want (tree_at trees.now pattern.0) → (k : ℕ) (id : AnId)
+        → IsNoted found k id → (id.0 < length trees.now) × (tree_at trees.now id.0 ≡ want k)) }
     ensures all { IfOk result (λ found. (k : ℕ) → Mentions k (tree_at trees.now pattern.0) → IsDone found k) }
 {
     let mut found = Found::new(alloc);
@@ -164,7 +170,8 @@ fn met(
     found: &mut Found,
 ) -> Result<(), Memory>
     requires { (want : ℕ → Tree) × (root : Tree) × IsMatching want root trees.now (task ∷ tasks.old) found.old }
-    ensures { OnOk result ((want : ℕ → Tree) (root : Tree) → IsMatching want root trees.now (task ∷ tasks.old) found.old → IsMatching want root trees.now [] found.new) }
+    ensures { OnOk result ((want : ℕ → Tree) (root : Tree) → IsMatching want root trees.now (task ∷ tasks.old) found.old
+        → IsMatching want root trees.now [] found.new) }
 {
     tasks.push(task)?;
     while let Some(next) = tasks.pop() {
@@ -196,7 +203,8 @@ fn turn(
     found: &mut Found,
 ) -> Result<(), Memory>
     requires { (want : ℕ → Tree) × (root : Tree) × IsMatching want root trees.now (task ∷ tasks.old) found.old }
-    ensures matching { OnOk result ((want : ℕ → Tree) (root : Tree) → IsMatching want root trees.now (task ∷ tasks.old) found.old → IsMatching want root trees.now tasks.new found.new) }
+    ensures matching { OnOk result ((want : ℕ → Tree) (root : Tree) → IsMatching want root trees.now (task ∷ tasks.old) found.old
+        → IsMatching want root trees.now tasks.new found.new) }
     ensures less { OnOk result (work trees.now tasks.new < work trees.now (task ∷ tasks.old)) }
 {
     match trees.view(task.pattern) {

@@ -74,7 +74,8 @@ pub fn ty(
     requires id { id.0 < length table.now }
     requires types { AreTypesKnown target.old.table scope.now.types }
     requires told { (symbols : Symbols) × TellsType (declarations_of target.old) symbols (type.tree_at table.now id.0) }
-    ensures made { IfOk result (λ r. (symbols : Symbols) → TellsType (declarations_of target.old) symbols (type.tree_at table.now id.0) → Holds target.new.table r.0 (tree_of_type symbols (told_types (types_in target.old.table scope.now.types)) (type.tree_at table.now id.0))) }
+    ensures made { IfOk result (λ r. (symbols : Symbols) → TellsType (declarations_of target.old) symbols (type.tree_at table.now id.0)
+        → Holds target.new.table r.0 (tree_of_type symbols (told_types (types_in target.old.table scope.now.types)) (type.tree_at table.now id.0))) }
     ensures known { IfOk result (λ r. r.0 < length target.new.table) }
     ensures keeps { Keeps target.old.table target.new.table }
     ensures decls { target.new.decls ≡ target.old.decls }
@@ -98,7 +99,10 @@ pub fn tm(
     requires types { AreTypesKnown target.old.table scope.now.types }
     requires terms { AreTermsKnown table.now.types target.old.table scope.now.terms }
     requires told { (symbols : Symbols) × TellsTerm (declarations_of target.old) symbols (term_at table.now id.0) }
-    ensures made { IfOk result (λ r. (symbols : Symbols) → TellsTerm (declarations_of target.old) symbols (term_at table.now id.0) → Holds target.new.table r.0 (tree_of_term symbols (told symbols (types_in target.old.table scope.now.types) (terms_in table.now.types target.old.table scope.now.terms)) (term_at table.now id.0))) }
+    ensures made { IfOk result (λ r. (symbols : Symbols) → TellsTerm (declarations_of target.old) symbols (term_at table.now id.0)
+        → Holds target.new.table r.0
+        (tree_of_term symbols (told symbols (types_in target.old.table scope.now.types) (terms_in table.now.types target.old.table scope.now.terms))
+        (term_at table.now id.0))) }
     ensures known { IfOk result (λ r. r.0 < length target.new.table) }
     ensures keeps { Keeps target.old.table target.new.table }
     ensures decls { target.new.decls ≡ target.old.decls }
@@ -123,7 +127,8 @@ pub fn constant(
     requires ty { ty.0 < length table.now }
     requires types { AreTypesKnown target.old.table scope.now.types }
     requires told { (symbols : Symbols) × TellsConstant (declarations_of target.old) symbols name.now (type.tree_at table.now ty.0) }
-    ensures made { IfOk result (λ r. (symbols : Symbols) → TellsConstant (declarations_of target.old) symbols name.now (type.tree_at table.now ty.0) → Holds target.new.table r.0 (constant_tree symbols (told_types (types_in target.old.table scope.now.types)) name.now (type.tree_at table.now ty.0))) }
+    ensures made { IfOk result (λ r. (symbols : Symbols) → TellsConstant (declarations_of target.old) symbols name.now (type.tree_at table.now ty.0)
+        → Holds target.new.table r.0 (constant_tree symbols (told_types (types_in target.old.table scope.now.types)) name.now (type.tree_at table.now ty.0))) }
     ensures known { IfOk result (λ r. r.0 < length target.new.table) }
     ensures keeps { Keeps target.old.table target.new.table }
     ensures decls { target.new.decls ≡ target.old.decls }
@@ -142,8 +147,11 @@ pub fn constant(
 pub fn closed_ty(alloc: Global, target: &mut Module, closed: &Closed) -> Result<LpId, Memory>
     requires held { IsHeld target.old }
     requires told { (symbols : Symbols) × (s : Sequent) × TellsClosed (declarations_of target.old) symbols s (closed_view closed.now) }
-    ensures made { IfOk result (λ r. (symbols : Symbols) (s : Sequent) → TellsClosed (declarations_of target.old) symbols s (closed_view closed.now) → Holds target.new.table r.0 (sequent_tree symbols s)) }
-    ensures encoded { IfOk result (λ r. (symbols : Symbols) (s : Sequent) → TellsClosed (declarations_of target.old) symbols s (closed_view closed.now) → SequentWithin s → AllByRecursion (TermMeant (declarations_of target.old) symbols) (terms_of s) → Enc (declarations_of target.old) (closed_view closed.now) (tree_at target.new.table r.0)) }
+    ensures made { IfOk result (λ r. (symbols : Symbols) (s : Sequent) → TellsClosed (declarations_of target.old) symbols s (closed_view closed.now)
+        → Holds target.new.table r.0 (sequent_tree symbols s)) }
+    ensures encoded { IfOk result (λ r. (symbols : Symbols) (s : Sequent) → TellsClosed (declarations_of target.old) symbols s (closed_view closed.now)
+        → SequentWithin s → AllByRecursion (TermMeant (declarations_of target.old) symbols) (terms_of s)
+        → Enc (declarations_of target.old) (closed_view closed.now) (tree_at target.new.table r.0)) }
     ensures known { IfOk result (λ r. r.0 < length target.new.table) }
     ensures keeps { Keeps target.old.table target.new.table }
     ensures decls { target.new.decls ≡ target.old.decls }

@@ -50,7 +50,8 @@ pub(crate) fn term_tree(
     id: TermId,
 ) -> Result<LpId, Memory>
     requires { (given : Given) × IsTermStart given (record { id = id; depth = 0 }) target.old table.now scope.now.types scope.now.terms }
-    ensures made { IfOk result (λ r. (given : Given) → IsTermStart given (record { id = id; depth = 0 }) target.old table.now scope.now.types scope.now.terms → lp.Holds target.new.table r.0 (term_wanted given 0 (term_at table.now id.0))) }
+    ensures made { IfOk result (λ r. (given : Given) → IsTermStart given (record { id = id; depth = 0 }) target.old table.now scope.now.types scope.now.terms
+        → lp.Holds target.new.table r.0 (term_wanted given 0 (term_at table.now id.0))) }
     ensures grows { Grows target.old target.new }
 {
     let root = Place { id, depth: 0 };
@@ -73,8 +74,11 @@ fn walked(
     root: Place,
     walk: &mut Walk,
 ) -> Result<LpId, Memory>
-    requires { (given : Given) × IsTermWalk given root target.old table.now scope.now.types scope.now.terms (task.Visit root ∷ walk.old.tasks) walk.old.made walk.old.types }
-    ensures made { IfOk result (λ r. (given : Given) → IsTermWalk given root target.old table.now scope.now.types scope.now.terms (task.Visit root ∷ walk.old.tasks) walk.old.made walk.old.types → lp.Holds target.new.table r.0 (term_wanted given root.depth (term_at table.now root.id.0))) }
+    requires { (given : Given)
+        × IsTermWalk given root target.old table.now scope.now.types scope.now.terms (task.Visit root ∷ walk.old.tasks) walk.old.made walk.old.types }
+    ensures made { IfOk result (λ r. (given : Given)
+        → IsTermWalk given root target.old table.now scope.now.types scope.now.terms (task.Visit root ∷ walk.old.tasks) walk.old.made walk.old.types
+        → lp.Holds target.new.table r.0 (term_wanted given root.depth (term_at table.now root.id.0))) }
     ensures grows { Grows target.old target.new }
 {
     walk.tasks.push(Task::Visit(root))?;
@@ -93,9 +97,12 @@ fn turn(
     task: Task<Place>,
     walk: &mut Walk,
 ) -> Result<(), Memory>
-    requires { (given : Given) × (root : APlace) × IsTermWalk given root target.old table.now scope.now.types scope.now.terms (task ∷ walk.old.tasks) walk.old.made walk.old.types }
+    requires { (given : Given) × (root : APlace)
+        × IsTermWalk given root target.old table.now scope.now.types scope.now.terms (task ∷ walk.old.tasks) walk.old.made walk.old.types }
     ensures grows { Grows target.old target.new }
-    ensures walk { OnOk result ((given : Given) (root : APlace) → IsTermWalk given root target.old table.now scope.now.types scope.now.terms (task ∷ walk.old.tasks) walk.old.made walk.old.types → IsTermWalk given root target.new table.now scope.now.types scope.now.terms walk.new.tasks walk.new.made walk.new.types) }
+    ensures walk { OnOk result ((given : Given) (root : APlace)
+        → IsTermWalk given root target.old table.now scope.now.types scope.now.terms (task ∷ walk.old.tasks) walk.old.made walk.old.types
+        → IsTermWalk given root target.new table.now scope.now.types scope.now.terms walk.new.tasks walk.new.made walk.new.types) }
     ensures less { OnOk result (work (place_size table.now) walk.new.tasks < work (place_size table.now) (task ∷ walk.old.tasks)) }
 {
     match task {
@@ -113,9 +120,12 @@ fn visit(
     place: Place,
     walk: &mut Walk,
 ) -> Result<(), Memory>
-    requires { (given : Given) × (root : APlace) × IsTermWalk given root target.old table.now scope.now.types scope.now.terms (task.Visit place ∷ walk.old.tasks) walk.old.made walk.old.types }
+    requires { (given : Given) × (root : APlace)
+        × IsTermWalk given root target.old table.now scope.now.types scope.now.terms (task.Visit place ∷ walk.old.tasks) walk.old.made walk.old.types }
     ensures grows { Grows target.old target.new }
-    ensures walk { OnOk result ((given : Given) (root : APlace) → IsTermWalk given root target.old table.now scope.now.types scope.now.terms (task.Visit place ∷ walk.old.tasks) walk.old.made walk.old.types → IsTermWalk given root target.new table.now scope.now.types scope.now.terms walk.new.tasks walk.new.made walk.new.types) }
+    ensures walk { OnOk result ((given : Given) (root : APlace)
+        → IsTermWalk given root target.old table.now scope.now.types scope.now.terms (task.Visit place ∷ walk.old.tasks) walk.old.made walk.old.types
+        → IsTermWalk given root target.new table.now scope.now.types scope.now.terms walk.new.tasks walk.new.made walk.new.types) }
     ensures less { OnOk result (work (place_size table.now) walk.new.tasks < work (place_size table.now) (task.Visit place ∷ walk.old.tasks)) }
 {
     match walk.made.find(place) {
@@ -168,7 +178,8 @@ fn note_lifted(
 
 // Sets out to make both parts of an application, and then to come back to it.
 fn set_out_two(walk: &mut Walk, place: Place, f: TermId, x: TermId) -> Result<(), Memory>
-    ensures tasks { OnOk result (walk.new.tasks ≡ task.Visit (record { id = f; depth = place.depth }) ∷ task.Visit (record { id = x; depth = place.depth }) ∷ task.Join place ∷ walk.old.tasks) }
+    ensures tasks { OnOk result (walk.new.tasks ≡ task.Visit (record { id = f; depth = place.depth }) ∷ task.Visit
+        (record { id = x; depth = place.depth }) ∷ task.Join place ∷ walk.old.tasks) }
     ensures made { walk.new.made ≡ walk.old.made }
     ensures types { walk.new.types ≡ walk.old.types }
 {
@@ -206,9 +217,13 @@ fn variable(
     name: &Name,
     ty: TypeId,
 ) -> Result<LpId, Memory>
-    requires { (given : Given) × IsTypeStart given ty target.old table.now.types scope.now.types memo.old × AreGiven given target.old table.now.types scope.now.terms }
-    ensures made { IfOk result (λ r. (given : Given) → IsTypeStart given ty target.old table.now.types scope.now.types memo.old → AreGiven given target.old table.now.types scope.now.terms → lp.Holds target.new.table r.0 (term_wanted given 0 (free name.now (hol.type_at table.now ty.0)))) }
-    ensures noted { OnOk result ((given : Given) → IsTypeStart given ty target.old table.now.types scope.now.types memo.old → IsTypeMemo given table.now.types target.new.table memo.new) }
+    requires { (given : Given) × IsTypeStart given ty target.old table.now.types scope.now.types memo.old
+        × AreGiven given target.old table.now.types scope.now.terms }
+    ensures made { IfOk result (λ r. (given : Given) → IsTypeStart given ty target.old table.now.types scope.now.types memo.old
+        → AreGiven given target.old table.now.types scope.now.terms
+        → lp.Holds target.new.table r.0 (term_wanted given 0 (free name.now (hol.type_at table.now ty.0)))) }
+    ensures noted { OnOk result ((given : Given) → IsTypeStart given ty target.old table.now.types scope.now.types memo.old
+        → IsTypeMemo given table.now.types target.new.table memo.new) }
     ensures grows { Grows target.old target.new }
 {
     // No type has two numbers, so a number tells the type.
@@ -235,8 +250,10 @@ fn some_term(
     ty: TypeId,
 ) -> Result<LpId, Memory>
     requires { (given : Given) × IsTypeStart given ty target.old table.now.types scope.now.types memo.old }
-    ensures made { IfOk result (λ r. (given : Given) → IsTypeStart given ty target.old table.now.types scope.now.types memo.old → lp.Holds target.new.table r.0 (filler (type_wanted given (hol.type_at table.now ty.0)))) }
-    ensures noted { OnOk result ((given : Given) → IsTypeStart given ty target.old table.now.types scope.now.types memo.old → IsTypeMemo given table.now.types target.new.table memo.new) }
+    ensures made { IfOk result (λ r. (given : Given) → IsTypeStart given ty target.old table.now.types scope.now.types memo.old
+        → lp.Holds target.new.table r.0 (filler (type_wanted given (hol.type_at table.now ty.0)))) }
+    ensures noted { OnOk result ((given : Given) → IsTypeStart given ty target.old table.now.types scope.now.types memo.old
+        → IsTypeMemo given table.now.types target.new.table memo.new) }
     ensures grows { Grows target.old target.new }
 {
     let filled = type_of(alloc, target, table.types(), &scope.types, memo, ty)?;
@@ -253,9 +270,13 @@ fn constant(
     name: &Name,
     ty: TypeId,
 ) -> Result<LpId, Memory>
-    requires { (given : Given) × IsTypeStart given ty target.old table.now.types scope.now.types memo.old × TellsConstant given.declarations given.symbols name.now (hol.type_at table.now ty.0) }
-    ensures made { IfOk result (λ r. (given : Given) → IsTypeStart given ty target.old table.now.types scope.now.types memo.old → TellsConstant given.declarations given.symbols name.now (hol.type_at table.now ty.0) → lp.Holds target.new.table r.0 (term_wanted given 0 (a_constant name.now (hol.type_at table.now ty.0)))) }
-    ensures noted { OnOk result ((given : Given) → IsTypeStart given ty target.old table.now.types scope.now.types memo.old → TellsConstant given.declarations given.symbols name.now (hol.type_at table.now ty.0) → IsTypeMemo given table.now.types target.new.table memo.new) }
+    requires { (given : Given) × IsTypeStart given ty target.old table.now.types scope.now.types memo.old
+        × TellsConstant given.declarations given.symbols name.now (hol.type_at table.now ty.0) }
+    ensures made { IfOk result (λ r. (given : Given) → IsTypeStart given ty target.old table.now.types scope.now.types memo.old
+        → TellsConstant given.declarations given.symbols name.now (hol.type_at table.now ty.0)
+        → lp.Holds target.new.table r.0 (term_wanted given 0 (a_constant name.now (hol.type_at table.now ty.0)))) }
+    ensures noted { OnOk result ((given : Given) → IsTypeStart given ty target.old table.now.types scope.now.types memo.old
+        → TellsConstant given.declarations given.symbols name.now (hol.type_at table.now ty.0) → IsTypeMemo given table.now.types target.new.table memo.new) }
     ensures grows { Grows target.old target.new }
 {
     let tree = type_of(alloc, target, table.types(), &scope.types, memo, ty)?;
@@ -271,9 +292,12 @@ fn join(
     place: Place,
     walk: &mut Walk,
 ) -> Result<(), Memory>
-    requires { (given : Given) × (root : APlace) × IsTermWalk given root target.old table.now scope.now.types scope.now.terms (task.Join place ∷ walk.old.tasks) walk.old.made walk.old.types }
+    requires { (given : Given) × (root : APlace)
+        × IsTermWalk given root target.old table.now scope.now.types scope.now.terms (task.Join place ∷ walk.old.tasks) walk.old.made walk.old.types }
     ensures grows { Grows target.old target.new }
-    ensures walk { OnOk result ((given : Given) (root : APlace) → IsTermWalk given root target.old table.now scope.now.types scope.now.terms (task.Join place ∷ walk.old.tasks) walk.old.made walk.old.types → IsTermWalk given root target.new table.now scope.now.types scope.now.terms walk.new.tasks walk.new.made walk.new.types) }
+    ensures walk { OnOk result ((given : Given) (root : APlace)
+        → IsTermWalk given root target.old table.now scope.now.types scope.now.terms (task.Join place ∷ walk.old.tasks) walk.old.made walk.old.types
+        → IsTermWalk given root target.new table.now scope.now.types scope.now.terms walk.new.tasks walk.new.made walk.new.types) }
     ensures less { OnOk result (work (place_size table.now) walk.new.tasks < work (place_size table.now) (task.Join place ∷ walk.old.tasks)) }
 {
     match table.view(place.id) {
@@ -315,8 +339,10 @@ fn domain(
     depth: u128,
 ) -> Result<LpId, Memory>
     requires { (given : Given) × IsTypeStart given ty target.old table.now.types scope.now.types memo.old }
-    ensures made { IfOk result (λ r. (given : Given) → IsTypeStart given ty target.old table.now.types scope.now.types memo.old → lp.Holds target.new.table r.0 (terms_of (lift depth (type_wanted given (hol.type_at table.now ty.0))))) }
-    ensures noted { OnOk result ((given : Given) → IsTypeStart given ty target.old table.now.types scope.now.types memo.old → IsTypeMemo given table.now.types target.new.table memo.new) }
+    ensures made { IfOk result (λ r. (given : Given) → IsTypeStart given ty target.old table.now.types scope.now.types memo.old
+        → lp.Holds target.new.table r.0 (terms_of (lift depth (type_wanted given (hol.type_at table.now ty.0))))) }
+    ensures noted { OnOk result ((given : Given) → IsTypeStart given ty target.old table.now.types scope.now.types memo.old
+        → IsTypeMemo given table.now.types target.new.table memo.new) }
     ensures grows { Grows target.old target.new }
 {
     let tree = type_of(alloc, target, table.types(), &scope.types, memo, ty)?;

@@ -38,8 +38,10 @@ pub(crate) fn type_of(
     root: TypeId,
 ) -> Result<LpId, Memory>
     requires { (given : Given) × IsTypeStart given root target.old table.now scope.now memo.old }
-    ensures made { IfOk result (λ r. (given : Given) → IsTypeStart given root target.old table.now scope.now memo.old → lp.Holds target.new.table r.0 (type_wanted given (tree_at table.now root.0))) }
-    ensures noted { OnOk result ((given : Given) → IsTypeStart given root target.old table.now scope.now memo.old → IsTypeMemo given table.now target.new.table memo.new) }
+    ensures made { IfOk result (λ r. (given : Given) → IsTypeStart given root target.old table.now scope.now memo.old
+        → lp.Holds target.new.table r.0 (type_wanted given (tree_at table.now root.0))) }
+    ensures noted { OnOk result ((given : Given) → IsTypeStart given root target.old table.now scope.now memo.old
+        → IsTypeMemo given table.now target.new.table memo.new) }
     ensures grows { Grows target.old target.new }
 {
     let mut tasks = Stack::new(alloc);
@@ -59,8 +61,10 @@ fn walked(
     memo: &mut TypeMemo,
 ) -> Result<LpId, Memory>
     requires { (given : Given) × IsTypeWalk given root target.old table.now scope.now (task.Visit root ∷ tasks.old) memo.old }
-    ensures made { IfOk result (λ r. (given : Given) → IsTypeWalk given root target.old table.now scope.now (task.Visit root ∷ tasks.old) memo.old → lp.Holds target.new.table r.0 (type_wanted given (tree_at table.now root.0))) }
-    ensures noted { OnOk result ((given : Given) → IsTypeWalk given root target.old table.now scope.now (task.Visit root ∷ tasks.old) memo.old → IsTypeMemo given table.now target.new.table memo.new) }
+    ensures made { IfOk result (λ r. (given : Given) → IsTypeWalk given root target.old table.now scope.now (task.Visit root ∷ tasks.old) memo.old
+        → lp.Holds target.new.table r.0 (type_wanted given (tree_at table.now root.0))) }
+    ensures noted { OnOk result ((given : Given) → IsTypeWalk given root target.old table.now scope.now (task.Visit root ∷ tasks.old) memo.old
+        → IsTypeMemo given table.now target.new.table memo.new) }
     ensures grows { Grows target.old target.new }
 {
     tasks.push(Task::Visit(root))?;
@@ -82,7 +86,8 @@ fn turn(
 ) -> Result<(), Memory>
     requires { (given : Given) × (root : ATypeId) × IsTypeWalk given root target.old table.now scope.now (task ∷ tasks.old) memo.old }
     ensures grows { Grows target.old target.new }
-    ensures walk { OnOk result ((given : Given) (root : ATypeId) → IsTypeWalk given root target.old table.now scope.now (task ∷ tasks.old) memo.old → IsTypeWalk given root target.new table.now scope.now tasks.new memo.new) }
+    ensures walk { OnOk result ((given : Given) (root : ATypeId) → IsTypeWalk given root target.old table.now scope.now (task ∷ tasks.old) memo.old
+        → IsTypeWalk given root target.new table.now scope.now tasks.new memo.new) }
     ensures less { OnOk result (work (size_at table.now) tasks.new < work (size_at table.now) (task ∷ tasks.old)) }
 {
     match task {
@@ -102,7 +107,8 @@ fn visit(
 ) -> Result<(), Memory>
     requires { (given : Given) × (root : ATypeId) × IsTypeWalk given root target.old table.now scope.now (task.Visit id ∷ tasks.old) memo.old }
     ensures grows { Grows target.old target.new }
-    ensures walk { OnOk result ((given : Given) (root : ATypeId) → IsTypeWalk given root target.old table.now scope.now (task.Visit id ∷ tasks.old) memo.old → IsTypeWalk given root target.new table.now scope.now tasks.new memo.new) }
+    ensures walk { OnOk result ((given : Given) (root : ATypeId) → IsTypeWalk given root target.old table.now scope.now (task.Visit id ∷ tasks.old) memo.old
+        → IsTypeWalk given root target.new table.now scope.now tasks.new memo.new) }
     ensures less { OnOk result (work (size_at table.now) tasks.new < work (size_at table.now) (task.Visit id ∷ tasks.old)) }
 {
     match memo.find(id) {
@@ -137,9 +143,11 @@ fn join(
     id: TypeId,
     memo: &mut TypeMemo,
 ) -> Result<(), Memory>
-    requires { (given : Given) × (root : ATypeId) × (names : List (AName × AnId)) × (rest : List (ATask ATypeId)) × IsTypeWalk given root target.old table.now names (task.Join id ∷ rest) memo.old }
+    requires { (given : Given) × (root : ATypeId) × (names : List (AName × AnId)) × (rest : List (ATask ATypeId))
+        × IsTypeWalk given root target.old table.now names (task.Join id ∷ rest) memo.old }
     ensures grows { Grows target.old target.new }
-    ensures walk { OnOk result ((given : Given) (root : ATypeId) (names : List (AName × AnId)) (rest : List (ATask ATypeId)) → IsTypeWalk given root target.old table.now names (task.Join id ∷ rest) memo.old → IsTypeWalk given root target.new table.now names rest memo.new) }
+    ensures walk { OnOk result ((given : Given) (root : ATypeId) (names : List (AName × AnId)) (rest : List (ATask ATypeId))
+        → IsTypeWalk given root target.old table.now names (task.Join id ∷ rest) memo.old → IsTypeWalk given root target.new table.now names rest memo.new) }
 {
     let TypeView::Op(name, args) = table.view(id) else {
         return Ok(());
@@ -161,7 +169,8 @@ fn applied_to(
 ) -> Result<LpId, Memory>
     requires found { IsSome (told_operator (declarations_of target.old) name.now arity) }
     requires known { lp.AreKnown target.old.table trees.now }
-    ensures made { IfOk result (λ r. (symbol : ℕ) → told_operator (declarations_of target.old) name.now arity ≡ Some symbol → lp.Holds target.new.table r.0 (applied (Sym symbol) (lp.trees_at target.old.table trees.now))) }
+    ensures made { IfOk result (λ r. (symbol : ℕ) → told_operator (declarations_of target.old) name.now arity ≡ Some symbol
+        → lp.Holds target.new.table r.0 (applied (Sym symbol) (lp.trees_at target.old.table trees.now))) }
     ensures grows { Grows target.old target.new }
 {
     let symbol = operator(alloc, target, name, arity)?.unwrap();

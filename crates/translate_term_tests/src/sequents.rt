@@ -111,7 +111,8 @@ fn quantifier_type(alloc: Global) -> Result<ClosedType, Memory>
 
 // u, of predicates of truth values.
 fn quantifier(alloc: Global) -> Result<TermNode, Memory>
-    ensures { IfOk result (λ node. (ts : List AClosedTerm) → term_step node ts ≡ constant (codes "u" ∷ []) (closed_function (closed_function closed_bool closed_bool) closed_bool) ∷ ts) }
+    ensures { IfOk result (λ node. (ts : List AClosedTerm)
+        → term_step node ts ≡ constant (codes "u" ∷ []) (closed_function (closed_function closed_bool closed_bool) closed_bool) ∷ ts) }
 {
     let ty = quantifier_type(alloc)?;
     let name = named(alloc, b"u")?;
@@ -127,7 +128,8 @@ fn binder(alloc: Global) -> Result<TermNode, Memory>
 
 // u (\y. x0)
 fn application(alloc: Global) -> Result<ClosedTerm, Memory>
-    ensures { IfOk result (λ made. closed_term_view made ≡ app (constant (codes "u" ∷ []) (closed_function (closed_function closed_bool closed_bool) closed_bool)) (lam closed_bool (parameter 0))) }
+    ensures { IfOk result (λ made. closed_term_view made ≡ app
+        (constant (codes "u" ∷ []) (closed_function (closed_function closed_bool closed_bool) closed_bool)) (lam closed_bool (parameter 0))) }
 {
     let mut nodes = Vec::new(alloc);
     nodes.push(TermNode::App)?;

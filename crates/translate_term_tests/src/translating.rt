@@ -57,7 +57,8 @@ fn set_type(scope: &mut Scope, alloc: Global, tree: LpId) -> Result<(), Memory>
 // Lets a tree stand for the variable g of a type.
 fn set_term(scope: &mut Scope, alloc: Global, ty: TypeId, tree: LpId) -> Result<(), Memory>
     requires { scope.old.terms ≡ [] }
-    ensures terms { OnOk result ((types : List HolType) (trees : List Tree) → ty.0 < length types → tree.0 < length trees → AreTermsKnown types trees scope.new.terms) }
+    ensures terms { OnOk result ((types : List HolType) (trees : List Tree) → ty.0 < length types → tree.0 < length trees
+        → AreTermsKnown types trees scope.new.terms) }
     ensures types { scope.new.types ≡ scope.old.types }
 {
     let name = named(alloc, b"g")?;
@@ -67,7 +68,8 @@ fn set_term(scope: &mut Scope, alloc: Global, ty: TypeId, tree: LpId) -> Result<
 // The scope in which a tree stands for a, and for the variable g of a type.
 fn scope(alloc: Global, tree: LpId, ty: TypeId) -> Result<Scope, Memory>
     ensures types { IfOk result (λ scope. (trees : List Tree) → tree.0 < length trees → AreTypesKnown trees scope.types) }
-    ensures terms { IfOk result (λ scope. (types : List HolType) (trees : List Tree) → ty.0 < length types → tree.0 < length trees → AreTermsKnown types trees scope.terms) }
+    ensures terms { IfOk result (λ scope. (types : List HolType) (trees : List Tree) → ty.0 < length types → tree.0 < length trees
+        → AreTermsKnown types trees scope.terms) }
 {
     let mut scope = Scope::new(alloc);
     set_type(&mut scope, alloc, tree)?;

@@ -144,7 +144,8 @@ fn add<T: Ord + Clone + Drop>(
     ensures place { IfOk result (λ r. r ≡ (length keys.old.items, true)) }
     ensures keys { OnOk result (keys.new.items ≡ keys.old.items ++ key ∷ []) }
     ensures placed { OnOk result (8 ≤ length keys.old.items → FindsWith (eq_by_cmp T.cmp) (get T.cmp places.new) keys.old.items key) }
-    ensures unchanged { OnErr result ((keys.new.items ≡ keys.old.items) × (8 < length keys.old.items → Finds (eq_by_cmp T.cmp) (get T.cmp places.new) keys.old.items)) }
+    ensures unchanged { OnErr result ((keys.new.items ≡ keys.old.items)
+        × (8 < length keys.old.items → Finds (eq_by_cmp T.cmp) (get T.cmp places.new) keys.old.items)) }
 {
     keys.reserve(1)?;
     let place = keys.len();
