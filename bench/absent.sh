@@ -1,8 +1,8 @@
 #!/bin/sh
 # Time and peak memory of `show` on an article with a term of 20,000 nodes and one variable, of which 2,000 lines make an abstraction by a
 # variable that isn't in it and 2,000 put a term for such a variable into a theorem about it, and on one with twice of each. A line passes
-# over the term unless its variable's name has the same one of 64 bits as the term's, so a line in 64 goes through all of it, and the ratio
-# of the times is between 2 and 4. Run `./bridge show` on any article first.
+# over the term, also where its variable's name has the same one of 64 bits as the term's, because the variable came after the term: so the
+# ratio of the times is near 2. Run `./bridge show` on any article first.
 . "$(dirname "$0")/chain.sh"
 # Kept: 0 the type bool, 1 equality, 2 the variable a, 3 what is equal to a, 4 the term, of parts of 4,000 nodes, 5 a part, 6 that the term is
 # itself.

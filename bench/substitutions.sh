@@ -1,7 +1,7 @@
 #!/bin/sh
 # Time and peak memory of `show` on an article that puts a list of 1,000 pairs 1,000 times into a theorem with one variable, and on one
-# that puts 2,000 pairs 2,000 times; the ratio of the memories is to be at most 2.5. Each time makes a step, and the steps share the list.
-# Each also reads the whole list, so the ratio of the times is about 4. Run `./bridge show` on any article first.
+# that puts 2,000 pairs 2,000 times; both ratios are to be at most 2.5. Each time makes a step; the list is read, judged and copied once,
+# and the steps share it. Run `./bridge show` on any article first.
 . "$(dirname "$0")/chain.sh"
 # Kept: 0 the type bool, 1 no types and so many variables with the terms that are put for them, 2 the theorem that x0 is x0.
 substituted() {
