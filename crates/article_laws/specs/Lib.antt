@@ -1,6 +1,13 @@
+pub mod Binds
+pub mod GrownRuns
 pub mod Inferred
+pub mod KeptRuns
+pub mod KeptWords
 pub mod LineLaws
+pub mod Moves
 pub mod NoPhantoms
+pub mod OperandParts
+pub mod Parts
 pub mod PlacesKept
 pub mod ReadingLaws
 pub mod RunLaws

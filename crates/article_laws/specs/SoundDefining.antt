@@ -1,4 +1,4 @@
--- The words that define symbols keep a state sound.
+-- What defines symbols keeps a run sound.
 use Rattle.hol_spec.specs.declared.Version.{Version}
 use Rattle.hol_spec.specs.declared.Version.TheVariants.{Five, Six}
 use Rattle.std.proofs.Common.{◌≡◌, ℕ, ◌+◌, ◌<◌, List, [], ◌∷◌, ◌++◌, map, length, true, false, ◌&&◌, cond, Option, None, Some, Result, Ok, slice_get, refl, sym, ap, subst, ◌∙◌, arith}
@@ -44,21 +44,20 @@ use Rattle.proof_laws.specs.RuleTaken.{lookup-All, list_parts}
 use Rattle.proof_laws.specs.RuleSequents.{predicate-typed}
 use Rattle.hol_spec.specs.Derivations.{type_definition_in}
 use Rattle.proof_laws.specs.StepsDerive.{among-front}
-use Rattle.hol_spec.specs.Proofs.{Made, symbols_of, steps_of, sequents_of, sequent_at, definitions_of}
+use Rattle.hol_spec.specs.Limits.{SequentWithin}
+use Rattle.hol_spec.specs.Proofs.{Made, Step, symbols_of, steps_of, sequents_of, sequent_at, definitions_of}
 use Rattle.proof_laws.specs.ProofGrowth.{All-get, symbols_of-append, sequents_of-append, definitions_of-append, over-sequents}
 use Rattle.proof_laws.specs.ProofLaws.{symbols_of-symbols}
 use Rattle.hol_spec.specs.declared.StepKind.TheVariants as by_rule
-use Rattle.article_spec.specs.State.{Object, State, version_at}
-use Rattle.article_spec.specs.State as object
-use Rattle.article_spec.specs.Operands.{as_name, as_names, as_term, as_theorem, as_constant_pairs, pop}
+use Rattle.article_spec.specs.State.{State, version_at}
 use Rattle.article_spec.specs.Conditions.{demand, in_limits, typed}
-use Rattle.article_spec.specs.Changes.{with_stack, with_symbols, with_theorem, with_type_definition, with_type}
+use Rattle.article_spec.specs.Changes.{with_step, with_type_definition, with_type}
 use Rattle.article_spec.specs.RuleSteps.{step_by, application_parts, predicate_fits, are_new_names, NewType, define_const_step, define_const_list_step, type_laws, type_measures, made_of_type}
-use Rattle.article_spec.specs.DefiningWords.{define_const, constant_objects, define_const_list, define_type_op}
-use Rattle.article_laws.specs.Soundness.{IsTermObject, IsObject, AreObjects, IsSound}
-use Rattle.article_laws.specs.SoundStates.{bound, passed, answered, demanded, found, restacked, AreTakenAfter, symbols-more, in_limits-All, sequent-within, theorem-sound, conclude-sound, at_step, definition-more, IsWithin}
-use Rattle.article_laws.specs.SoundOperands.{Anything, any-gives, term-gives, constant_pairs-gives, IsConstantPair, pop-gives}
-use Rattle.article_laws.specs.SoundInference.{sequent_at-IsSequent, typed-is, one_popped, the_step}
+use Rattle.article_laws.specs.Moves.{with_constants}
+use Rattle.article_laws.specs.Soundness.{IsTermObject, HasSoundRun}
+use Rattle.article_laws.specs.SoundStates.{bound, passed, demanded, found, AreTakenAfter, symbols-more, in_limits-All, sequent-within, infer-more, at_step, definition-more, IsWithin}
+use Rattle.article_laws.specs.SoundOperands.{IsConstantPair, IsStepNumber}
+use Rattle.article_laws.specs.SoundInference.{sequent_at-IsSequent, typed-is, the_step}
 
 -- definitions that are made are among those of what was made
 definitions_of-taken : (made : List Made) (ds : List Definition) → definitions_of (made ++ map Made.symbol (map defined ds)) ≡ definitions_of made ++ ds
@@ -83,39 +82,35 @@ premise-more : (m ys : List Made) (i : ℕ) (s : Sequent) → slice_get (sequent
 premise-more m ys i s e = ap (λ l. slice_get l i) (sequents_of-append m ys) ∙ slice_get-append (sequents_of m) (sequents_of ys) i s e
 
 -- a theorem on the stack says a sequent over what is taken
-said-taken : (s : State) (i : ℕ) → IsSound s → i < length (steps_of s.made) → TermsTaken (symbols_of s.made) (sequent_at s.made i)
+said-taken : (s : State) (i : ℕ) → HasSoundRun s → i < length (steps_of s.made) → TermsTaken (symbols_of s.made) (sequent_at s.made i)
 said-taken s i g l = All-get (TermsTaken (symbols_of s.made)) (sequents_of s.made) i (sequent_at s.made i) (over-sequents s.made g.over) (at_step s.made i l)
 
 -- defineConst
-pub define_const-sound : (s t : State) → IsSound s → define_const s ≡ Ok t → IsSound t
-define_const-sound s t g e =
+pub define_const-sound : (s : State) (n : Name) (u : Term) (x : Step) → HasSoundRun s → IsTermObject s.made u → define_const_step s.made n u ≡ Ok x
+    → SequentWithin x.sequent → HasSoundRun (with_step (with_constants s (Definition.constant n u ∷ [])) x)
+define_const-sound s n u x g h e within =
     let symbols = symbols_of s.made in
-    let u = bound (pop as_term s.stack) _ t e in
-    let n = bound (pop as_name u.0.1) _ t u.2 in
-    let x = bound (define_const_step s.made n.0.0 u.0.0) _ t n.2 in
-    let new = passed (demand (not (is_taken_constant symbols n.0.0)) NameTaken) _ x.0 x.1 in
-    let closed = passed (demand (is_closed u.0.0) NotClosed) _ x.0 new.2 in
-    let a = bound (typed u.0.0) _ x.0 closed.2 in
-    let variables = passed (demand (has_type_variables_of a.0 u.0.0) ExtraTypeVars) _ x.0 a.2 in
-    let h = pop-gives s.made as_term (IsTermObject s.made) (term-gives s.made) s.stack u.0 g.stack u.1 in
-    let k = pop-gives s.made as_name (Anything s.made) (any-gives s.made as_name) u.0.1 n.0 h.1 n.1 in
-    let d = Definition.constant n.0.0 u.0.0 in
-    let defining : IsDefining a.0 u.0.0 = record { typed = typed-is u.0.0 a.0 a.1; closed = demanded (is_closed u.0.0) NotClosed closed.0 closed.1; variables = demanded (has_type_variables_of a.0 u.0.0) ExtraTypeVars variables.0 variables.1 } in
-    let s1 = with_symbols (with_stack s (object.constant n.0.0 ∷ n.0.1)) (defined d ∷ []) in
-    let sound : IsSound s1 = symbols-more (defined d ∷ []) (with_stack s (object.constant n.0.0 ∷ n.0.1)) (restacked s (object.constant n.0.0 ∷ n.0.1) g (tt {0}, k.1))
-    ((tt {0}, taking.Takes.constant (not-true (is_taken_constant symbols n.0.0) (demanded (not (is_taken_constant symbols n.0.0)) NameTaken new.0 new.1)) defining), h.0.taken, tt {0}) in
-    let f = the_step s1 _ x.0 variables.2 (record {
+    let new = passed (demand (not (is_taken_constant symbols n)) NameTaken) _ x e in
+    let closed = passed (demand (is_closed u) NotClosed) _ x new.2 in
+    let a = bound (typed u) _ x closed.2 in
+    let variables = passed (demand (has_type_variables_of a.0 u) ExtraTypeVars) _ x a.2 in
+    let d = Definition.constant n u in
+    let defining : IsDefining a.0 u = record { typed = typed-is u a.0 a.1; closed = demanded (is_closed u) NotClosed closed.0 closed.1; variables = demanded (has_type_variables_of a.0 u) ExtraTypeVars variables.0 variables.1 } in
+    let s1 = with_constants s (d ∷ []) in
+    let sound : HasSoundRun s1 = symbols-more s.made s.exports s.assumptions (defined d ∷ []) g
+    ((tt {0}, taking.Takes.constant (not-true (is_taken_constant symbols n) (demanded (not (is_taken_constant symbols n)) NameTaken new.0 new.1)) defining), h.taken, tt {0}) in
+    let f = the_step s1.made _ x variables.2 (record {
       next = record {
         premises = [];
         earlier = tt {0};
         rule = rule.Rule.define_const defining refl;
         defined = are-defined s.made (d ∷ []);
-        parameters = subst (λ xs. TermTaken xs u.0.0) (sym (symbols_of-symbols s.made (defined d ∷ []))) (term-more symbols (defined d ∷ []) u.0.0 h.0.taken);
+        parameters = subst (λ xs. TermTaken xs u) (sym (symbols_of-symbols s.made (defined d ∷ []))) (term-more symbols (defined d ∷ []) u h.taken);
         law = tt {0};
       };
       inference = refl;
     }) in
-    conclude-sound s1 t x.0 sound f.next f.inference x.2
+    infer-more s1.made s.exports s.assumptions x sound f.next f.inference within
 
 -- an equation v = t that is typed and over what is taken
 record Defines (symbols : List Symbol) (p : Variable × Term) : Type 0 where
@@ -193,10 +188,6 @@ listed-taken d defining (p ∷ ps) m taken e new apart = go (d p.1) (defining p.
               (subst (λ xs. list_any (is_taken_constant xs) (names_of ps) ≡ false) (sym symbols) (all-still-new (symbols_of m) p.0 t (names_of ps) a.1 (not-true (is_in name_eq p.0 (names_of ps)) b.0))) b.1,
         )
 
-constants-objects : (m : List Made) (ns : List Name) → AreObjects m (constant_objects ns)
-constants-objects m [] = tt
-constants-objects m (n ∷ ns) = (tt {0}, constants-objects m ns)
-
 together : (symbols : List Symbol) (es : TermPairs) → AllByRecursion (Defines symbols) es → list_all (λ (e : Variable × Term). is_closed e.1) es ≡ true → list_all (λ (e : Variable × Term). has_type_variables_of e.0.1 e.1) es ≡ true
     → AllByRecursion (λ (e : Variable × Term). IsDefining e.0.1 e.1) es
 together symbols [] h c v = tt
@@ -205,46 +196,41 @@ together symbols (e ∷ es) h c v =
     let b = and_parts (has_type_variables_of e.0.1 e.1) (list_all (λ (e : Variable × Term). has_type_variables_of e.0.1 e.1) es) v in
     (record { typed = h.0.typed; closed = a.0; variables = b.0 }, together symbols es h.1 a.1 b.1)
 
-pub define_const_list-sound : (s t : State) → IsSound s → define_const_list s ≡ Ok t → IsSound t
-define_const_list-sound s t g e =
+pub define_const_list-sound : (s : State) (pairs : ConstantPairs) (i : ℕ) (x : Step) → HasSoundRun s → AllByRecursion (IsConstantPair s.made) pairs
+    → IsStepNumber s.made i → define_const_list_step s.made pairs i ≡ Ok x → SequentWithin x.sequent
+    → HasSoundRun (with_step (with_constants s (definitions_in pairs (sequent_at s.made i).hypotheses)) x)
+define_const_list-sound s pairs i x g k l e within =
     let symbols = symbols_of s.made in
-    let i = bound (pop as_theorem s.stack) _ t e in
-    let p = bound (pop as_constant_pairs i.0.1) _ t i.2 in
-    let pairs = p.0.0 in
-    let one = sequent_at s.made i.0.0 in
+    let one = sequent_at s.made i in
     let equations = defining_equations pairs one.hypotheses in
-    let x = bound (define_const_list_step s.made pairs i.0.0) _ t p.2 in
-    let new = passed (demand (not (list_any (is_taken_constant symbols) (names_of pairs))) NameTaken) _ x.0 x.1 in
-    let closed = passed (demand (list_all (λ (e : Variable × Term). is_closed e.1) equations) NotClosed) _ x.0 new.2 in
-    let variables = passed (demand (list_all (λ (e : Variable × Term). has_type_variables_of e.0.1 e.1) equations) ExtraTypeVars) _ x.0 closed.2 in
-    let list = passed (demand (is_definition_list pairs one) BadDefinitionList) _ x.0 variables.2 in
-    let h = one_popped s s.stack i.0 g.stack i.1 in
-    let k = pop-gives s.made as_constant_pairs (AllByRecursion (IsConstantPair s.made)) (constant_pairs-gives s.made) i.0.1 p.0 h.rest p.1 in
-    let is = sequent_at-IsSequent s i.0.0 g h.step in
-    let over = said-taken s i.0.0 g h.step in
+    let new = passed (demand (not (list_any (is_taken_constant symbols) (names_of pairs))) NameTaken) _ x e in
+    let closed = passed (demand (list_all (λ (e : Variable × Term). is_closed e.1) equations) NotClosed) _ x new.2 in
+    let variables = passed (demand (list_all (λ (e : Variable × Term). has_type_variables_of e.0.1 e.1) equations) ExtraTypeVars) _ x closed.2 in
+    let list = passed (demand (is_definition_list pairs one) BadDefinitionList) _ x variables.2 in
+    let is = sequent_at-IsSequent s i g l in
+    let over = said-taken s i g l in
     let defines : AllByRecursion (Defines symbols) equations = All-filter (Defines symbols) (λ e. is_in variable_eq e.0 (variables_of pairs)) (filter_map variable_equation one.hypotheses) (equations-All symbols one.hypotheses is.hypotheses over.hypotheses) in
     let defining = together symbols equations defines (demanded _ NotClosed closed.0 closed.1) (demanded _ ExtraTypeVars variables.0 variables.1) in
     let good = demanded (is_definition_list pairs one) BadDefinitionList list.0 list.1 in
     let parts = list_parts pairs one good in
     let ds = definitions_in pairs one.hypotheses in
-    let stack = object.list (constant_objects (names_of pairs)) ∷ p.0.1 in
-    let s1 = with_symbols (with_stack s stack) (map defined ds) in
-    let sound : IsSound s1 = symbols-more (map defined ds) (with_stack s stack) (restacked s stack g (constants-objects s.made (names_of pairs), k.1))
+    let s1 = with_constants s ds in
+    let sound : HasSoundRun s1 = symbols-more s.made s.exports s.assumptions (map defined ds) g
     (listed-taken (definiens pairs one.hypotheses) (λ v u f. lookup-All (λ e. IsDefining e.0.1 e.1) equations v u defining f) pairs s.made (λ v u f. (lookup-All (Defines symbols) equations v u defines f).taken)
     parts.defined (not-true (list_any (is_taken_constant symbols) (names_of pairs)) (demanded _ NameTaken new.0 new.1)) parts.names) in
-    let f = the_step s1 _ x.0 list.2 (record {
+    let f = the_step s1.made _ x list.2 (record {
       next = record {
         premises = one ∷ [];
-        earlier = (premise-more s.made (map Made.symbol (map defined ds)) i.0.0 one (at_step s.made i.0.0 h.step), tt {0});
+        earlier = (premise-more s.made (map Made.symbol (map defined ds)) i one (at_step s.made i l), tt {0});
         rule = rule.Rule.define_const_list defining good refl;
         defined = are-defined s.made ds;
         parameters = subst (λ xs. AllByRecursion (λ (q : Name × Variable). TypeTaken xs q.1.1) pairs) (sym (symbols_of-symbols s.made (map defined ds)))
-            (All-weaker (IsConstantPair s.made) (λ q. TypeTaken (symbols ++ map defined ds) q.1.1) (λ q j. type-more symbols (map defined ds) q.1.1 j.1.0) pairs k.0);
+            (All-weaker (IsConstantPair s.made) (λ q. TypeTaken (symbols ++ map defined ds) q.1.1) (λ q j. type-more symbols (map defined ds) q.1.1 j.1.0) pairs k);
         law = tt {0};
       };
       inference = refl;
     }) in
-    conclude-sound s1 t x.0 sound f.next f.inference x.2
+    infer-more s1.made s.exports s.assumptions x sound f.next f.inference within
 
 -- defineTypeOp
 application-is : (p f t : Term) → application_parts p ≡ Some (f, t) → p ≡ app f t
@@ -292,14 +278,10 @@ second_rule : (version : Version) (names : TypeNames) (c : HolType) (f : Term) (
 second_rule Five names c f one d = rule.Rule.second_law_free d refl
 second_rule Six names c f one d = rule.Rule.second_law d refl
 
--- the state in which the operator's constants and the operator stand on the stack
-abbrev named_state : State → TypeNames → State
-named_state s names = with_stack s (object.constant names.representation ∷ object.constant names.abstraction ∷ object.type_operator names.operator ∷ s.stack)
-
-made_of_type-sound : (version : Version) (s : State) (names : TypeNames) (i : ℕ) (c : HolType) (f u : Term) → IsSound s → i < length (steps_of s.made)
+made_of_type-sound : (version : Version) (s : State) (names : TypeNames) (i : ℕ) (c : HolType) (f u : Term) → HasSoundRun s → IsStepNumber s.made i
     → AreNew (symbols_of s.made) names → PredicateFits names.variables f
     → (sequent_at s.made i).hypotheses ≡ [] → (sequent_at s.made i).conclusion ≡ app f u → HasType u c
-    → AllByRecursion IsWithin (type_measures version names c f) → IsSound (with_type (named_state s names) (made_of_type version names i c f))
+    → AllByRecursion IsWithin (type_measures version names c f) → HasSoundRun (with_type s (made_of_type version names i c f))
 made_of_type-sound version s names i c f u g l new fit alone is typed within =
     let symbols = symbols_of s.made in
     let one = sequent_at s.made i in
@@ -307,8 +289,8 @@ made_of_type-sound version s names i c f u g l new fit alone is typed within =
     let application : TermTaken symbols (app f u) = subst (TermTaken symbols) is (said-taken s i g l).conclusion in
     let d = Definition.type_operator names c f in
     let m = Made.type_definition names c f i in
-    let s1 = with_type_definition (named_state s names) names c f i in
-    let sound : IsSound s1 = definition-more (named_state s names) names c f i (restacked s (named_state s names).stack g (tt {0}, (tt {0}, (tt {0}, g.stack))))
+    let s1 = with_type_definition s names c f i in
+    let sound : HasSoundRun s1 = definition-more s.made s.exports s.assumptions names c f i g
     (record { one = one; at = at_step s.made i l; defines = definition; taken = taking.Takes.type_operator new (predicate-typed names c f one definition (sequent_at-IsSequent s i g l).conclusion) fit.closed fit.names })
     (type_of-taken symbols u c application.1 typed, application.0) in
     let first = step_by by_rule.FirstLaw (i ∷ []) (Parameters.type_operator names version) (first_law_of version names c) in
@@ -316,13 +298,13 @@ made_of_type-sound version s names i c f u g l new fit alone is typed within =
     let premise = premise-more s.made (m ∷ []) i one (at_step s.made i l) in
     let made1 : IsAmong s1.made m = (all-second s.made (m ∷ [])).0 in
     let among : IsAmong (definitions_of s1.made) d = subst (λ es. IsAmong es d) (sym (definitions_of-append s.made (m ∷ []))) (all-second (definitions_of s.made) (d ∷ [])).0 in
-    let s2 = with_theorem s1 first in
-    let sound2 : IsSound s2 = theorem-sound s1 first sound
+    let s2 = with_step s1 first in
+    let sound2 : HasSoundRun s2 = infer-more s1.made s.exports s.assumptions first sound
     (record { premises = one ∷ []; earlier = (premise, tt {0}); rule = first_rule version names c f one definition; defined = used s1.made names c f u one.conclusion is typed among; parameters = tt {0}; law = record { c = c; f = f; number = i; among = made1; is = refl } }) refl
     (sequent-within (first_law_of version names c) within.1.1.1.0) in
     let among2 : IsAmong (definitions_of s2.made) d = subst (λ es. IsAmong es d) (sym (definitions_of-append s1.made (Made.step first ∷ []))) (among-front (definitions_of s1.made) [] d among) in
     let made2 : IsAmong s2.made m = among-front s1.made (Made.step first ∷ []) m made1 in
-    theorem-sound s2 second sound2
+    infer-more s2.made s.exports s.assumptions second sound2
     (record { premises = one ∷ []; earlier = (premise-more s1.made (Made.step first ∷ []) i one premise, tt {0}); rule = second_rule version names c f one definition; defined = used s2.made names c f u one.conclusion is typed among2; parameters = tt {0}; law = record { c = c; f = f; number = i; among = made2; is = refl } }) refl
     (sequent-within (second_law_of version names c f) within.1.1.1.1.0)
 
@@ -365,26 +347,8 @@ type_laws-made version made names i x e =
     the : (x y : NewType) → ◌≡◌ {A = Result NewType Kind} (Ok y) (Ok x) → x ≡ y
     the x y e = cc
 
-type_laws-sound : (version : Version) (s : State) (names : TypeNames) (i : ℕ) (x : NewType) → IsSound s → i < length (steps_of s.made)
-    → type_laws version s.made names i ≡ Ok x → IsSound (with_type (named_state s names) x)
-type_laws-sound version s names i x g l e =
-    let y = type_laws-made version s.made names i x e in
-    subst (λ z. IsSound (with_type (named_state s names) z)) (sym y.is) (made_of_type-sound version s names i y.c y.f y.witness g l y.new y.fits y.alone y.says y.typed y.within)
-
--- the names that stand under the theorem
-names-popped : (s : State) (A : Type 0) (as_one : Object → Result A Kind) (xs : List Object) (r : A × List Object) → AllByRecursion (IsObject s.made) xs
-    → pop as_one xs ≡ Ok r → AllByRecursion (IsObject s.made) r.1
-names-popped s A as_one xs r h e = (pop-gives s.made as_one (Anything s.made) (any-gives s.made as_one) xs r h e).1
-
-pub define_type_op-sound : (s t : State) → IsSound s → define_type_op s ≡ Ok t → IsSound t
-define_type_op-sound s t g e =
-    let i = bound (pop as_theorem s.stack) _ t e in
-    let v = bound (pop as_names i.0.1) _ t i.2 in
-    let r = bound (pop as_name v.0.1) _ t v.2 in
-    let a = bound (pop as_name r.0.1) _ t r.2 in
-    let o = bound (pop as_name a.0.1) _ t a.2 in
-    let h = one_popped s s.stack i.0 g.stack i.1 in
-    let rest = names-popped s Name as_name a.0.1 o.0 (names-popped s Name as_name r.0.1 a.0 (names-popped s Name as_name v.0.1 r.0 (names-popped s (List Name) as_names i.0.1 v.0 h.rest v.1) r.1) a.1) o.1 in
-    let names : TypeNames = record { operator = o.0.0; abstraction = a.0.0; representation = r.0.0; variables = v.0.0 } in
-    let x = bound (type_laws (version_at s.place) s.made names i.0.0) _ t o.2 in
-    answered _ t x.2 (type_laws-sound (version_at s.place) (with_stack s o.0.1) names i.0.0 x.0 (restacked s o.0.1 g rest) h.step x.1)
+pub define_type_op-sound : (s : State) (names : TypeNames) (i : ℕ) (x : NewType) → HasSoundRun s → IsStepNumber s.made i
+    → type_laws (version_at s.place) s.made names i ≡ Ok x → HasSoundRun (with_type s x)
+define_type_op-sound s names i x g l e =
+    let y = type_laws-made (version_at s.place) s.made names i x e in
+    subst (λ z. HasSoundRun (with_type s z)) (sym y.is) (made_of_type-sound (version_at s.place) s names i y.c y.f y.witness g l y.new y.fits y.alone y.says y.typed y.within)

@@ -24,27 +24,23 @@ use Rattle.hol_spec.specs.Rules as rule
 use Rattle.hol_spec.specs.Proofs.{Step, symbols_of, steps_of, sequents_of, sequent_at, definitions_of, ArePremises, Made, IsLawOfDefinition}
 use Rattle.proof_laws.specs.ProofGrowth.{All-get, proof-sequents}
 use Rattle.hol_spec.specs.declared.StepKind.TheVariants as by_rule
-use Rattle.article_spec.specs.State.{Object, State}
-use Rattle.article_spec.specs.Operands.{as_variable, as_term, as_theorem, as_substitution, pop}
+use Rattle.article_spec.specs.State.{State}
 use Rattle.article_spec.specs.Conditions.{demand, typed, has_type, is_of_type, equation_of}
-use Rattle.article_spec.specs.Changes.{with_stack, by_step}
 use Rattle.article_spec.specs.RuleSteps.{contracted, refl_step, assume_step, eq_mp_step, abs_thm_step, app_thm_step, deduct_antisym_step, beta_conv_step, sym_step, trans_step, prove_hyp_step, subst_step}
-use Rattle.article_laws.specs.Soundness.{IsTermObject, IsObject, IsSound}
-use Rattle.article_laws.specs.SoundStates.{bound, passed, demanded, found, list_all-All, restacked, conclude-sound, at_step, IsNext}
-use Rattle.article_laws.specs.SoundOperands.{variable-gives, term-gives, theorem-gives, substitution-gives, IsStepNumber, IsVariableObject, IsTypePair, IsTermPair, pop-gives, Gives}
+use Rattle.article_laws.specs.OperandParts.{IsTypePair, IsTermPair}
+use Rattle.article_laws.specs.Soundness.{IsTermObject, sound_parts, HasSoundRun}
+use Rattle.article_laws.specs.SoundStates.{bound, passed, demanded, found, list_all-All, at_step, IsNext}
+use Rattle.article_laws.specs.SoundOperands.{IsStepNumber}
 use Rattle.hol_spec.specs.Definitions.{TypeNames, Definition}
 use Rattle.hol_spec.specs.declared.StepKind.{StepKind}
 use Rattle.hol_spec.specs.TypeDefinitions.{IsTypeDefinition}
-use Rattle.article_spec.specs.Results.{◌>>=◌}
 use Rattle.hol_spec.specs.Substitution.{TypePairs}
-use Rattle.article_spec.specs.Step.{obey}
-use Rattle.article_spec.specs.declared.commands.Word.{Word}
-use Rattle.article_spec.specs.declared.commands.Word.TheVariants as word
 use Rattle.common.specs.declared.faults.Kind.{Kind}
-use Rattle.article_laws.specs.Inferred.{IsRule}
+use Rattle.article_laws.specs.Inferred.{Inferred}
+use Rattle.article_laws.specs.Inferred.Inferred.{by_refl, by_assume, by_eq_mp, by_abs_thm, by_app_thm, by_deduct_antisym, by_beta_conv, by_sym, by_trans, by_prove_hyp, by_subst}
 
 -- a theorem on the stack says a sequent
-pub sequent_at-IsSequent : (s : State) (i : ℕ) → IsSound s → i < length (steps_of s.made) → IsSequent (sequent_at s.made i)
+pub sequent_at-IsSequent : (s : State) (i : ℕ) → HasSoundRun s → i < length (steps_of s.made) → IsSequent (sequent_at s.made i)
 sequent_at-IsSequent s i g l = All-get IsSequent (sequents_of s.made) i (sequent_at s.made i) (proof-sequents s.made g.proof) (at_step s.made i l)
 
 pub typed-is : (t : Term) (a : HolType) → typed t ≡ Ok a → HasType t a
@@ -59,15 +55,6 @@ of_type a t e = go (type_of t) e
 
 pub equation_is : (s : Sequent) (e : Equation) → equation_of s ≡ Ok e → s.conclusion ≡ equation e.ty e.left e.right
 equation_is s e h = equation_parts-is s.conclusion e (found (equation_parts s.conclusion) NotEquation e h)
-
--- one premise, and two, that stand on the stack
-pub record OnePopped (s : State) (i : ℕ) (below : List Object) : Type 0 where
-  pub step : i < length (steps_of s.made)
-  pub rest : AllByRecursion (IsObject s.made) below
-
-pub one_popped : (s : State) (stack : List Object) (r : ℕ × List Object) → AllByRecursion (IsObject s.made) stack → pop as_theorem stack ≡ Ok r
-    → OnePopped s r.0 r.1
-one_popped s stack r h e = let k = pop-gives s.made as_theorem (IsStepNumber s.made) (theorem-gives s.made) stack r h e in record { step = k.0; rest = k.1 }
 
 -- what rests on no definition is no law of a type definition
 no_definition : (names : TypeNames) (c : HolType) (f : Term) (one : Sequent) → IsTypeDefinition names c f one → type_definition_in names one.conclusion ≡ [] → ⊥
@@ -99,12 +86,12 @@ lawless before kind ks ss p s (rule.Rule.first_law_free {names = names} {c = c} 
 lawless before kind ks ss p s (rule.Rule.second_law_free {names = names} {c = c} {f = f} {one = one} d e) u = absurd (no_definition names c f one d u)
 
 -- a step infers, and what it asks is so
-pub record Follows (s : State) (x : Step) : Type 0 where
-  pub next : IsNext s x
+pub record Follows (m : List Made) (x : Step) : Type 0 where
+  pub next : IsNext m x
   pub inference : infers x.kind ≡ true
 
-pub the_step : (s : State) (x y : Step) → ◌≡◌ {A = Result Step Kind} (Ok x) (Ok y) → Follows s x → Follows s y
-the_step s x y e h = let f : x ≡ y = cc in subst (Follows s) f h
+pub the_step : (m : List Made) (x y : Step) → ◌≡◌ {A = Result Step Kind} (Ok x) (Ok y) → Follows m x → Follows m y
+the_step m x y e h = let f : x ≡ y = cc in subst (Follows m) f h
 
 contracted-rule : (t u : Term) (a : HolType) → contracted t ≡ Some u → HasType t a → Rule by_rule.BetaConv [] (Parameters.term t) (derived [] (equation a t u))
 contracted-rule (app (lam b c) x) u a e h = rule.Rule.beta_conv h (ap (λ w. derived [] (equation a (app (lam b c) x) w)) (sym (same_Some _ _ e)))
@@ -115,27 +102,27 @@ fitting [] h = tt
 fitting (p ∷ ps) h = (h.0, fitting ps h.1)
 
 -- each rule's step follows
-module _ (s : State) (g : IsSound s) where
+module _ (s : State) (g : HasSoundRun s) where
   -- on no premise, on one and on two
   on_none : (x y : Step) → ◌≡◌ {A = Result Step Kind} (Ok x) (Ok y) → infers x.kind ≡ true → x.premises ≡ [] → Rule x.kind [] x.parameters x.sequent
-      → definitions_used x.kind [] x.parameters ≡ [] → ParametersTaken (symbols_of s.made) x.parameters → Follows s y
-  on_none x y e inference none r u p = the_step s x y e (record {
+      → definitions_used x.kind [] x.parameters ≡ [] → ParametersTaken (symbols_of s.made) x.parameters → Follows s.made y
+  on_none x y e inference none r u p = the_step s.made x y e (record {
     next = record { premises = []; earlier = subst (λ ns. ArePremises (sequents_of s.made) ns []) (sym none) (tt {0}); rule = r; defined = subst (AllByRecursion (IsAmong (definitions_of s.made))) (sym u) (tt {0}); parameters = p; law = lawless s.made x.kind x.premises _ x.parameters x.sequent r u };
     inference = inference;
   })
 
   on_one : (x y : Step) → ◌≡◌ {A = Result Step Kind} (Ok x) (Ok y) → infers x.kind ≡ true → (i : ℕ) → i < length (steps_of s.made) → x.premises ≡ i ∷ []
       → Rule x.kind (sequent_at s.made i ∷ []) x.parameters x.sequent → definitions_used x.kind (sequent_at s.made i ∷ []) x.parameters ≡ []
-      → ParametersTaken (symbols_of s.made) x.parameters → Follows s y
-  on_one x y e inference i l one r u p = the_step s x y e (record {
+      → ParametersTaken (symbols_of s.made) x.parameters → Follows s.made y
+  on_one x y e inference i l one r u p = the_step s.made x y e (record {
     next = record { premises = sequent_at s.made i ∷ []; earlier = subst (λ ns. ArePremises (sequents_of s.made) ns (sequent_at s.made i ∷ [])) (sym one) (at_step s.made i l, tt {0}); rule = r; defined = subst (AllByRecursion (IsAmong (definitions_of s.made))) (sym u) (tt {0}); parameters = p; law = lawless s.made x.kind x.premises _ x.parameters x.sequent r u };
     inference = inference;
   })
 
   on_two : (x y : Step) → ◌≡◌ {A = Result Step Kind} (Ok x) (Ok y) → infers x.kind ≡ true → (i j : ℕ) → i < length (steps_of s.made) → j < length (steps_of s.made) → x.premises ≡ i ∷ j ∷ []
       → Rule x.kind (sequent_at s.made i ∷ sequent_at s.made j ∷ []) x.parameters x.sequent
-      → definitions_used x.kind (sequent_at s.made i ∷ sequent_at s.made j ∷ []) x.parameters ≡ [] → ParametersTaken (symbols_of s.made) x.parameters → Follows s y
-  on_two x y e inference i j l k two r u p = the_step s x y e (record {
+      → definitions_used x.kind (sequent_at s.made i ∷ sequent_at s.made j ∷ []) x.parameters ≡ [] → ParametersTaken (symbols_of s.made) x.parameters → Follows s.made y
+  on_two x y e inference i j l k two r u p = the_step s.made x y e (record {
     next = record {
       premises = sequent_at s.made i ∷ sequent_at s.made j ∷ [];
       earlier = subst (λ ns. ArePremises (sequents_of s.made) ns (sequent_at s.made i ∷ sequent_at s.made j ∷ [])) (sym two) (at_step s.made i l, (at_step s.made j k, tt {0}));
@@ -147,17 +134,17 @@ module _ (s : State) (g : IsSound s) where
     inference = inference;
   })
 
-  refl-follows : (t : Term) (x : Step) → IsTermObject s.made t → refl_step t ≡ Ok x → Follows s x
+  refl-follows : (t : Term) (x : Step) → IsTermObject s.made t → refl_step t ≡ Ok x → Follows s.made x
   refl-follows t x h e =
       let a = bound (typed t) _ x e in
       on_none _ x a.2 refl refl (rule.Rule.refl (typed-is t a.0 a.1) refl) refl h.taken
 
-  assume-follows : (p : Term) (x : Step) → IsTermObject s.made p → assume_step p ≡ Ok x → Follows s x
+  assume-follows : (p : Term) (x : Step) → IsTermObject s.made p → assume_step p ≡ Ok x → Follows s.made x
   assume-follows p x h e =
       let b = passed (demand (is_of_type bool p) NotBool) _ x e in
       on_none _ x b.2 refl refl (rule.Rule.assume (of_type bool p (demanded (is_of_type bool p) NotBool b.0 b.1)) refl) refl h.taken
 
-  eq_mp-follows : (j i : ℕ) (x : Step) → IsStepNumber s.made j → IsStepNumber s.made i → eq_mp_step s.made i j ≡ Ok x → Follows s x
+  eq_mp-follows : (j i : ℕ) (x : Step) → IsStepNumber s.made j → IsStepNumber s.made i → eq_mp_step s.made i j ≡ Ok x → Follows s.made x
   eq_mp-follows j i x k l e =
       let one = sequent_at s.made i in
       let two = sequent_at s.made j in
@@ -170,14 +157,14 @@ module _ (s : State) (g : IsSound s) where
       let ty : q.0.ty ≡ bool = same_Some _ _ (sym left_type ∙ truth) in
       on_two _ x alike.2 refl i j l k refl (rule.Rule.eq_mp (is ∙ ap (λ a. equation a q.0.left q.0.right) ty) same refl) refl (tt {0})
 
-  abs_thm-follows : (i : ℕ) (v : Variable) (x : Step) → IsStepNumber s.made i → IsVariableObject s.made v → abs_thm_step s.made v i ≡ Ok x → Follows s x
+  abs_thm-follows : (i : ℕ) (v : Variable) (x : Step) → IsStepNumber s.made i → (sound_parts s.made).variable v → abs_thm_step s.made v i ≡ Ok x → Follows s.made x
   abs_thm-follows i v x l h e =
       let one = sequent_at s.made i in
       let q = bound (equation_of one) _ x e in
       let fresh = passed (demand (not (is_free_in v one.hypotheses)) VarInHyps) _ x q.2 in
       on_one _ x fresh.2 refl i l refl (rule.Rule.abs_thm (equation_is one q.0 q.1) (not-true (is_free_in v one.hypotheses) (demanded (not (is_free_in v one.hypotheses)) VarInHyps fresh.0 fresh.1)) refl) refl h.0
 
-  app_thm-follows : (j i : ℕ) (x : Step) → IsStepNumber s.made j → IsStepNumber s.made i → app_thm_step s.made i j ≡ Ok x → Follows s x
+  app_thm-follows : (j i : ℕ) (x : Step) → IsStepNumber s.made j → IsStepNumber s.made i → app_thm_step s.made i j ≡ Ok x → Follows s.made x
   app_thm-follows j i x k l e =
       let one = sequent_at s.made i in
       let two = sequent_at s.made j in
@@ -190,22 +177,22 @@ module _ (s : State) (g : IsSound s) where
       on_two _ x b.2 refl i j l k refl
       (rule.Rule.app_thm (equation_is one f.0 f.1 ∙ ap (λ a. equation a f.0.left f.0.right) functions) (equation_is two a.0 a.1 ∙ ap (λ b. equation b a.0.left a.0.right) arguments) refl) refl (tt {0})
 
-  deduct_antisym-follows : (j i : ℕ) (x : Step) → IsStepNumber s.made j → IsStepNumber s.made i → deduct_antisym_step s.made i j ≡ Ok x → Follows s x
+  deduct_antisym-follows : (j i : ℕ) (x : Step) → IsStepNumber s.made j → IsStepNumber s.made i → deduct_antisym_step s.made i j ≡ Ok x → Follows s.made x
   deduct_antisym-follows j i x k l e = on_two _ x e refl i j l k refl (rule.Rule.deduct_antisym refl) refl (tt {0})
 
-  beta_conv-follows : (t : Term) (x : Step) → IsTermObject s.made t → beta_conv_step t ≡ Ok x → Follows s x
+  beta_conv-follows : (t : Term) (x : Step) → IsTermObject s.made t → beta_conv_step t ≡ Ok x → Follows s.made x
   beta_conv-follows t x h e =
       let u = bound (ok_or (contracted t) NotRedex) _ x e in
       let a = bound (typed t) _ x u.2 in
       on_none _ x a.2 refl refl (contracted-rule t u.0 a.0 (found (contracted t) NotRedex u.0 u.1) (typed-is t a.0 a.1)) refl h.taken
 
-  sym-follows : (i : ℕ) (x : Step) → IsStepNumber s.made i → sym_step s.made i ≡ Ok x → Follows s x
+  sym-follows : (i : ℕ) (x : Step) → IsStepNumber s.made i → sym_step s.made i ≡ Ok x → Follows s.made x
   sym-follows i x l e =
       let one = sequent_at s.made i in
       let q = bound (equation_of one) _ x e in
       on_one _ x q.2 refl i l refl (rule.Rule.sym (equation_is one q.0 q.1) refl) refl (tt {0})
 
-  trans-follows : (j i : ℕ) (x : Step) → IsStepNumber s.made j → IsStepNumber s.made i → trans_step s.made i j ≡ Ok x → Follows s x
+  trans-follows : (j i : ℕ) (x : Step) → IsStepNumber s.made j → IsStepNumber s.made i → trans_step s.made i j ≡ Ok x → Follows s.made x
   trans-follows j i x k l e =
       let one = sequent_at s.made i in
       let two = sequent_at s.made j in
@@ -220,70 +207,27 @@ module _ (s : State) (g : IsSound s) where
       let ty : q.0.ty ≡ p.0.ty = same_Some _ _ (sym again ∙ ap type_of same ∙ middle) in
       on_two _ x alike.2 refl i j l k refl (rule.Rule.trans first (second ∙ (λ n. equation (ty n) (same n) q.0.right)) refl) refl (tt {0})
 
-  prove_hyp-follows : (j i : ℕ) (x : Step) → IsStepNumber s.made j → IsStepNumber s.made i → prove_hyp_step s.made i j ≡ Ok x → Follows s x
+  prove_hyp-follows : (j i : ℕ) (x : Step) → IsStepNumber s.made j → IsStepNumber s.made i → prove_hyp_step s.made i j ≡ Ok x → Follows s.made x
   prove_hyp-follows j i x k l e = on_two _ x e refl i j l k refl (rule.Rule.prove_hyp refl) refl (tt {0})
 
-  subst-follows : (i : ℕ) (p : TypePairs × TermPairs) (x : Step) → IsStepNumber s.made i → AllByRecursion (IsTypePair s.made) p.0 × AllByRecursion (IsTermPair s.made) p.1
-      → subst_step s.made p.0 p.1 i ≡ Ok x → Follows s x
+  subst-follows : (i : ℕ) (p : TypePairs × TermPairs) (x : Step) → IsStepNumber s.made i → AllByRecursion (IsTypePair (sound_parts s.made)) p.0 × AllByRecursion (IsTermPair (sound_parts s.made)) p.1
+      → subst_step s.made p.0 p.1 i ≡ Ok x → Follows s.made x
   subst-follows i p x l h e =
       let fits = passed (demand (list_all (λ (q : Variable × Term). is_of_type q.0.1 q.1) p.1) BadSubst) _ x e in
       let all = list_all-All (λ (q : Variable × Term). is_of_type q.0.1 q.1) (λ q. HasType q.1 q.0.1) (λ q e. of_type q.0.1 q.1 e) p.1 (demanded _ BadSubst fits.0 fits.1) in
       on_one _ x fits.2 refl i l refl (rule.Rule.subst (fitting p.1 all) refl) refl
-      (All-weaker (IsTypePair s.made) (λ q. TypeTaken (symbols_of s.made) q.1) (λ q h. h.1.0) p.0 h.0, All-weaker (IsTermPair s.made) (λ q. TypeTaken (symbols_of s.made) q.0.1 × TermTaken (symbols_of s.made) q.1) (λ q h. (h.0.0, h.1.taken)) p.1 h.1)
+      (All-weaker (IsTypePair (sound_parts s.made)) (λ q. TypeTaken (symbols_of s.made) q.1) (λ q h. h.1.0) p.0 h.0, All-weaker (IsTermPair (sound_parts s.made)) (λ q. TypeTaken (symbols_of s.made) q.0.1 × TermTaken (symbols_of s.made) q.1) (λ q h. (h.0.0, h.1.taken)) p.1 h.1)
 
--- a word that pops one operand, or two, and concludes a step that follows
-module _ (s t : State) (g : IsSound s) where
-  by_step-sound : (rest : List Object) → AllByRecursion (IsObject s.made) rest → (rule : Result Step Kind) → ((x : Step) → rule ≡ Ok x → Follows s x)
-      → by_step rule (with_stack s rest) ≡ Ok t → IsSound t
-  by_step-sound rest left rule f e =
-      let x = bound rule _ t e in
-      let h = f x.0 x.1 in
-      let n = h.next in
-      conclude-sound (with_stack s rest) t x.0 (restacked s rest g left)
-      (record { premises = n.premises; earlier = n.earlier; rule = n.rule; defined = n.defined; parameters = n.parameters; law = n.law }) h.inference x.2
-
-  of_one : {A : Type 0} (as_one : Object → Result A Kind) (P : A → Type 0) → Gives s.made as_one P → (rule : A → Result Step Kind)
-      → ((a : A) (x : Step) → P a → rule a ≡ Ok x → Follows s x)
-      → (pop as_one s.stack >>= λ p. by_step (rule p.0) (with_stack s p.1)) ≡ Ok t → IsSound t
-  of_one as_one P gives rule f e =
-      let p = bound (pop as_one s.stack) _ t e in
-      let h = pop-gives s.made as_one P gives s.stack p.0 g.stack p.1 in
-      by_step-sound p.0.1 h.1 (rule p.0.0) (λ x k. f p.0.0 x h.0 k) p.2
-
-  of_two : {A B : Type 0} (as_one : Object → Result A Kind) (P : A → Type 0) → Gives s.made as_one P
-      → (as_two : Object → Result B Kind) (Q : B → Type 0) → Gives s.made as_two Q → (rule : A → B → Result Step Kind)
-      → ((a : A) (b : B) (x : Step) → P a → Q b → rule a b ≡ Ok x → Follows s x)
-      → (pop as_one s.stack >>= λ p. pop as_two p.1 >>= λ q. by_step (rule p.0 q.0) (with_stack s q.1)) ≡ Ok t → IsSound t
-  of_two as_one P gives as_two Q also rule f e =
-      let p = bound (pop as_one s.stack) _ t e in
-      let h = pop-gives s.made as_one P gives s.stack p.0 g.stack p.1 in
-      let q = bound (pop as_two p.0.1) _ t p.2 in
-      let k = pop-gives s.made as_two Q also p.0.1 q.0 h.1 q.1 in
-      by_step-sound q.0.1 k.1 (rule p.0.0 q.0.0) (λ x l. f p.0.0 q.0.0 x h.0 k.0 l) q.2
-
-  of_term : (rule : Term → Result Step Kind) → ((a : Term) (x : Step) → IsTermObject s.made a → rule a ≡ Ok x → Follows s x)
-      → (pop as_term s.stack >>= λ p. by_step (rule p.0) (with_stack s p.1)) ≡ Ok t → IsSound t
-  of_term rule f e = of_one as_term (IsTermObject s.made) (term-gives s.made) rule f e
-
-  -- the one on top is the second
-  of_theorems : (rule : ℕ → ℕ → Result Step Kind) → ((j i : ℕ) (x : Step) → IsStepNumber s.made j → IsStepNumber s.made i → rule j i ≡ Ok x → Follows s x)
-      → (pop as_theorem s.stack >>= λ p. pop as_theorem p.1 >>= λ q. by_step (rule p.0 q.0) (with_stack s q.1)) ≡ Ok t → IsSound t
-  of_theorems rule f e = of_two as_theorem (IsStepNumber s.made) (theorem-gives s.made) as_theorem (IsStepNumber s.made) (theorem-gives s.made) rule f e
-
--- The words of the rules keep a state sound.
-pub rule-sound : (w : Word) → IsRule w → (s t : State) → IsSound s → obey s w ≡ Ok t → IsSound t
-rule-sound word.Refl h s t g e = of_term s t g refl_step (refl-follows s g) e
-rule-sound word.Assume h s t g e = of_term s t g assume_step (assume-follows s g) e
-rule-sound word.EqMp h s t g e = of_theorems s t g (λ j i. eq_mp_step s.made i j) (eq_mp-follows s g) e
-rule-sound word.AbsThm h s t g e =
-    of_two s t g as_theorem (IsStepNumber s.made) (theorem-gives s.made) as_variable (IsVariableObject s.made) (variable-gives s.made) (λ i v. abs_thm_step s.made v i) (abs_thm-follows s g) e
-rule-sound word.AppThm h s t g e = of_theorems s t g (λ j i. app_thm_step s.made i j) (app_thm-follows s g) e
-rule-sound word.DeductAntisym h s t g e = of_theorems s t g (λ j i. deduct_antisym_step s.made i j) (deduct_antisym-follows s g) e
-rule-sound word.BetaConv h s t g e = of_term s t g beta_conv_step (beta_conv-follows s g) e
-rule-sound word.Sym h s t g e = of_one s t g as_theorem (IsStepNumber s.made) (theorem-gives s.made) (sym_step s.made) (sym-follows s g) e
-rule-sound word.Trans h s t g e = of_theorems s t g (λ j i. trans_step s.made i j) (trans-follows s g) e
-rule-sound word.ProveHyp h s t g e = of_theorems s t g (λ j i. prove_hyp_step s.made i j) (prove_hyp-follows s g) e
-rule-sound word.Subst h s t g e =
-    of_two s t g as_theorem (IsStepNumber s.made) (theorem-gives s.made) as_substitution (λ q. AllByRecursion (IsTypePair s.made) q.0 × AllByRecursion (IsTermPair s.made) q.1) (substitution-gives s.made)
-    (λ i p. subst_step s.made p.0 p.1 i) (subst-follows s g) e
-rule-sound w h s t g e = absurd h
+  -- so does each step that a word concludes by a rule
+  pub follows : (x : Step) → Inferred (sound_parts s.made) s.made x → Follows s.made x
+  follows x (by_refl t h e) = refl-follows t x h e
+  follows x (by_assume t h e) = assume-follows t x h e
+  follows x (by_eq_mp j i k l e) = eq_mp-follows j i x k l e
+  follows x (by_abs_thm i v l h e) = abs_thm-follows i v x l h e
+  follows x (by_app_thm j i k l e) = app_thm-follows j i x k l e
+  follows x (by_deduct_antisym j i k l e) = deduct_antisym-follows j i x k l e
+  follows x (by_beta_conv t h e) = beta_conv-follows t x h e
+  follows x (by_sym i l e) = sym-follows i x l e
+  follows x (by_trans j i k l e) = trans-follows j i x k l e
+  follows x (by_prove_hyp j i k l e) = prove_hyp-follows j i x k l e
+  follows x (by_subst i p l h e) = subst-follows i p x l h e

@@ -11,7 +11,6 @@ use Rattle.hol_laws.specs.SubstitutionLaws.{is_instance-Decides}
 use Rattle.hol_laws.specs.NameEqualityLaws.{name_eq-refl}
 use Rattle.common.specs.declared.faults.Kind.TheVariants.{BadArity, BadConstType}
 use Rattle.hol_spec.specs.Symbols.{Symbol, input_constant, input_operator, generic_type, operator_arity, is_input_constant, is_input_operator, is_taken_constant, new_constant, new_operator}
-use Rattle.hol_spec.specs.Taking.{Takes}
 use Rattle.hol_spec.specs.Taking as taking
 use Rattle.hol_spec.specs.Taken.{OperatorTaken, ConstantTaken}
 use Rattle.hol_spec.specs.Taken as taken

@@ -1,4 +1,4 @@
--- The words that state a sequent keep a state sound.
+-- What states a sequent keeps a run sound.
 use Rattle.std.proofs.Common.{◌≡◌, ℕ, ◌<◌, ◌≤◌, inl, inr, List, [], ◌∷◌, ◌++◌, length, Bool, true, false, cond, Option, None, Some, Ok, refl, sym, ap, subst, ◌∙◌, Result}
 use Rattle.std.specs.Option.{option_or}
 use Rattle.std.specs.List.{AllByRecursion, list_all, find}
@@ -13,19 +13,18 @@ use Rattle.common.specs.declared.faults.Kind.TheVariants.{NotBool, NotTheSequent
 use Rattle.hol_spec.specs.Taken.{TermTaken, TermsTaken}
 use Rattle.proof_laws.specs.SymbolGrowth.{symmetric}
 use Rattle.hol_laws.specs.Members.{All-weaker}
+use Rattle.hol_spec.specs.Limits.{SequentWithin}
+use Rattle.hol_spec.specs.Derivations.{infers}
 use Rattle.hol_spec.specs.Rules.{Parameters}
 use Rattle.hol_spec.specs.Rules as rule
 use Rattle.hol_spec.specs.declared.StepKind.TheVariants as by_rule
 use Rattle.hol_spec.specs.Proofs.{Made, symbols_of, steps_of, sequents_of, sequent_at, Step}
 use Rattle.article_spec.specs.State.{State}
-use Rattle.article_spec.specs.Operands.{as_term, as_terms, as_theorem, pop}
-use Rattle.article_spec.specs.Conditions.{is_of_type, all_bool, follows, sequent_in_limits}
-use Rattle.article_spec.specs.Changes.{with_stack, next_step, first_same}
-use Rattle.article_spec.specs.Stating.{assume_or_meet, axiom_word, export, thm}
+use Rattle.article_spec.specs.Conditions.{is_of_type, all_bool, follows}
+use Rattle.article_spec.specs.Changes.{with_step, next_step, first_same}
 use Rattle.article_spec.specs.RuleSteps.{stated, restatement, step_by, axiom_step, restate_step}
-use Rattle.article_laws.specs.Soundness.{IsTermObject, IsSound}
-use Rattle.article_laws.specs.SoundStates.{bound, passed, answered, demanded, list_all-All, restacked, sequent_limits, IsNext, step-sound, new-theorem, pushed, assume-sound, conclude-sound, at_step}
-use Rattle.article_laws.specs.SoundOperands.{term-gives, terms-gives, theorem-gives, IsStepNumber, pop-gives}
+use Rattle.article_laws.specs.Soundness.{IsTermObject, HasSoundRun}
+use Rattle.article_laws.specs.SoundStates.{passed, demanded, list_all-All, IsNext, infer-more, assume-more, new-theorem, pushed, at_step}
 use Rattle.article_laws.specs.SoundInference.{of_type}
 use Rattle.common.specs.declared.faults.Kind.{Kind}
 
@@ -76,7 +75,7 @@ first-passes p xs ys i e = go (find p xs) refl e
 
 -- a restatement of a step follows
 restated : (s : State) (i : ℕ) (sequent : Sequent) → IsSequent sequent → within (sequent_at s.made i) sequent ≡ true → TermsTaken (symbols_of s.made) sequent
-    → IsNext s (restatement i sequent)
+    → IsNext s.made (restatement i sequent)
 restated s i sequent is w t =
     let l = early s.made i sequent is.conclusion w in
     record { premises = sequent_at s.made i ∷ []; earlier = (at_step s.made i l, tt {0}); rule = rule.Rule.restate is w; defined = tt {0}; parameters = t; law = tt {0} }
@@ -118,56 +117,37 @@ restate_step-made made i hypotheses conclusion x e =
 abbrev pub meeting : State → Step → Option ℕ
 meeting s x = option_or (first_same s s.pool x.sequent) (first_same s s.assumptions x.sequent)
 
-met : (s t : State) (sequent : Sequent) (o : Option ℕ) → IsSound s → IsSequent sequent → TermsTaken (symbols_of s.made) sequent
-    → ((i : ℕ) → o ≡ Some i → within (sequent_at s.made i) sequent ≡ true)
-    → assume_or_meet s (assumption sequent) o ≡ Ok t → IsSound t
-met s t sequent (Some i) g is taken f e = conclude-sound s t (restatement i sequent) g (restated s i sequent is (f i refl) taken) refl e
-met s t sequent None g is taken f e =
-    assume-sound s t _ g (record { premises = []; earlier = tt {0}; rule = rule.Rule.recorded is; defined = tt {0}; parameters = taken; law = tt {0} }) refl e
-
-pub axiom-sound : (s t : State) → IsSound s → axiom_word s ≡ Ok t → IsSound t
-axiom-sound s t g e =
-    let conclusion = bound (pop as_term s.stack) _ t e in
-    let hypotheses = bound (pop as_terms conclusion.0.1) _ t conclusion.2 in
-    let x = bound (axiom_step hypotheses.0.0 conclusion.0.0) _ t hypotheses.2 in
-    let y = axiom_step-made hypotheses.0.0 conclusion.0.0 x.0 x.1 in
-    let h = pop-gives s.made as_term (IsTermObject s.made) (term-gives s.made) s.stack conclusion.0 g.stack conclusion.1 in
-    let k = pop-gives s.made as_terms (AllByRecursion (IsTermObject s.made)) (terms-gives s.made) conclusion.0.1 hypotheses.0 h.1 hypotheses.1 in
-    let sequent = stated hypotheses.0.0 conclusion.0.0 in
+pub meet-sound : (s : State) (hypotheses : List Term) (conclusion : Term) (x : Step) (i : ℕ) → HasSoundRun s → AllByRecursion (IsTermObject s.made) hypotheses
+    → IsTermObject s.made conclusion → axiom_step hypotheses conclusion ≡ Ok x → meeting s x ≡ Some i → SequentWithin x.sequent
+    → HasSoundRun (with_step s (restatement i x.sequent))
+meet-sound s hypotheses conclusion x i g h k e m within =
+    let y = axiom_step-made hypotheses conclusion x e in
+    let sequent = stated hypotheses conclusion in
     let known : ℕ → Bool = λ i. same (sequent_at s.made i) sequent in
-    let u = with_stack s hypotheses.0.1 in
-    met u t sequent (option_or (find known s.pool) (find known s.assumptions)) (restacked s hypotheses.0.1 g k.1)
-    (stated-IsSequent conclusion.0.0 hypotheses.0.0 y.bools) (stated-taken s.made conclusion.0.0 hypotheses.0.0 h.0 k.0)
-    (λ i f. (and_parts (within (sequent_at s.made i) sequent) (within sequent (sequent_at s.made i)) (first-passes known s.pool s.assumptions i f)).0)
-    (subst (λ z. assume_or_meet u z (meeting u z) ≡ Ok t) y.is x.2)
+    let weaker = (and_parts _ _ (first-passes known s.pool s.assumptions i (subst (λ z. meeting s z ≡ Some i) y.is m))).0 in
+    subst (λ (z : Step). HasSoundRun (with_step s (restatement i z.sequent))) (sym y.is) (infer-more s.made s.exports s.assumptions (restatement i sequent) g
+    (restated s i sequent (stated-IsSequent conclusion hypotheses y.bools) weaker (stated-taken s.made conclusion hypotheses k h)) refl (subst (λ (z : Step). SequentWithin z.sequent) y.is within))
 
-exported : (s t : State) (i : ℕ) (sequent : Sequent) (o : Option ℕ) → IsSound s → IsSequent sequent → within (sequent_at s.made i) sequent ≡ true
-    → TermsTaken (symbols_of s.made) sequent → export s (restatement i sequent) o ≡ Ok t → IsSound t
-exported s t i sequent (Some j) g is w taken e = answered s t e g
-exported s t i sequent None g is w taken e =
-    let l = passed (sequent_in_limits sequent) _ t e in
-    let x = restatement i sequent in
-    let m = step-sound s x g (restated s i sequent is w taken) refl (sequent_limits sequent l.0 l.1) in
-    answered _ t l.2 (record {
+pub assume-sound : (s : State) (hypotheses : List Term) (conclusion : Term) (x : Step) → HasSoundRun s → AllByRecursion (IsTermObject s.made) hypotheses
+    → IsTermObject s.made conclusion → axiom_step hypotheses conclusion ≡ Ok x → SequentWithin x.sequent
+    → HasSoundRun (record (with_step s x) { assumptions = s.assumptions ++ next_step s ∷ [] })
+assume-sound s hypotheses conclusion x g h k e within =
+    let y = axiom_step-made hypotheses conclusion x e in
+    let is = stated-IsSequent conclusion hypotheses y.bools in
+    let next : IsNext s.made (assumption (stated hypotheses conclusion)) =
+    record { premises = []; earlier = tt {0}; rule = rule.Rule.recorded is; defined = tt {0}; parameters = stated-taken s.made conclusion hypotheses k h; law = tt {0} } in
+    assume-more s.made s.exports s.assumptions x g (subst (IsNext s.made) (sym y.is) next) (ap (λ (z : Step). infers z.kind) y.is) within
+
+pub export-sound : (s : State) (i : ℕ) (hypotheses : List Term) (conclusion : Term) (x : Step) → HasSoundRun s → AllByRecursion (IsTermObject s.made) hypotheses
+    → IsTermObject s.made conclusion → restate_step s.made i hypotheses conclusion ≡ Ok x → SequentWithin x.sequent
+    → HasSoundRun (record (with_step s x) { exports = s.exports ++ next_step s ∷ [] })
+export-sound s i hypotheses conclusion x g h k e within =
+    let y = restate_step-made s.made i hypotheses conclusion x e in
+    let next = restated s i (stated hypotheses conclusion) (stated-IsSequent conclusion hypotheses y.bools) y.weaker (stated-taken s.made conclusion hypotheses k h) in
+    let m = infer-more s.made s.exports s.assumptions x g (subst (IsNext s.made) (sym y.is) next) (ap (λ (z : Step). infers z.kind) y.is) within in
+    record {
       proof = m.proof;
       over = m.over;
-      stack = m.stack;
-      dictionary = m.dictionary;
-      exports = pushed 0 (next_step s) (length (steps_of (s.made ++ Made.step x ∷ []))) s.exports (new-theorem s x) g.exports;
+      exports = pushed 0 (next_step s) (length (steps_of (s.made ++ Made.step x ∷ []))) s.exports (new-theorem s.made x) g.exports;
       assumptions = m.assumptions;
-    })
-
-pub thm-sound : (s t : State) → IsSound s → thm s ≡ Ok t → IsSound t
-thm-sound s t g e =
-    let conclusion = bound (pop as_term s.stack) _ t e in
-    let hypotheses = bound (pop as_terms conclusion.0.1) _ t conclusion.2 in
-    let i = bound (pop as_theorem hypotheses.0.1) _ t hypotheses.2 in
-    let x = bound (restate_step s.made i.0.0 hypotheses.0.0 conclusion.0.0) _ t i.2 in
-    let y = restate_step-made s.made i.0.0 hypotheses.0.0 conclusion.0.0 x.0 x.1 in
-    let sequent = stated hypotheses.0.0 conclusion.0.0 in
-    let h = pop-gives s.made as_term (IsTermObject s.made) (term-gives s.made) s.stack conclusion.0 g.stack conclusion.1 in
-    let k = pop-gives s.made as_terms (AllByRecursion (IsTermObject s.made)) (terms-gives s.made) conclusion.0.1 hypotheses.0 h.1 hypotheses.1 in
-    let j = pop-gives s.made as_theorem (IsStepNumber s.made) (theorem-gives s.made) hypotheses.0.1 i.0 k.1 i.1 in
-    let u = with_stack s i.0.1 in
-    exported u t i.0.0 sequent (first_same u s.exports sequent) (restacked s i.0.1 g j.1) (stated-IsSequent conclusion.0.0 hypotheses.0.0 y.bools) y.weaker
-    (stated-taken s.made conclusion.0.0 hypotheses.0.0 h.0 k.0) (subst (λ z. export u z (first_same u s.exports z.sequent) ≡ Ok t) y.is x.2)
+    }

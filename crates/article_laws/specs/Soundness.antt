@@ -1,5 +1,5 @@
 -- What is true of every state of a run: what was made is a proof, over the symbols that are taken and within the limits, and so is each object.
-use Rattle.std.specs.Prelude.{◌≡◌, ℤ, ◌<◌, List, length, true, Some, is_some}
+use Rattle.std.specs.Prelude.{◌≡◌, ℕ, ℤ, ◌<◌, List, length, true, Some, is_some}
 use Rattle.std.specs.List.{AllByRecursion}
 use Rattle.std.specs.FinMap as entries
 use Rattle.hol_spec.specs.Terms.{Term, type_of}
@@ -9,7 +9,9 @@ use Rattle.article_spec.specs.SoundRuns.{assumed_from}
 use Rattle.article_spec.specs.Ascending.{Ascend}
 use Rattle.hol_spec.specs.Taken.{TypeTaken, TermTaken}
 use Rattle.hol_spec.specs.Over.{IsOver}
-use Rattle.article_spec.specs.State.{Object, Objects, number, name, list, type_operator, type, constant, variable, term, theorem, none, more, State}
+use Rattle.article_spec.specs.State.{Object, State}
+use Rattle.article_laws.specs.Moves.{Invariant, RunHas, Holds}
+use Rattle.article_laws.specs.Parts.{Parts, IsOf}
 
 -- A term that stands on its own: typed, over what is taken, within the limits.
 pub record IsTermObject (made : List Made) (t : Term) : Type 0 where
@@ -17,21 +19,17 @@ pub record IsTermObject (made : List Made) (t : Term) : Type 0 where
   pub taken : TermTaken (symbols_of made) t
   pub within : TermWithin t
 
-abbrev mutual
-  pub IsObject : List Made → Object → Type 0
-  IsObject made (number z) = Unit {0}
-  IsObject made (name n) = Unit {0}
-  IsObject made (list xs) = AreObjects made xs
-  IsObject made (type_operator n) = Unit {0}
-  IsObject made (type t) = TypeTaken (symbols_of made) t × TypeWithin t
-  IsObject made (constant n) = Unit {0}
-  IsObject made (variable v) = TypeTaken (symbols_of made) v.1 × TypeWithin v.1
-  IsObject made (term t) = IsTermObject made t
-  IsObject made (theorem i) = i < length (steps_of made)
+abbrev pub sound_parts : List Made → Parts
+sound_parts made = record {
+  name = λ n. Unit {0};
+  type = λ t. TypeTaken (symbols_of made) t × TypeWithin t;
+  variable = λ v. TypeTaken (symbols_of made) v.1 × TypeWithin v.1;
+  term = IsTermObject made;
+  step = λ i. i < length (steps_of made);
+}
 
-  pub AreObjects : List Made → Objects → Type 0
-  AreObjects made none = Unit {0}
-  AreObjects made (more x xs) = IsObject made x × AreObjects made xs
+abbrev pub IsObject : List Made → Object → Type 0
+IsObject made x = IsOf (sound_parts made) x
 
 pub record IsSound (s : State) : Type 0 where
   pub proof : IsProof s.made
@@ -40,3 +38,28 @@ pub record IsSound (s : State) : Type 0 where
   pub dictionary : (k : ℤ) (x : Object) → entries.get s.dictionary k ≡ Some x → IsObject s.made x
   pub exports : Ascend 0 (length (steps_of s.made)) s.exports
   pub assumptions : s.assumptions ≡ assumed_from 0 (steps_of s.made)
+
+-- of what was made, of the exports and of the assumptions, by their numbers
+pub record IsSoundlyMade (made : List Made) (is js : List ℕ) : Type 0 where
+  pub proof : IsProof made
+  pub over : IsOver made
+  pub exports : Ascend 0 (length (steps_of made)) is
+  pub assumptions : js ≡ assumed_from 0 (steps_of made)
+
+abbrev pub soundness : Invariant
+soundness = record { parts = sound_parts; run = λ place made exports assumptions. IsSoundlyMade made exports assumptions }
+
+-- the run of a state
+abbrev pub HasSoundRun : State → Type 0
+HasSoundRun s = RunHas soundness s
+
+pub holds-IsSound : (s : State) → Holds soundness s → IsSound s
+holds-IsSound s h =
+    let r = h.run in
+    record { proof = r.proof; over = r.over; stack = h.objects.stacked; dictionary = h.objects.kept; exports = r.exports; assumptions = r.assumptions }
+
+pub IsSound-holds : (s : State) → IsSound s → Holds soundness s
+IsSound-holds s g = record {
+  objects = record { stacked = g.stack; kept = g.dictionary };
+  run = record { proof = g.proof; over = g.over; exports = g.exports; assumptions = g.assumptions };
+}

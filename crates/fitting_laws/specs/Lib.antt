@@ -17,8 +17,5 @@ pub mod Sums
 pub mod SymbolLimits
 pub mod TermMeasures
 pub mod TermSizes
-pub mod WithinBuilding
 pub mod WithinDefining
-pub mod WithinInference
 pub mod WithinRuns
-pub mod WithinStates

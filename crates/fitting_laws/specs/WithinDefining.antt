@@ -1,7 +1,7 @@
--- The words that define keep what was made within the limits: the term of each constant lies in a sequent within them.
+-- What is defined is within the limits: the term of each constant lies in a sequent within them.
 use Rattle.hol_spec.specs.declared.Version.{Version}
 use Rattle.hol_spec.specs.declared.Version.TheVariants.{Five, Six}
-use Rattle.std.proofs.Common.{◌≡◌, ℕ, zero, suc, ◌≤◌, List, [], ◌∷◌, ◌++◌, map, Option, None, Some, Ok, inl, refl, sym, ap, subst, arith, Result}
+use Rattle.std.proofs.Common.{◌≡◌, length, ℕ, zero, suc, ◌≤◌, List, [], ◌∷◌, ◌++◌, map, Option, None, Some, Ok, inl, refl, sym, ap, subst, arith, Result}
 use Rattle.std.specs.Prelude.{not, slice_index_or}
 use Rattle.std.specs.Option.{option_map}
 use Rattle.std.specs.List.{AllByRecursion, filter_map, cons_option, flat_map}
@@ -9,7 +9,7 @@ use Rattle.std.proofs.lemmas.List.{length-map}
 use Rattle.common.specs.declared.faults.Kind.TheVariants.{NameTaken, NotClosed, ExtraTypeVars}
 use Rattle.hol_spec.specs.Names.{Name}
 use Rattle.hol_spec.specs.Lists.{is_in, IsIn}
-use Rattle.hol_spec.specs.Types.{HolType, variable, variable_places}
+use Rattle.hol_spec.specs.Types.{HolType, types_of, variable, variable_places}
 use Rattle.hol_spec.specs.Terms.{Term, Variable, free, app, lam, constant, variable_eq, equation, type_variable_places}
 use Rattle.hol_spec.specs.Limits.{greatest_depth, greatest_size, SequentWithin, type_depth, type_size}
 use Rattle.hol_spec.specs.Equations.{Equation, equation_parts}
@@ -18,30 +18,23 @@ use Rattle.hol_spec.specs.Sequents.{Sequent, terms_of}
 use Rattle.hol_spec.specs.Definitions.{Definition, TypeNames}
 use Rattle.hol_spec.specs.NewTypes.{new_type, abstraction_type, representation_type}
 use Rattle.hol_spec.specs.Defining.{is_closed, has_type_variables_of}
-use Rattle.hol_spec.specs.DefinitionLists.{ConstantPairs, names_of, variables_of, variable_side, of_equation, variable_equation, defining_equations, definiens, definitions_in}
+use Rattle.hol_spec.specs.DefinitionLists.{ConstantPairs, variables_of, variable_side, of_equation, variable_equation, defining_equations, definiens, definitions_in}
 use Rattle.hol_spec.specs.Primitives.{function, equality_name, equality_type}
-use Rattle.hol_spec.specs.TypeDefinitions.{abstracted, represented, new_variable, first_law, first_law_free, first_law_of, second_law_of}
+use Rattle.hol_spec.specs.TypeDefinitions.{abstracted, represented, new_variable, first_law, first_law_free, first_law_of}
 use Rattle.hol_spec.specs.Symbols.{defined, is_taken_constant}
 use Rattle.hol_spec.specs.Rules.{Parameters, derived}
 use Rattle.hol_spec.specs.Proofs.{Made, symbols_of, sequents_of, sequent_at, Step}
 use Rattle.hol_spec.specs.declared.StepKind.TheVariants as by_rule
 use Rattle.hol_laws.specs.ListLaws.{All-filter}
-use Rattle.hol_laws.specs.Members.{All-append, All-each, IsIn-left, IsIn-right}
+use Rattle.hol_laws.specs.Members.{All-mapped, All-each, IsIn-left, IsIn-right}
 use Rattle.proof_laws.specs.RuleTaken.{lookup-All}
-use Rattle.article_spec.specs.State.{State, version_at}
-use Rattle.article_spec.specs.State as object
-use Rattle.article_spec.specs.Operands.{as_name, as_names, as_term, as_theorem, as_constant_pairs, pop}
 use Rattle.article_spec.specs.Conditions.{demand, typed}
-use Rattle.article_spec.specs.Changes.{with_stack, with_symbols, with_type_definition, with_theorem, with_type}
-use Rattle.article_spec.specs.RuleSteps.{step_by, NewType, define_const_step, define_const_list_step, type_laws, type_measures, made_of_type}
-use Rattle.article_spec.specs.DefiningWords.{define_const, constant_objects, define_const_list, define_type_op}
+use Rattle.article_spec.specs.RuleSteps.{step_by, define_const_step, type_measures}
 use Rattle.article_laws.specs.SoundStates.{bound, passed, sequent-within, IsWithin}
 use Rattle.fitting_laws.specs.SymbolLimits.{DefinitionWithin, GenericWithin, SymbolWithin, MadeWithin, AreWithin, IsPart, part-within, few-places}
-use Rattle.fitting_laws.specs.WithinStates.{answers, with_symbols-within, with_type_definition-within, conclude-within, concluded}
-use Rattle.fitting_laws.specs.WithinBuilding.{arguments-few}
+use Rattle.hol_laws.specs.TypeLaws.{count-types_of}
 use Rattle.std.proofs.lemmas.Option.{same_Some}
 use Rattle.common.specs.declared.faults.Kind.{Kind}
-use Rattle.article_laws.specs.SoundDefining.{type_laws-made}
 
 -- the right side of an equation is a part of it
 right-part : (a : HolType) (x y h : Term) → h ≡ equation a x y → IsPart y h
@@ -57,23 +50,14 @@ equation-within : (a : HolType) (x y : Term) → SequentWithin (derived [] (equa
 equation-within a x y h = part-within (derived [] (equation a x y)) h (equation a x y) (inl refl) y (right-part a x y (equation a x y) refl)
 
 -- defineConst
-pub define_const-within : (s t : State) → AreWithin s.made → define_const s ≡ Ok t → AreWithin t.made
-define_const-within s t g e =
-    let symbols = symbols_of s.made in
-    let u = bound (pop as_term s.stack) _ t e in
-    let n = bound (pop as_name u.0.1) _ t u.2 in
-    let x = bound (define_const_step s.made n.0.0 u.0.0) _ t n.2 in
-    let new = passed (demand (not (is_taken_constant symbols n.0.0)) NameTaken) _ x.0 x.1 in
-    let closed = passed (demand (is_closed u.0.0) NotClosed) _ x.0 new.2 in
-    let a = bound (typed u.0.0) _ x.0 closed.2 in
-    let variables = passed (demand (has_type_variables_of a.0 u.0.0) ExtraTypeVars) _ x.0 a.2 in
-    let xs = defined (Definition.constant n.0.0 u.0.0) ∷ [] in
-    let stack = object.constant n.0.0 ∷ n.0.1 in
-    let next = with_symbols (with_stack s stack) xs in
-    let y = step_by by_rule.DefineConst [] (Parameters.constant n.0.0 u.0.0) (derived [] (equation a.0 (Term.constant n.0.0 a.0) u.0.0)) in
-    let says = subst (λ (z : Step). SequentWithin z.sequent) (the_step x.0 y variables.2) (conclude-within next t x.0 x.2) in
-    let own = equation-within a.0 (Term.constant n.0.0 a.0) u.0.0 says in
-    concluded next t x.0 (with_symbols-within (with_stack s stack) xs g (own, tt {0})) x.2
+pub define_const-within : (m : List Made) (n : Name) (t : Term) (x : Step) → define_const_step m n t ≡ Ok x → SequentWithin x.sequent → DefinitionWithin t
+define_const-within m n t x e within =
+    let new = passed (demand (not (is_taken_constant (symbols_of m) n)) NameTaken) _ x e in
+    let closed = passed (demand (is_closed t) NotClosed) _ x new.2 in
+    let a = bound (typed t) _ x closed.2 in
+    let variables = passed (demand (has_type_variables_of a.0 t) ExtraTypeVars) _ x a.2 in
+    let y = step_by by_rule.DefineConst [] (Parameters.constant n t) (derived [] (equation a.0 (Term.constant n a.0) t)) in
+    equation-within a.0 (Term.constant n a.0) t (subst (λ (z : Step). SequentWithin z.sequent) (the_step x y variables.2) within)
   where
     the_step : (x y : Step) → ◌≡◌ {A = Result Step Kind} (Ok y) (Ok x) → x ≡ y
     the_step x y e = cc
@@ -136,15 +120,11 @@ module _ (one : Sequent) (within : SequentWithin one) where
       (equations-within one.hypotheses (All-each (IsIn (terms_of one)) one.hypotheses (λ h k. IsIn-left one.hypotheses (one.conclusion ∷ []) h k))))
 
 -- defineConstList
-pub define_const_list-within : (s t : State) → AreWithin s.made → define_const_list s ≡ Ok t → AreWithin t.made
-define_const_list-within s t g e =
-    let i = bound (pop as_theorem s.stack) _ t e in
-    let p = bound (pop as_constant_pairs i.0.1) _ t i.2 in
-    let one = sequent_at s.made i.0.0 in
-    let x = bound (define_const_list_step s.made p.0.0 i.0.0) _ t p.2 in
-    let xs = map defined (definitions_in p.0.0 one.hypotheses) in
-    let stack = object.list (constant_objects (names_of p.0.0)) ∷ p.0.1 in
-    concluded (with_symbols (with_stack s stack) xs) t x.0 (with_symbols-within (with_stack s stack) xs g (list-within one (at-within (sequents_of s.made) i.0.0 (sequents-within s.made g)) p.0.0)) x.2
+pub define_const_list-within : (m : List Made) (pairs : ConstantPairs) (i : ℕ) → AreWithin m
+    → AllByRecursion MadeWithin (map Made.symbol (map defined (definitions_in pairs (sequent_at m i).hypotheses)))
+define_const_list-within m pairs i h =
+    let one = sequent_at m i in
+    All-mapped MadeWithin Made.symbol (map defined (definitions_in pairs one.hypotheses)) (list-within one (at-within (sequents_of m) i (sequents-within m h)) pairs)
 
 -- the types that a type definition makes
 generic-of_law : (s : Sequent) → SequentWithin s → (a : HolType) → type_size a ≤ greatest_size → type_depth a ≤ greatest_depth
@@ -201,34 +181,20 @@ representation-within edition names c h size depth =
     let r = representation_type names c in
     generic-of_law (first_law_of edition names c) h r size depth (All-each (IsIn (flat_map type_variable_places (terms_of (first_law_of edition names c)))) (variable_places r) (λ n k. representation-places edition names c n k))
 
+-- an operator within the limits has few arguments
+pub arguments-few : (n : Name) (ts : List HolType) → type_depth (HolType.operator n (types_of ts)) ≤ greatest_depth → length ts ≤ greatest_depth
+arguments-few n ts h = let same = count-types_of ts in omega (arith, h, same)
+
 -- defineTypeOp
-made_of_type-within : (edition : Version) (s : State) (names : TypeNames) (i : ℕ) (c : HolType) (f : Term) → AreWithin s.made
-    → AllByRecursion IsWithin (type_measures edition names c f) → AreWithin (with_type s (made_of_type edition names i c f)).made
-made_of_type-within edition s names i c f g within =
-    let u = with_type_definition s names c f i in
-    let x = made_of_type edition names i c f in
-    let v = with_theorem u x.first in
+pub define_type_op-within : (edition : Version) (names : TypeNames) (c : HolType) (f : Term) → AllByRecursion IsWithin (type_measures edition names c f)
+    → SymbolWithin (defined (Definition.type_operator names c f))
+define_type_op-within edition names c f within =
     let law = sequent-within (first_law_of edition names c) within.1.1.1.0 in
     let long = length-map names.variables variable in
     let arguments = arguments-few names.operator (map variable names.variables) within.0.depth in
-    let symbol : SymbolWithin (defined (Definition.type_operator names c f)) =
-    (omega (arith, long, arguments), abstraction-within edition names c law within.1.0.size within.1.0.depth, representation-within edition names c law within.1.1.0.size within.1.1.0.depth) in
-    let one = All-append MadeWithin u.made (Made.step x.first ∷ []) (with_type_definition-within s names c f i g symbol) (law, tt {0}) in
-    All-append MadeWithin v.made (Made.step x.second ∷ []) one (sequent-within (second_law_of edition names c f) within.1.1.1.1.0, tt {0})
-
-type_laws-within : (edition : Version) (s : State) (names : TypeNames) (i : ℕ) (x : NewType) → AreWithin s.made → type_laws edition s.made names i ≡ Ok x
-    → AreWithin (with_type s x).made
-type_laws-within edition s names i x g e =
-    let y = type_laws-made edition s.made names i x e in
-    subst (λ z. AreWithin (with_type s z).made) (sym y.is) (made_of_type-within edition s names i y.c y.f g y.within)
-
-pub define_type_op-within : (s t : State) → AreWithin s.made → define_type_op s ≡ Ok t → AreWithin t.made
-define_type_op-within s t g e =
-    let i = bound (pop as_theorem s.stack) _ t e in
-    let v = bound (pop as_names i.0.1) _ t i.2 in
-    let r = bound (pop as_name v.0.1) _ t v.2 in
-    let a = bound (pop as_name r.0.1) _ t r.2 in
-    let o = bound (pop as_name a.0.1) _ t a.2 in
-    let names : TypeNames = record { operator = o.0.0; abstraction = a.0.0; representation = r.0.0; variables = v.0.0 } in
-    let x = bound (type_laws (version_at s.place) s.made names i.0.0) _ t o.2 in
-    answers _ t x.2 (type_laws-within (version_at s.place) (with_stack s (object.constant r.0.0 ∷ object.constant a.0.0 ∷ object.type_operator o.0.0 ∷ o.0.1)) names i.0.0 x.0 g x.1)
+    let abstraction = within.1.0 in
+    let representation = within.1.1.0 in (
+      omega (arith, long, arguments),
+      abstraction-within edition names c law abstraction.size abstraction.depth,
+      representation-within edition names c law representation.size representation.depth,
+    )

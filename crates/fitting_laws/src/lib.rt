@@ -7,8 +7,8 @@
 //! |---|---|
 //! | `Sums` | sums of a measure over lists |
 //! | `FewVariables`, `TermMeasures`, `TermSizes` | parts of terms: their type variables, depths and sizes, those of their types and of what a substitution puts |
-//! | `SymbolLimits`, `WithinStates` | what it is for a symbol or a step to be within the limits, and what a command adds |
-//! | `WithinBuilding`, `WithinInference`, `WithinDefining`, `WithinRuns` | every word, and so every accepted run, takes and makes only what is within the limits |
+//! | `SymbolLimits` | what it is for a symbol or a step to be within the limits |
+//! | `WithinDefining`, `WithinRuns` | every accepted run takes, defines and makes only what is within the limits |
 //! | `FittingItems` | so are the items of a run, and those that are kept for its module |
 //! | `Depths`, `ShallowScopes`, `ShallowRows`, `ShallowRuns` | depths of trees, of translated terms, of each row's proof, and of the module of a run |
 //! | `Costs`, `SmallScopes`, `SmallTheorems` | sizes with spreads: of trees, of translated terms, and of a theorem in a scope |

@@ -16,6 +16,7 @@ use Rattle.article_spec.specs.declared.commands.Item.TheVariants as item
 use Rattle.article_spec.specs.Numbers.{number_of, is_in_range}
 use Rattle.article_spec.specs.Words.{word_of}
 use Rattle.article_spec.specs.Contents.{Content, skipped, command, faulty, is_blank, drop_blanks, trimmed, number_sign, number_content, as_name, as_word, item_content, said, content}
+use Rattle.article_laws.specs.KeptRuns.{ItemHas}
 use Rattle.article_spec.specs.Lines.{newline, command_at, EndedLine, Opens, open_line, skips, gives, End, ended, refused, Lines, last_skipped, last_gives, last_faults, stops}
 
 -- the components that a text of bytes writes
@@ -59,9 +60,7 @@ trimmed-bytes line h = reverse-bytes _ (drop_blanks-bytes _ (reverse-bytes _ (dr
 
 -- an item whose name, where it is one, is of bytes
 abbrev pub IsNamedItem : Item → Type 0
-IsNamedItem (item.Number z) = Unit {0}
-IsNamedItem (item.Name n) = IsName n
-IsNamedItem (item.Word w) = Unit {0}
+IsNamedItem x = ItemHas IsName x
 
 -- what a line says, where it is a command with such an item
 abbrev IsNamedContent : Content → Type 0

@@ -6,11 +6,7 @@ pub mod Keys
 pub mod LackingTrees
 pub mod ListedVariables
 pub mod ModuleItems
-pub mod NamedBuilding
-pub mod NamedDefining
-pub mod NamedInference
 pub mod NamedRuns
-pub mod NamedStates
 pub mod NeededItems
 pub mod ParameterCounts
 pub mod PlaceCounts

@@ -12,8 +12,6 @@
 //! | `RootItems` | what gives a root is named as an export |
 //! | `StandingRuns` | what is kept is reached, so the module of an accepted run with names stands for it |
 //! | `ByteNames` | a line of bytes writes a name of bytes, and so do the name items of a text of bytes |
-//! | `NamedStates` | a state whose objects and symbols have names of bytes, and what keeps it so |
-//! | `NamedBuilding`, `NamedInference`, `NamedDefining` | each word keeps the names of a state |
 //! | `TypedBodies` | the bodies of a run's module are typed over what is declared before, and its theorems are those of steps |
 //! | `PlaceCounts`, `LackingTrees`, `ParameterCounts` | to how many arguments a tree applies a symbol, what lacks the symbols of theorems, and how many domains the type of a theorem has |
 //! | `CountedRows`, `CountedModules` | each proof applies its premises, and so each body a theorem, to as many arguments as the theorem has parameters |

@@ -34,7 +34,8 @@ digits-apart (a ∷ ds) (b ∷ es) r s h k e =
 front-of : (q : ℕ) (bytes : List ℕ) → starts_with nat_eq bytes (binder_front q) ≡ true → bytes ≡ binder_front q ++ drop (length (binder_front q)) bytes
 front-of q bytes e = (starts_is {E = nat_eq} Decides-eqb bytes (binder_front q) (starts_with nat_eq bytes (binder_front q)) refl).0 e
 
-one-number : (p q : ℕ) (n : Name) → p < 2 ^ 64 → q < 2 ^ 64 → is_binder_name p n ≡ true → is_binder_name q n ≡ true → p ≡ q
+-- a name is of one number at most
+pub one-number : (p q : ℕ) (n : Name) → p < 2 ^ 64 → q < 2 ^ 64 → is_binder_name p n ≡ true → is_binder_name q n ≡ true → p ≡ q
 one-number p q [] hp hq e f = absurd (cc)
 one-number p q (bytes ∷ b ∷ n) hp hq e f = absurd (cc)
 one-number p q (bytes ∷ []) hp hq e f =

@@ -22,10 +22,12 @@ pub record Adds (P : Kept → Type 0) (d e : Draft) : Type 0 where
   pub is : e.kept ≡ d.kept ++ new
   pub all : AllByRecursion P new
 
-adds-none : {P : Kept → Type 0} (d e : Draft) → e.kept ≡ d.kept → Adds P d e
+-- nothing is kept more
+pub adds-none : {P : Kept → Type 0} (d e : Draft) → e.kept ≡ d.kept → Adds P d e
 adds-none d e same = record { new = []; is = same ∙ sym (nil-append d.kept); all = tt {0} }
 
-adds-then : {P : Kept → Type 0} {d e f : Draft} → Adds P d e → Adds P e f → Adds P d f
+-- one after another
+pub adds-then : {P : Kept → Type 0} {d e f : Draft} → Adds P d e → Adds P e f → Adds P d f
 adds-then {P = P} {d = d} a b = record { new = a.new ++ b.new; is = b.is ∙ ap (λ l. l ++ b.new) a.is ∙ append_assoc d.kept a.new b.new; all = All-append P a.new b.new a.all b.all }
 
 adds-weaker : {P Q : Kept → Type 0} {d e : Draft} → ((x : Kept) → P x → Q x) → Adds P d e → Adds Q d e
@@ -41,7 +43,7 @@ adds-once {P = P} d x build p a = go (key_of x d)
     go None = adds-kept x p a
     go (Some k) = adds-none d (refer k d) refl
 
-kept-conses : (k : ℕ) (d : Draft) → (conses k d).kept ≡ d.kept
+pub kept-conses : (k : ℕ) (d : Draft) → (conses k d).kept ≡ d.kept
 kept-conses zero d = refl
 kept-conses (suc k) d = kept-conses k (say_word word.Cons d)
 
