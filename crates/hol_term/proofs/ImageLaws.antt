@@ -19,7 +19,7 @@ use Rattle.hol_term.specs.declared.TermId.{TermId}
 use Rattle.hol_term.specs.declared.Variable.{Variable}
 use Rattle.hol_term.specs.Tables.{Trees, term_at, type_at, Holds, Keeps}
 use Rattle.hol_term.specs.TableLaws.{term_in-Some, Some-term_in, term_in-Stays}
-use Rattle.hol_term.specs.Noted.{IsNoted}
+use Rattle.tree_map.specs.Noted.{IsNoted}
 use Rattle.hol_term.specs.Substitutions.{term_pairs_at, AreTermPairs, ArePairsFitting, AreTermPairsKnown, AreKnownPairs, image_of, IsPutFor, AreImages, RefusesSubst}
 use Rattle.hol_term.specs.Refusals.{RefusesTerm}
 use Rattle.hol_term.specs.PutIndexes.{same_variable}

@@ -17,7 +17,7 @@ use Rattle.hol_term.specs.declared.scopes.ScopeId.{ScopeId}
 use Rattle.hol_term.specs.declared.seats.Seat.{Seat}
 use Rattle.hol_term.specs.declared.seats.Step.{Step}
 use Rattle.hol_term.specs.declared.seats.Step.TheVariants.{Visit, Apply, Abstract}
-use Rattle.hol_term.specs.Noted.{IsNoted}
+use Rattle.tree_map.specs.Noted.{IsNoted}
 use Rattle.hol_term.specs.Parts.{IsLeaf}
 use Rattle.hol_term.specs.Scopes.{list_in, KeepsLists, AddsList}
 use Rattle.hol_term.specs.Tables.{Trees, term_at, type_at, Keeps, IsTypeNumber}

@@ -3,8 +3,6 @@ pub mod Indexing
 pub mod Inserted
 pub mod Cut
 pub mod Retyped
-pub mod NotedLaws
-mod NotedInOrder
 pub mod Typings
 pub mod ScopeLaws
 pub mod Seated

@@ -12,7 +12,7 @@ use Rattle.hol_term.specs.declared.scopes.Scope.{Scope}
 use Rattle.hol_term.specs.contracts.scopes.ScopeOrd.TheImpl.Laws.{matches_eq-law, total-law}
 use Rattle.hol_term.specs.Scopes.{list_in, lists_from, lists_of, scope_cmp, place_in, AreInner, ArePlaced, KeepsLists, AddsList}
 use Rattle.hol_term.proofs.EntryLaws.{slice_get-last, slice_get-one_more}
-use Rattle.hol_term.proofs.NotedLaws.{and_both}
+use Rattle.std.proofs.lemmas.Bool.{and_parts}
 use Rattle.hol_laws.specs.PlaceLaws.{slice_get-append}
 
 -- a list that has a number is the number's
@@ -87,7 +87,7 @@ lists_of-Some ss i s h e =
 scope_cmp-same : (s t : Scope) → is_eq (scope_cmp s t) ≡ true → s ≡ t
 scope_cmp-same s t h =
     let e : (nat_eq s.outer.0 t.outer.0 && nat_eq s.ty.0 t.ty.0) ≡ true = matches_eq-law s t ∙ h in
-    let a = and_both (nat_eq s.outer.0 t.outer.0) (nat_eq s.ty.0 t.ty.0) e in
+    let a = and_parts (nat_eq s.outer.0 t.outer.0) (nat_eq s.ty.0 t.ty.0) e in
     let x = eqb-true s.outer.0 t.outer.0 a.0 in
     let y = eqb-true s.ty.0 t.ty.0 a.1 in
     λ i. record { outer = record { 0 = x i }; ty = record { 0 = y i } }

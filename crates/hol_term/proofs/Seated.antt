@@ -6,7 +6,7 @@ use Rattle.hol_type.specs.declared.table.TypeId.{TypeId}
 use Rattle.hol_type.specs.Tables as type
 use Rattle.hol_type.specs.TableLaws as type_law
 use Rattle.hol_term.specs.declared.seats.Seat.{Seat}
-use Rattle.hol_term.specs.Noted.{IsNoted}
+use Rattle.tree_map.specs.Noted.{IsNoted}
 use Rattle.hol_term.specs.Scopes.{list_in, KeepsLists, AddsList}
 use Rattle.hol_term.specs.Tables.{Trees, Keeps, IsTypeNumber}
 use Rattle.hol_term.specs.TableLaws.{IsTypeNumber-Keeps}

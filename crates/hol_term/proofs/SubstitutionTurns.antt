@@ -15,7 +15,7 @@ use Rattle.hol_term.specs.declared.substitution.Turn.{Turn}
 use Rattle.hol_term.specs.declared.substitution.Turn.TheVariants.{Visit, Apply, Abstract}
 use Rattle.hol_term.specs.Tables.{Trees, term_at, type_at, Holds, Keeps}
 use Rattle.hol_term.specs.TableLaws.{term_in-Some, Some-term_in, term_in-Stays, Keeps-refl, Keeps-trans}
-use Rattle.hol_term.specs.Noted.{IsNoted}
+use Rattle.tree_map.specs.Noted.{IsNoted}
 use Rattle.hol_term.specs.Substitutions.{AreKnownPairs, image_of, IsItsImage}
 use Rattle.hol_term.specs.Substituting.{image_at, AreNoted, Ends, IsSubstituting, steps}
 use Rattle.hol_term.specs.Walks.{NotEmpty, AreHeld}

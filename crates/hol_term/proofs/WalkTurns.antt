@@ -14,7 +14,7 @@ use Rattle.hol_term.specs.declared.walk.Task.TheVariants.{Visit, Apply, Abstract
 use Rattle.hol_term.specs.declared.walk.Replacement.TheVariants.{Renamed, Argument}
 use Rattle.hol_term.specs.Tables.{Trees, term_at, type_at, terms_at, AreKnown, Holds, Keeps}
 use Rattle.hol_term.specs.TableLaws.{Some-term_in, term_in-Stays, Keeps-refl, Keeps-trans, AreKnown-Keeps}
-use Rattle.hol_term.specs.Noted.{IsNoted}
+use Rattle.tree_map.specs.Noted.{IsNoted}
 use Rattle.hol_term.specs.Walks.{changed, wanted, CanClose, IsPlace, IsLeftAlone, IsReplaced, NotEmpty, AreHeld, IsMemo, Ends, IsWalk, turns, lifting, work}
 use Rattle.hol_term.proofs.Remade.{wanted-Keeps, CanClose-Keeps, alone_wanted, changed-app, changed-lam, made_bound, argument_place, argument_closing, argument_wanted, argument_less, part_task, part_work}
 

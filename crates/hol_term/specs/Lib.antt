@@ -3,7 +3,7 @@ pub mod TableLaws
 pub mod Masks
 pub mod Nodes
 pub mod Indexed
-pub mod Noted
+pub mod Keys
 pub mod Scopes
 pub mod Typing
 pub mod Inferring

@@ -11,7 +11,7 @@ use Rattle.hol_term.specs.declared.Variable.{Variable}
 use Rattle.hol_term.specs.declared.substitution.Turn.{Turn}
 use Rattle.hol_term.specs.declared.substitution.Turn.TheVariants.{Visit, Apply, Abstract}
 use Rattle.hol_term.specs.Tables.{Trees, term_at, Holds, Keeps}
-use Rattle.hol_term.specs.Noted.{IsNoted}
+use Rattle.tree_map.specs.Noted.{IsNoted}
 use Rattle.hol_term.specs.Substitutions.{AreKnownPairs, image_of}
 use Rattle.hol_term.specs.Walks.{AreHeld}
 

@@ -12,7 +12,7 @@ use Rattle.hol_type.specs.declared.table.TypeId.{TypeId}
 use Rattle.hol_type.specs.Tables as type
 use Rattle.hol_term.specs.declared.TermId.{TermId}
 use Rattle.hol_term.specs.declared.Variable.{Variable}
-use Rattle.hol_term.specs.Noted.{IsNoted}
+use Rattle.tree_map.specs.Noted.{IsNoted}
 use Rattle.hol_term.specs.Tables.{Trees, term_at, type_at, Holds, IsTermAt}
 use Rattle.hol_term.specs.Refusals.{RefusesTerm}
 

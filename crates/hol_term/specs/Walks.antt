@@ -13,7 +13,7 @@ use Rattle.hol_term.specs.declared.walk.Task.{Task}
 use Rattle.hol_term.specs.declared.walk.Task.TheVariants.{Visit, Apply, Abstract, Note}
 use Rattle.hol_term.specs.Tables.{Trees, term_at, terms_at, AreKnown, Holds, Keeps}
 use Rattle.hol_type.specs.Tables as type
-use Rattle.hol_term.specs.Noted.{IsNoted}
+use Rattle.tree_map.specs.Noted.{IsNoted}
 use Rattle.hol_term.specs.Masks.{IsWithout}
 
 -- the free variable that is the one argument

@@ -4,11 +4,12 @@
 //! trees are. A call that makes a term keeps every number that was given before, and after a refusal or want of memory
 //! the table is as before. A term that is made is within the limits of size and depth, or refused for exactly the limit
 //! that it passes; where types do not fit, that is told first. What makes several terms before it judges any calls
-//! `application`, `abstraction`, `instance`, `equation` and `substituted`, which judge nothing and refuse nothing. No
-//! binder captures: to put a term into what closed a variable is to substitute it. `subst` puts types and then terms, each
-//! list all at once. The free variables and the type variables of a term are listed in order of first occurrence, each
-//! once. Walks come once to each part, or where binders matter once to each part under the same binders. What lifts, puts,
-//! closes or substitutes passes over a tree where a node's measures tell that nothing in it changes.
+//! `application`, `abstraction`, `instance`, `equation`, `substituted` and `image`, which judge nothing and refuse nothing.
+//! No binder captures: to put a term into what closed a variable is to substitute it. `subst` puts types and then terms,
+//! each list all at once; pairs that are put many times are made ready once, as a `PutIndex`, for `image`. The free
+//! variables and the type variables of a term are listed in order of first occurrence, each once. Walks come once to each
+//! part, or where binders matter once to each part under the same binders. What lifts, puts, closes or substitutes passes
+//! over a tree where a node's measures tell that nothing in it changes, or the order of numbers that a variable is not in it.
 //!
 //! ```
 //! let mut table = TermTable::new(alloc);

@@ -1,10 +1,11 @@
 //! The walk that finds the type of a tree under binders. It comes once to each part under the same binders, and keeps a stack of its own of
 //! what it is still to do.
-ghost use Rattle.std.specs.Prelude.{◌≡◌, ◌⊎◌, [], ◌∷◌, Option, IfSome, OnOk};
+ghost use Rattle.std.specs.Prelude.{◌≡◌, ◌⊎◌, [], ◌∷◌, Option, OnOk};
 ghost use Rattle.hol_type.specs.declared.table.TypeId.{TypeId as AnId};
 ghost use Rattle.hol_term.specs.declared.seats.Seat.{Seat as ASeat};
 ghost use Rattle.hol_term.specs.declared.seats.Step.TheVariants as the_step;
-ghost use Rattle.hol_term.specs.Noted.{IsNoted};
+ghost use Rattle.tree_map.specs.Noted.{IsNoted};
+ghost use Rattle.hol_term.specs.Keys.{seat_exact};
 ghost use Rattle.hol_term.specs.Walks.{NotEmpty};
 
 use crate::TermId;
@@ -12,8 +13,7 @@ use crate::scopes::{ScopeId, Scopes};
 use common::{Memory, Stack};
 use hol_type::TypeId;
 use std::alloc::Global;
-use std::collections::BTreeMap;
-use std::marker::Model;
+use tree_map::Key;
 
 /// A tree as a part under binders.
 #[derive(Clone, Copy, PartialEq, Eq, PartialOrd, Ord)]
@@ -22,11 +22,12 @@ pub(crate) struct Seat {
     pub(crate) scope: ScopeId,
 }
 
-/// The types that were found, by their seats: `None` where there is no type.
-#[derive(Drop)]
-pub(crate) struct Found {
-    types: BTreeMap<Seat, Option<TypeId>>,
+impl Key for Seat {
+    ghost exact = { seat_exact };
 }
+
+/// The types that were found, by their seats: `None` where there is no type.
+pub(crate) type Found = tree_map::Memo<Seat, Option<TypeId>>;
 
 /// What is still to do to find a type.
 #[derive(Clone, Copy)]
@@ -47,39 +48,6 @@ pub(crate) struct Typings {
     pub(crate) types: Stack<Option<TypeId>>,
     pub(crate) scopes: Scopes,
     pub(crate) found: Found,
-}
-
-impl Model for Found {
-    ghost use Rattle.std.specs.Prelude.{List, Option};
-    ghost use Rattle.hol_type.specs.declared.table.TypeId.{TypeId as AnId};
-    ghost use Rattle.hol_term.specs.declared.seats.Seat.{Seat as ASeat};
-
-    ghost Value = { List (ASeat × Option AnId) };
-
-    ghost view = { λ f. f.types.entries };
-}
-
-impl Found {
-    fn new(alloc: Global) -> Self
-        ensures empty { (s : ASeat) (ty : Option AnId) → IsNoted result s ty → ⊥ }
-    {
-        Found {
-            types: BTreeMap::new(alloc),
-        }
-    }
-
-    pub(crate) fn find(&self, seat: Seat) -> Option<Option<TypeId>>
-        ensures noted { IfSome result (λ ty. IsNoted self.now seat ty) }
-    {
-        self.types.get(&seat).copied()
-    }
-
-    pub(crate) fn note(&mut self, seat: Seat, ty: Option<TypeId>) -> Result<(), Memory>
-        ensures noted { OnOk result ((s : ASeat) (found : Option AnId) → IsNoted self.new s found → IsNoted self.old s found ⊎ ((s ≡ seat) × (found ≡ ty))) }
-    {
-        self.types.insert(seat, ty)?;
-        Ok(())
-    }
 }
 
 impl Typings {

@@ -7,7 +7,8 @@ ghost use Rattle.hol_spec.specs.TermSubstitution.{sub};
 ghost use Rattle.hol_type.specs.Tables as type;
 ghost use Rattle.hol_term.specs.declared.TermId.{TermId as AnId};
 ghost use Rattle.hol_term.specs.declared.substitution.Turn.TheVariants as the_turn;
-ghost use Rattle.hol_term.specs.Noted.{IsNoted};
+ghost use Rattle.tree_map.specs.Noted.{IsNoted};
+ghost use Rattle.hol_term.specs.Keys.{id_exact};
 ghost use Rattle.hol_term.specs.Substituting.{IsSubstituting, steps};
 ghost use Rattle.hol_term.specs.Walks.{NotEmpty};
 ghost use Rattle.hol_term.specs.Substitutions.{term_pairs_at, AreTermPairs, ArePairsFitting, RefusesSubst, AreKnownPairs, image_of, IsItsImage};
@@ -20,47 +21,15 @@ use crate::{TermId, TermTable, TermView, Variable};
 use common::{Fault, Kind, Memory, Stack};
 use hol_name::Name;
 use hol_type::TypeId;
-use indexmap::IndexMap;
 use std::alloc::Global;
-use std::marker::Model;
+use tree_map::Key;
+
+impl Key for TermId {
+    ghost exact = { id_exact };
+}
 
 /// What a substitution has made already of each term.
-#[derive(Drop)]
-struct Images {
-    made: IndexMap<TermId, TermId>,
-}
-
-impl Model for Images {
-    ghost use Rattle.std.specs.Prelude.{List};
-    ghost use Rattle.hol_term.specs.declared.TermId.{TermId as AnId};
-
-    ghost Value = { List (AnId × AnId) };
-
-    ghost view = { λ m. m.made.entries };
-}
-
-impl Images {
-    fn new(alloc: Global) -> Self
-        ensures empty { (id r : AnId) → IsNoted result id r → ⊥ }
-    {
-        Images {
-            made: IndexMap::new(alloc),
-        }
-    }
-
-    fn find(&self, id: TermId) -> Option<TermId>
-        ensures noted { IfSome result (λ r. IsNoted self.now id r) }
-    {
-        self.made.get(&id).copied()
-    }
-
-    fn note(&mut self, id: TermId, made: TermId) -> Result<(), Memory>
-        ensures noted { OnOk result ((i r : AnId) → IsNoted self.new i r → IsNoted self.old i r ⊎ ((i ≡ id) × (r ≡ made))) }
-    {
-        self.made.insert(id, made)?;
-        Ok(())
-    }
-}
+type Images = tree_map::Memo<TermId, TermId>;
 
 /// What a substitution is still to do.
 #[derive(Clone, Copy)]
@@ -231,7 +200,7 @@ impl TermTable {
         self.image_by_parts(&putting, id)
     }
 
-    // What is put makes this of a tree.
+    // What is made of a tree, part by part.
     fn image_by_parts(&mut self, putting: &Putting<'_>, id: TermId) -> Result<TermId, Memory>
         requires pairs { AreKnownPairs self.old putting.now.types.now putting.now.terms.now }
         requires index { IsIndexOf putting.now.index.now putting.now.terms.now }

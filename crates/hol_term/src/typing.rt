@@ -10,7 +10,7 @@ ghost use Rattle.hol_type.specs.declared.table.TypeId.{TypeId as ATypeId};
 ghost use Rattle.hol_type.specs.Tables as type;
 ghost use Rattle.hol_term.specs.declared.seats.Seat.{Seat as ASeat};
 ghost use Rattle.hol_term.specs.declared.seats.Step.TheVariants as the_step;
-ghost use Rattle.hol_term.specs.Noted.{IsNoted};
+ghost use Rattle.tree_map.specs.Noted.{IsNoted};
 ghost use Rattle.hol_term.specs.Tables.{term_at, type_at, Holds, Keeps, IsTypeNumber};
 ghost use Rattle.hol_term.specs.Nodes.{tree_of_node, PartsBelow, AreMeasures};
 ghost use Rattle.hol_term.specs.Typing.{seat_type, AreTypings, IsSeat};

@@ -7,8 +7,9 @@ ghost use Rattle.hol_term.specs.declared.walk.Task.TheVariants as the_task;
 ghost use Rattle.std.specs.Prelude.{◌≡◌, ◌⊎◌, ℕ, ◌<◌, ◌≤◌, ◌+◌, ◌-◌, ◌^◌, ◌↔◌, [], ◌∷◌, length, reverse, slice_get, Some, IfOk, IfSome, IfNone, OnOk, IsTrue};
 ghost use Rattle.hol_term.specs.declared.memo.Change.TheVariants as the_change;
 ghost use Rattle.hol_term.specs.declared.walk.Replacement.TheVariants as the_replacement;
+ghost use Rattle.hol_term.specs.Keys.{place_exact};
 ghost use Rattle.hol_term.specs.Masks.{IsWithout};
-ghost use Rattle.hol_term.specs.Noted.{IsNoted};
+ghost use Rattle.tree_map.specs.Noted.{IsNoted};
 ghost use Rattle.hol_term.specs.Tables.{AreKnown, Holds, Keeps, Trees, term_at, terms_at};
 ghost use Rattle.hol_term.specs.Walks.{CanClose, IsLeftAlone, IsPlace, IsReplaced, IsWalk, NotEmpty, variable_of, wanted, work};
 ghost use Rattle.hol_term.specs.Parts.{IsLeaf};
@@ -19,6 +20,7 @@ use crate::{Parts, TermId, TermTable};
 use common::{Memory, Stack};
 use hol_type::TypeId;
 use std::alloc::Global;
+use tree_map::Key;
 
 /// What stands for a bound number.
 pub(crate) enum Replacement {
@@ -39,6 +41,10 @@ pub(crate) enum Task {
     Abstract(Place, TypeId),
     /// To note the tree made last for this place too.
     Note(Place),
+}
+
+impl Key for Place {
+    ghost exact = { place_exact };
 }
 
 /// A walk on its way: what it is still to do, the trees that are made and not yet taken up, and what was made at each place.

@@ -3,5 +3,4 @@ mod MeasuredLaws
 mod Inserted
 mod Cut
 mod Indexing
-mod NotedLaws
 mod Turns

@@ -20,7 +20,7 @@ use Rattle.lp_term.specs.declared.walk.Task.TheVariants.{Visit, Join}
 use Rattle.lp_term.specs.declared.walk.Variable.TheVariants.{Renamed, Argument}
 use Rattle.lp_term.specs.Tables.{tree_at, trees_at, tree_of_node, PartsBelow, AreKnown, Holds, Keeps}
 use Rattle.lp_term.specs.TableLaws.{tree_at-Holds, tree_at-Stays, Holds-tree_at, Holds-within, Keeps-refl}
-use Rattle.lp_term.specs.Noted.{IsNoted}
+use Rattle.tree_map.specs.Noted.{IsNoted}
 use Rattle.lp_term.specs.Walks.{changed, wanted, with_parts, joined, Makes, IsPlace, ArePlaces, IsMemo, IsLeftAlone, IsReplaced, IsWalk, sizes, price, work}
 
 -- a longer table does the same

@@ -4,6 +4,6 @@ pub mod Shapes
 pub mod Measured
 pub mod Columns
 pub mod Indexed
-pub mod Noted
+pub mod Keys
 pub mod Walks
 pub mod BindingLaws

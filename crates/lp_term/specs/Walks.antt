@@ -12,7 +12,7 @@ use Rattle.lp_term.specs.declared.walk.Task.TheVariants.{Visit, Join}
 use Rattle.lp_term.specs.declared.walk.Variable.{Variable}
 use Rattle.lp_term.specs.declared.walk.Variable.TheVariants.{Renamed, Argument}
 use Rattle.lp_term.specs.Tables.{tree_at, trees_at, AreKnown, Holds}
-use Rattle.lp_term.specs.Noted.{IsNoted}
+use Rattle.tree_map.specs.Noted.{IsNoted}
 
 -- what a change with these arguments makes of a tree under d binders
 abbrev pub changed : List Tree → Change → ℕ → Tree → Tree

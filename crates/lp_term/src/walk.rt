@@ -6,13 +6,15 @@ ghost use Rattle.lp_term.specs.declared.walk.Task.TheVariants as task;
 ghost use Rattle.lp_term.specs.declared.LpId.{LpId as AnId};
 ghost use Rattle.lp_term.specs.declared.memo.Place.{Place as APlace};
 ghost use Rattle.lp_term.specs.Tables.{tree_at, trees_at, AreKnown, Holds, Keeps, IsDistinct};
-ghost use Rattle.lp_term.specs.Noted.{IsNoted};
+ghost use Rattle.tree_map.specs.Noted.{IsNoted};
+ghost use Rattle.lp_term.specs.Keys.{place_exact};
 ghost use Rattle.lp_term.specs.Walks.{IsLeftAlone, IsPlace, IsReplaced, IsWalk, wanted, with_parts as node_with_parts, work};
 
 use crate::memo::{Change, Memo, Place};
 use crate::{LpId, LpNode, LpTable};
 use common::{Memory, Stack};
 use std::alloc::Global;
+use tree_map::Key;
 
 /// How many nodes a tree has that is made once for each place, and not again where it stands there again. A smaller one is made again.
 const SHARED: u128 = 128;
@@ -32,6 +34,10 @@ pub(crate) enum Variable {
     Renamed(u128),
     /// This argument, lifted by the binders round the variable.
     Argument(LpId),
+}
+
+impl Key for Place {
+    ghost exact = { place_exact };
 }
 
 /// A walk on its way.

@@ -1,4 +1,3 @@
-mod NotedLaws
 mod Turns
 mod SpreadLaws
 mod OccurrenceLaws

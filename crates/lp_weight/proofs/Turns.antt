@@ -5,7 +5,7 @@ use Rattle.lp_weight.specs.declared.memo.Place.{Place}
 use Rattle.lp_weight.specs.declared.measure.Task.{Task}
 use Rattle.lp_weight.specs.declared.measure.Task.TheVariants.{Visit, Join}
 use Rattle.lp_weight.specs.Saturation.{saturated}
-use Rattle.lp_weight.specs.Noted.{IsNoted}
+use Rattle.tree_map.specs.Noted.{IsNoted}
 use Rattle.lp_weight.specs.Measures.{IsPlace, tree_of, AreTwo, Makes, IsMemo, IsWalk, work}
 use Rattle.lp_binding.specs.Binding.{size-positive}
 

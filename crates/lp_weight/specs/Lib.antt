@@ -1,5 +1,5 @@
+pub mod Keys
 pub mod Measures
-pub mod Noted
 pub mod Occurrences
 pub mod Packed
 pub mod Saturation

@@ -10,7 +10,7 @@ use Rattle.lp_weight.specs.declared.measure.Walk.{Walk}
 use Rattle.lp_weight.specs.declared.measure.Task.{Task}
 use Rattle.lp_weight.specs.declared.measure.Task.TheVariants.{Visit, Join}
 use Rattle.lp_weight.specs.Saturation.{saturated}
-use Rattle.lp_weight.specs.Noted.{IsNoted}
+use Rattle.tree_map.specs.Noted.{IsNoted}
 use Rattle.lp_weight.specs.Occurrences.{occurrences}
 
 -- the place's tree is of the table, and the binders round its parts can be counted

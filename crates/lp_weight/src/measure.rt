@@ -4,7 +4,7 @@ ghost use Rattle.lp_spec.specs.Trees.{Tree};
 ghost use Rattle.lp_weight.specs.declared.memo.Place.{Place as APlace};
 ghost use Rattle.lp_weight.specs.declared.measure.Task.TheVariants as task;
 ghost use Rattle.lp_weight.specs.Saturation.{saturated};
-ghost use Rattle.lp_weight.specs.Noted.{IsNoted};
+ghost use Rattle.tree_map.specs.Noted.{IsNoted};
 ghost use Rattle.lp_weight.specs.Measures.{IsPlace, IsWalk, IsIdle, place_occurrences, work};
 
 use crate::memo::{Memo, Place};

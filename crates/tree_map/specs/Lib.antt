@@ -1,2 +1,4 @@
 pub mod Entries
+pub mod Noted
+pub mod NotedLaws
 pub mod Places

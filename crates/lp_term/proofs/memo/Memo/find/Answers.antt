@@ -1,6 +1,0 @@
-use Rattle.std.proofs.Common.{◌∙◌}
-use Rattle.lp_term.proofs.NotedLaws.{found_if}
-use Rattle.lp_term.proofs.memo.Memo.find.Goals as goal
-
-pub returns : goal.returns
-returns c = record { noted = rw (← c.self.view_is) (found_if c.args.place c.self.inside.made.entries c.copied.result (c.copied.ensures ∙ c.get.ensures.value)) }
