@@ -17,6 +17,7 @@ use Rattle.article_spec.specs.Step.{obey}
 use Rattle.proof_laws.specs.ProofLaws.{steps_of-push}
 use Rattle.compose.specs.declared.pool.Said.{Said}
 use Rattle.compose.specs.Pools.{steps_in}
+use Rattle.hol_term.specs.Tables.{IsTermAt}
 use Rattle.hol_rules.specs.Kept.{Kept}
 use Rattle.hol_rules.specs.Kept as proof
 use Rattle.hol_rules.specs.Conclusions.{Concludes, limited}
@@ -25,9 +26,10 @@ use Rattle.stack_machine.specs.declared.object.Object.TheVariants as object
 use Rattle.stack_machine.specs.declared.object.Cell.{Cell}
 use Rattle.stack_machine.specs.Making.{run_view}
 use Rattle.stack_machine.specs.MakingLaws.{count-step}
-use Rattle.stack_machine.specs.Stored.{Stored, IsFront, IsStore, objects_view, store_view, AreKnown}
+use Rattle.stack_machine.specs.Stored.{Stored, IsFront, IsStep, IsStore, IsTerm, IsType, objects_view, store_view, AreKnown}
 use Rattle.stack_machine.specs.Shown.{in_state, shown}
 use Rattle.stack_machine.specs.Obeying.{Obeys}
+use Rattle.stack_machine.specs.Concluding.{IsConcluded}
 use Rattle.stack_machine.specs.Inferring.{Exports, Infers}
 use Rattle.stack_machine.proofs.Passing.{IfOk-map, IfErr-map, OnErr-map}
 use Rattle.stack_machine.proofs.Obeyed.{failed, placed}
@@ -103,3 +105,27 @@ module _ {word : Word} {a b : Stored} {stack : List Object} {f : State → Resul
 
   pub Exports-obeys : {new : List Object} → Exports a f b (Ok tt) → new ≡ drop n stack → Obeys word a stack b new (Ok tt)
   Exports-obeys h dropped = placed n [] [] b.run k h.grows dropped tt refl refl (λ s. e s ∙ h.taken s (objects_view a (drop n stack)))
+
+-- what the store knows the proof knows
+module _ {a : Kept} {ns : List Name} {cs : List Cell} {us ws : List Said} {p : ℕ} {m : Stored} (i : IsStore a ns cs us ws p) (is : store_view a ns cs us ws p ≡ m) where
+  pub term-there : {t : ℕ} → IsTerm m t → IsTermAt a.trees t
+  term-there {t = t} h = (subst (λ m. IsTerm m t) (sym is) h).typed
+
+  pub type-there : {t : ℕ} → IsType m t → t < length a.trees.types
+  type-there {t = t} h = subst (λ m. IsType m t) (sym is) h
+
+  pub step-there : {j : ℕ} → IsStep m j → j < proof.step_count a
+  step-there {j = j} h = subst (λ m. IsStep m j) (sym is) h
+
+  pub rule-infers : {b : Kept} {step : Result ℕ Fault} (rule : Stored → Result Step Kind) → Concludes a (rule (store_view a ns cs us ws p)) b step → Infers m (by_step (rule m)) (store_view b ns cs us ws p) step
+  rule-infers {b = b} {step = step} rule h = subst (λ m. Infers m (by_step (rule m)) (store_view b ns cs us ws p) step) is (Concludes-Infers h i)
+
+  -- a word whose operands are off the stack, and whose rule makes the next step or is refused
+  module _ {word : Word} {b : Kept} {stack new : List Object} {step : Result ℕ Fault} {r : Result (Unit {0}) Fault} (n : ℕ) (rule : Stored → Result Step Kind) where
+    pub rule-obeys : Concludes a (rule (store_view a ns cs us ws p)) b step → IsConcluded n stack step new r → AreKnown m stack
+        → ((s : State) → obey (shown m stack s) word ≡ by_step (rule m) (in_state s (objects_view m (drop n stack)) m.run)) → Obeys word m stack (store_view b ns cs us ws p) new r
+    rule-obeys h put k e = by_answer step (rule-infers rule h) put
+      where
+        by_answer : (step : Result ℕ Fault) → Infers m (by_step (rule m)) (store_view b ns cs us ws p) step → IsConcluded n stack step new r → Obeys word m stack (store_view b ns cs us ws p) new r
+        by_answer (Ok j) g c = subst (Obeys word m stack (store_view b ns cs us ws p) new) (sym c.concluded) (Infers-obeys n e k g c.theorem)
+        by_answer (Err x) g c = subst (λ xs. Obeys word m stack (store_view b ns cs us ws p) xs r) (sym c.same) (Infers-fails n e k r x (subst (λ q. IsErrAnd q (λ y. y ≡ x)) (sym c.refused) refl) g)

@@ -17,10 +17,10 @@ mod ConstantLists
 mod Stated
 mod TwoObjects
 mod Dictionaries
-mod Frames
 mod Holdings
 mod Kept
 mod Moved
 mod Collected
 mod PutLists
 mod PutAgain
+mod Frames

@@ -124,3 +124,7 @@ stopped {a = a} r x h k f = failed r x h k (Grows-refl a) refl f
 pub Obeys-In : (version : Version) {word : Word} {a b : Stored} {stack new : List Object} (r : Result (Unit {0}) Fault) → Obeys word a stack b new r → ObeysIn version word a stack b new r
 Obeys-In version (Ok x) h = record { taken = λ s v. h.taken s; refused = tt; known = h.known; grows = h.grows; same = tt; run = tt }
 Obeys-In version (Err x) h = record { taken = tt; refused = λ s v. h.refused s; known = h.known; grows = h.grows; same = h.same; run = h.run }
+
+-- a remark is taken off as any object is
+pub Obeys-Pragma : {a b : Stored} {stack new : List Object} {r : Result (Unit {0}) Fault} → Obeys word.Pop a stack b new r → Obeys word.Pragma a stack b new r
+Obeys-Pragma h = record { taken = h.taken; refused = h.refused; known = h.known; grows = h.grows; same = h.same; run = h.run }

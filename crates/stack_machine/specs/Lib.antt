@@ -7,6 +7,7 @@ pub mod Shown
 pub mod Reading
 pub mod Obeying
 pub mod Crowds
+pub mod Concluding
 pub mod Inferring
 pub mod Collecting
 pub mod Moves

@@ -27,3 +27,9 @@ pub record ObeysIn (version : Version) (word : Word) (old : Stored) (stack : Lis
   pub grows : Grows old new
   pub same : OnErr result (after ≡ stack)
   pub run : OnErr result (new.run ≡ old.run)
+
+-- The same of the machine's state, which after a fault is as before.
+pub record IsObeyed (word : Word) (old new : State) (result : Result (Unit {0}) Fault) : Type 0 where
+  pub taken : OnOk result (obey old word ≡ Ok new)
+  pub refused : IfErr result (λ fault. Fails fault (obey old word))
+  pub unchanged : OnErr result (new ≡ old)

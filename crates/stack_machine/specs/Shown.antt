@@ -3,8 +3,6 @@ use Rattle.std.specs.Prelude.{ℤ, List, [], map}
 use Rattle.std.specs.List.{AllByRecursion}
 use Rattle.std.specs.Ordering.{int_cmp}
 use Rattle.std.specs.FinMap.{FinMap, from_entries}
-use Rattle.article_spec.specs.declared.commands.Word.{Word}
-use Rattle.article_spec.specs.declared.commands.Word.TheVariants as word
 use Rattle.article_spec.specs.State.{State}
 use Rattle.article_spec.specs.State as state
 use Rattle.stack_machine.specs.declared.object.Object.{Object}
@@ -20,47 +18,6 @@ in_state s stack run = record s { stack = stack; made = run.made; assumptions = 
 -- the state with these objects on the stack
 abbrev pub shown : Stored → List Object → State → State
 shown m objects s = in_state s (objects_view m objects) m.run
-
--- the word works on the stack alone
-abbrev pub IsOnStack : Word → Type 0
-IsOnStack word.Nil = Unit {0}
-IsOnStack word.Cons = Unit {0}
-IsOnStack word.HdTl = Unit {0}
-IsOnStack word.TypeOp = Unit {0}
-IsOnStack word.VarType = Unit {0}
-IsOnStack word.OpType = Unit {0}
-IsOnStack word.Const = Unit {0}
-IsOnStack word.ConstTerm = Unit {0}
-IsOnStack word.Var = Unit {0}
-IsOnStack word.VarTerm = Unit {0}
-IsOnStack word.AppTerm = Unit {0}
-IsOnStack word.AbsTerm = Unit {0}
-IsOnStack word.Pop = Unit {0}
-IsOnStack word.Pragma = Unit {0}
-IsOnStack w = ⊥
-
--- the word infers, assumes or exports, and is not `subst`
-abbrev pub IsInference : Word → Type 0
-IsInference word.Refl = Unit {0}
-IsInference word.Assume = Unit {0}
-IsInference word.EqMp = Unit {0}
-IsInference word.AbsThm = Unit {0}
-IsInference word.AppThm = Unit {0}
-IsInference word.DeductAntisym = Unit {0}
-IsInference word.BetaConv = Unit {0}
-IsInference word.Sym = Unit {0}
-IsInference word.Trans = Unit {0}
-IsInference word.ProveHyp = Unit {0}
-IsInference word.Axiom = Unit {0}
-IsInference word.Thm = Unit {0}
-IsInference w = ⊥
-
--- the word defines a constant, a list of constants, or a type operator
-abbrev pub IsDefinition : Word → Type 0
-IsDefinition word.DefineConst = Unit {0}
-IsDefinition word.DefineConstList = Unit {0}
-IsDefinition word.DefineTypeOp = Unit {0}
-IsDefinition w = ⊥
 
 -- the dictionary's entries
 abbrev pub dictionary_view : Stored → List (ℤ × Object) → FinMap int_cmp state.Object

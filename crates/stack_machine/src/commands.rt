@@ -5,7 +5,6 @@ ghost use Rattle.article_spec.specs.Operands.{as_types};
 ghost use Rattle.hol_type.specs.Tables.{AreKnown as AreTypes, types_at};
 ghost use Rattle.stack_machine.specs.Obeying.{Obeys};
 ghost use Rattle.stack_machine.specs.Reading.{Operand};
-ghost use Rattle.stack_machine.specs.Shown.{IsOnStack};
 ghost use Rattle.stack_machine.specs.Stored.{AreKnown};
 
 use crate::object::{List, Object};
@@ -14,7 +13,6 @@ use crate::operands::{
 };
 use crate::stack::Stack;
 use crate::store::Store;
-use article_spec::Word;
 use common::{Fault, Kind};
 use hol_type::TypeId;
 use std::alloc::Global;
@@ -30,7 +28,7 @@ fn types_on(alloc: Global, store: &Store, stack: &Stack, depth: usize) -> Result
 }
 
 /// The empty list.
-fn nil(store: &Store, stack: &mut Stack) -> Result<(), Fault>
+pub(crate) fn nil(store: &Store, stack: &mut Stack) -> Result<(), Fault>
     requires { AreKnown store.now stack.old }
     ensures { Obeys word.Nil store.now stack.old store.now stack.new result }
 {
@@ -39,7 +37,7 @@ fn nil(store: &Store, stack: &mut Stack) -> Result<(), Fault>
 }
 
 /// The list of an object and a list.
-fn cons(store: &mut Store, stack: &mut Stack) -> Result<(), Fault>
+pub(crate) fn cons(store: &mut Store, stack: &mut Stack) -> Result<(), Fault>
     requires { AreKnown store.old stack.old }
     ensures { Obeys word.Cons store.old stack.old store.new stack.new result }
 {
@@ -51,7 +49,7 @@ fn cons(store: &mut Store, stack: &mut Stack) -> Result<(), Fault>
 }
 
 /// The first element of a list, and on it the rest.
-fn head_and_tail(store: &Store, stack: &mut Stack) -> Result<(), Fault>
+pub(crate) fn head_and_tail(store: &Store, stack: &mut Stack) -> Result<(), Fault>
     requires { AreKnown store.now stack.old }
     ensures { Obeys word.HdTl store.now stack.old store.now stack.new result }
 {
@@ -66,7 +64,7 @@ fn head_and_tail(store: &Store, stack: &mut Stack) -> Result<(), Fault>
 }
 
 /// The type operator of a name.
-fn type_operator(store: &Store, stack: &mut Stack) -> Result<(), Fault>
+pub(crate) fn type_operator(store: &Store, stack: &mut Stack) -> Result<(), Fault>
     requires { AreKnown store.now stack.old }
     ensures { Obeys word.TypeOp store.now stack.old store.now stack.new result }
 {
@@ -76,7 +74,7 @@ fn type_operator(store: &Store, stack: &mut Stack) -> Result<(), Fault>
 }
 
 /// The type variable of a name.
-fn type_variable(store: &mut Store, stack: &mut Stack) -> Result<(), Fault>
+pub(crate) fn type_variable(store: &mut Store, stack: &mut Stack) -> Result<(), Fault>
     requires { AreKnown store.old stack.old }
     ensures { Obeys word.VarType store.old stack.old store.new stack.new result }
 {
@@ -87,7 +85,11 @@ fn type_variable(store: &mut Store, stack: &mut Stack) -> Result<(), Fault>
 }
 
 /// The type of an operator and a list of types.
-fn operator_type(alloc: Global, store: &mut Store, stack: &mut Stack) -> Result<(), Fault>
+pub(crate) fn operator_type(
+    alloc: Global,
+    store: &mut Store,
+    stack: &mut Stack,
+) -> Result<(), Fault>
     requires { AreKnown store.old stack.old }
     ensures { Obeys word.OpType store.old stack.old store.new stack.new result }
 {
@@ -99,7 +101,7 @@ fn operator_type(alloc: Global, store: &mut Store, stack: &mut Stack) -> Result<
 }
 
 /// The constant of a name.
-fn constant(store: &Store, stack: &mut Stack) -> Result<(), Fault>
+pub(crate) fn constant(store: &Store, stack: &mut Stack) -> Result<(), Fault>
     requires { AreKnown store.now stack.old }
     ensures { Obeys word.Const store.now stack.old store.now stack.new result }
 {
@@ -109,7 +111,7 @@ fn constant(store: &Store, stack: &mut Stack) -> Result<(), Fault>
 }
 
 /// The term of a constant at a type.
-fn constant_term(store: &mut Store, stack: &mut Stack) -> Result<(), Fault>
+pub(crate) fn constant_term(store: &mut Store, stack: &mut Stack) -> Result<(), Fault>
     requires { AreKnown store.old stack.old }
     ensures { Obeys word.ConstTerm store.old stack.old store.new stack.new result }
 {
@@ -121,7 +123,7 @@ fn constant_term(store: &mut Store, stack: &mut Stack) -> Result<(), Fault>
 }
 
 /// The variable of a name and a type.
-fn variable(store: &Store, stack: &mut Stack) -> Result<(), Fault>
+pub(crate) fn variable(store: &Store, stack: &mut Stack) -> Result<(), Fault>
     requires { AreKnown store.now stack.old }
     ensures { Obeys word.Var store.now stack.old store.now stack.new result }
 {
@@ -132,7 +134,7 @@ fn variable(store: &Store, stack: &mut Stack) -> Result<(), Fault>
 }
 
 /// The term of a variable.
-fn variable_term(store: &mut Store, stack: &mut Stack) -> Result<(), Fault>
+pub(crate) fn variable_term(store: &mut Store, stack: &mut Stack) -> Result<(), Fault>
     requires { AreKnown store.old stack.old }
     ensures { Obeys word.VarTerm store.old stack.old store.new stack.new result }
 {
@@ -143,7 +145,7 @@ fn variable_term(store: &mut Store, stack: &mut Stack) -> Result<(), Fault>
 }
 
 /// The application of a term to a term.
-fn application_term(store: &mut Store, stack: &mut Stack) -> Result<(), Fault>
+pub(crate) fn application_term(store: &mut Store, stack: &mut Stack) -> Result<(), Fault>
     requires { AreKnown store.old stack.old }
     ensures { Obeys word.AppTerm store.old stack.old store.new stack.new result }
 {
@@ -155,7 +157,7 @@ fn application_term(store: &mut Store, stack: &mut Stack) -> Result<(), Fault>
 }
 
 /// The abstraction of a term over a variable.
-fn abstraction_term(store: &mut Store, stack: &mut Stack) -> Result<(), Fault>
+pub(crate) fn abstraction_term(store: &mut Store, stack: &mut Stack) -> Result<(), Fault>
     requires { AreKnown store.old stack.old }
     ensures { Obeys word.AbsTerm store.old stack.old store.new stack.new result }
 {
@@ -167,41 +169,11 @@ fn abstraction_term(store: &mut Store, stack: &mut Stack) -> Result<(), Fault>
 }
 
 /// Takes an object off.
-fn drop_object(store: &Store, stack: &mut Stack) -> Result<(), Fault>
+pub(crate) fn drop_object(store: &Store, stack: &mut Stack) -> Result<(), Fault>
     requires { AreKnown store.now stack.old }
     ensures { Obeys word.Pop store.now stack.old store.now stack.new result }
 {
     let _object = object_on(stack, 0)?;
     stack.drop_top(1);
     Ok(())
-}
-
-/// A word that works on the stack alone.
-pub(crate) fn obey_on_stack(
-    alloc: Global,
-    store: &mut Store,
-    stack: &mut Stack,
-    word: Word,
-) -> Result<(), Fault>
-    requires word { IsOnStack word }
-    requires stack { AreKnown store.old stack.old }
-    ensures { Obeys word store.old stack.old store.new stack.new result }
-{
-    match word {
-        Word::Nil => nil(store, stack),
-        Word::Cons => cons(store, stack),
-        Word::HdTl => head_and_tail(store, stack),
-        Word::TypeOp => type_operator(store, stack),
-        Word::VarType => type_variable(store, stack),
-        Word::OpType => operator_type(alloc, store, stack),
-        Word::Const => constant(store, stack),
-        Word::ConstTerm => constant_term(store, stack),
-        Word::Var => variable(store, stack),
-        Word::VarTerm => variable_term(store, stack),
-        Word::AppTerm => application_term(store, stack),
-        Word::AbsTerm => abstraction_term(store, stack),
-        Word::Pop => drop_object(store, stack),
-        Word::Pragma => drop_object(store, stack),
-        _ => unreachable!(),
-    }
 }

@@ -25,6 +25,14 @@ use hol_spec::Version;
 use hol_term::{TermId, Variable};
 use std::alloc::Global;
 
+/// The names of a new type operator, and of its constants to and from the new type.
+#[derive(Clone, Copy)]
+pub(crate) struct TypeNames {
+    pub(crate) op: NameId,
+    pub(crate) abs: NameId,
+    pub(crate) rep: NameId,
+}
+
 impl Store {
     // The elements of a list as names, in their order.
     pub(crate) fn names_in(&self, alloc: Global, list: List) -> Result<Vec<Name>, Fault>
@@ -68,16 +76,7 @@ impl Store {
             (define_const_step self.old.run.made (name_at self.old name.0) (term_at self.old.trees t.0))) self.new result }
     {
         let own = self.name(name)?;
-        self.define_const_as(&own, t)
-    }
-
-    // The same by a name.
-    fn define_const_as(&mut self, name: &Name, t: TermId) -> Result<StepId, Fault>
-        requires { IsTerm self.old t.0 }
-        ensures { Infers self.old (defining (Symbol.defined (Definition.constant name.now (term_at self.old.trees t.0)) ∷ [])
-            (define_const_step self.old.run.made name.now (term_at self.old.trees t.0))) self.new result }
-    {
-        self.proof.define_const(name, t)
+        self.proof.define_const(&own, t)
     }
 
     // A theorem, with new constants for the variables that its hypotheses define.
@@ -98,40 +97,23 @@ impl Store {
     // The two laws of a new type operator, which a theorem shows to have an element, in an article of a version.
     pub(crate) fn define_type_op(
         &mut self,
-        op: NameId,
-        abs: NameId,
-        rep: NameId,
-        names: &[Name],
+        ids: TypeNames,
+        variables: &[Name],
         one: StepId,
         version: Version,
     ) -> Result<(StepId, StepId), Fault>
-        requires op { IsName self.old op.0 }
-        requires abs { IsName self.old abs.0 }
-        requires rep { IsName self.old rep.0 }
+        requires op { IsName self.old ids.op.0 }
+        requires abs { IsName self.old ids.abs.0 }
+        requires rep { IsName self.old ids.rep.0 }
         requires one { IsStep self.old one }
         ensures { InfersTwo self.old (defining_type
             (type_laws version self.old.run.made
-            (named (name_at self.old op.0) (name_at self.old abs.0) (name_at self.old rep.0) names.now) one)) self.new result }
+            (named (name_at self.old ids.op.0) (name_at self.old ids.abs.0) (name_at self.old ids.rep.0) variables.now) one)) self.new result }
     {
-        let op = self.name(op)?;
-        let abs = self.name(abs)?;
-        let rep = self.name(rep)?;
-        self.define_type_op_as(&op, &abs, &rep, names, one, version)
-    }
-
-    // The same by names.
-    fn define_type_op_as(
-        &mut self,
-        op: &Name,
-        abs: &Name,
-        rep: &Name,
-        names: &[Name],
-        one: StepId,
-        version: Version,
-    ) -> Result<(StepId, StepId), Fault>
-        requires { IsStep self.old one }
-        ensures { InfersTwo self.old (defining_type (type_laws version self.old.run.made (named op.now abs.now rep.now names.now) one)) self.new result }
-    {
-        self.proof.define_type_op(op, abs, rep, names, one, version)
+        let op = self.name(ids.op)?;
+        let abs = self.name(ids.abs)?;
+        let rep = self.name(ids.rep)?;
+        self.proof
+            .define_type_op(&op, &abs, &rep, variables, one, version)
     }
 }

@@ -5,14 +5,13 @@ ghost use Rattle.article_spec.specs.Operands.{as_constant_pairs, as_names};
 ghost use Rattle.hol_defs.specs.Lists.{pairs_at as constant_pairs_at, ArePairsKnown as AreConstantPairsKnown};
 ghost use Rattle.stack_machine.specs.Obeying.{Obeys, ObeysIn};
 ghost use Rattle.stack_machine.specs.Reading.{Operand};
-ghost use Rattle.stack_machine.specs.Shown.{IsDefinition};
 ghost use Rattle.stack_machine.specs.Stored.{AreKnown};
 
+use crate::defining::TypeNames;
 use crate::object::Object;
 use crate::operands::{list_on, name_on, term_on, theorem_on};
 use crate::stack::Stack;
 use crate::store::Store;
-use article_spec::Word;
 use common::Fault;
 use hol_name::Name;
 use hol_spec::Version;
@@ -44,7 +43,7 @@ fn constant_pairs_on(
 }
 
 /// A constant by the term that it stands for.
-fn define_const(store: &mut Store, stack: &mut Stack) -> Result<(), Fault>
+pub(crate) fn define_const(store: &mut Store, stack: &mut Stack) -> Result<(), Fault>
     requires { AreKnown store.old stack.old }
     ensures { Obeys word.DefineConst store.old stack.old store.new stack.new result }
 {
@@ -56,7 +55,11 @@ fn define_const(store: &mut Store, stack: &mut Stack) -> Result<(), Fault>
 }
 
 /// A list of constants by the hypotheses of a theorem.
-fn define_const_list(alloc: Global, store: &mut Store, stack: &mut Stack) -> Result<(), Fault>
+pub(crate) fn define_const_list(
+    alloc: Global,
+    store: &mut Store,
+    stack: &mut Stack,
+) -> Result<(), Fault>
     requires { AreKnown store.old stack.old }
     ensures { Obeys word.DefineConstList store.old stack.old store.new stack.new result }
 {
@@ -69,7 +72,7 @@ fn define_const_list(alloc: Global, store: &mut Store, stack: &mut Stack) -> Res
 }
 
 /// A type operator by the predicate and the witness of a theorem.
-fn define_type_op(
+pub(crate) fn define_type_op(
     alloc: Global,
     store: &mut Store,
     stack: &mut Stack,
@@ -83,7 +86,8 @@ fn define_type_op(
     let rep = name_on(stack, 2)?;
     let abs = name_on(stack, 3)?;
     let op = name_on(stack, 4)?;
-    let (first, second) = store.define_type_op(op, abs, rep, &names, one, version)?;
+    let ids = TypeNames { op, abs, rep };
+    let (first, second) = store.define_type_op(ids, &names, one, version)?;
     stack.put_five(
         Object::TypeOperator(op),
         Object::Constant(abs),
@@ -92,24 +96,4 @@ fn define_type_op(
         Object::Theorem(second),
     );
     Ok(())
-}
-
-/// A word that defines, in an article of a version.
-pub(crate) fn obey_by_definition(
-    alloc: Global,
-    store: &mut Store,
-    stack: &mut Stack,
-    word: Word,
-    version: Version,
-) -> Result<(), Fault>
-    requires word { IsDefinition word }
-    requires stack { AreKnown store.old stack.old }
-    ensures { ObeysIn version word store.old stack.old store.new stack.new result }
-{
-    match word {
-        Word::DefineConst => define_const(store, stack),
-        Word::DefineConstList => define_const_list(alloc, store, stack),
-        Word::DefineTypeOp => define_type_op(alloc, store, stack, version),
-        _ => unreachable!(),
-    }
 }

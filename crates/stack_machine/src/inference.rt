@@ -9,7 +9,6 @@ ghost use Rattle.hol_rules.specs.Premises.{AreTermsAt};
 ghost use Rattle.stack_machine.specs.Obeying.{Obeys};
 ghost use Rattle.stack_machine.specs.Putting.{as_lists, lists_fit, lists_view, AreListsKnown, AreRemembered, IsPutBy};
 ghost use Rattle.stack_machine.specs.Reading.{Operand};
-ghost use Rattle.stack_machine.specs.Shown.{IsInference};
 ghost use Rattle.stack_machine.specs.Stored.{AreKnown};
 
 use crate::object::Object;
@@ -17,7 +16,6 @@ use crate::operands::{list_on, term_on, theorem_on, variable_on};
 use crate::remembered::{Lists, Remembered};
 use crate::stack::Stack;
 use crate::store::Store;
-use article_spec::Word;
 use common::{Fault, Kind};
 use hol_rules::Put;
 use hol_term::TermId;
@@ -33,119 +31,111 @@ fn terms_on(alloc: Global, store: &Store, stack: &Stack, depth: usize) -> Result
 }
 
 /// The equation of a term and itself.
-fn refl(store: &mut Store, stack: &mut Stack) -> Result<(), Fault>
+pub(crate) fn refl(store: &mut Store, stack: &mut Stack) -> Result<(), Fault>
     requires { AreKnown store.old stack.old }
     ensures { Obeys word.Refl store.old stack.old store.new stack.new result }
 {
     let term = term_on(stack, 0)?;
-    let step = store.refl(term)?;
-    stack.put(1, Object::Theorem(step));
-    Ok(())
+    let step = store.proof.refl(term);
+    stack.conclude(1, step)
 }
 
 /// A truth value under itself.
-fn assume(store: &mut Store, stack: &mut Stack) -> Result<(), Fault>
+pub(crate) fn assume(store: &mut Store, stack: &mut Stack) -> Result<(), Fault>
     requires { AreKnown store.old stack.old }
     ensures { Obeys word.Assume store.old stack.old store.new stack.new result }
 {
     let term = term_on(stack, 0)?;
-    let step = store.assume(term)?;
-    stack.put(1, Object::Theorem(step));
-    Ok(())
+    let step = store.proof.assume(term);
+    stack.conclude(1, step)
 }
 
 /// From an equation and its left side, the right one.
-fn eq_mp(store: &mut Store, stack: &mut Stack) -> Result<(), Fault>
+pub(crate) fn eq_mp(store: &mut Store, stack: &mut Stack) -> Result<(), Fault>
     requires { AreKnown store.old stack.old }
     ensures { Obeys word.EqMp store.old stack.old store.new stack.new result }
 {
     let two = theorem_on(stack, 0)?;
     let one = theorem_on(stack, 1)?;
-    let step = store.eq_mp(one, two)?;
-    stack.put(2, Object::Theorem(step));
-    Ok(())
+    let step = store.proof.eq_mp(one, two);
+    stack.conclude(2, step)
 }
 
 /// Both sides of an equation under an abstraction.
-fn abs_thm(store: &mut Store, stack: &mut Stack) -> Result<(), Fault>
+pub(crate) fn abs_thm(store: &mut Store, stack: &mut Stack) -> Result<(), Fault>
     requires { AreKnown store.old stack.old }
     ensures { Obeys word.AbsThm store.old stack.old store.new stack.new result }
 {
     let one = theorem_on(stack, 0)?;
     let (name, ty) = variable_on(stack, 1)?;
-    let step = store.abs_thm(name, ty, one)?;
-    stack.put(2, Object::Theorem(step));
-    Ok(())
+    let variable = store.variable(name, ty)?;
+    let step = store.proof.abs_thm(&variable, one);
+    drop(variable);
+    stack.conclude(2, step)
 }
 
 /// Equal functions applied to equal arguments.
-fn app_thm(store: &mut Store, stack: &mut Stack) -> Result<(), Fault>
+pub(crate) fn app_thm(store: &mut Store, stack: &mut Stack) -> Result<(), Fault>
     requires { AreKnown store.old stack.old }
     ensures { Obeys word.AppThm store.old stack.old store.new stack.new result }
 {
     let two = theorem_on(stack, 0)?;
     let one = theorem_on(stack, 1)?;
-    let step = store.app_thm(one, two)?;
-    stack.put(2, Object::Theorem(step));
-    Ok(())
+    let step = store.proof.app_thm(one, two);
+    stack.conclude(2, step)
 }
 
 /// Two truth values, each derived from the other, are equal.
-fn deduct_antisym(store: &mut Store, stack: &mut Stack) -> Result<(), Fault>
+pub(crate) fn deduct_antisym(store: &mut Store, stack: &mut Stack) -> Result<(), Fault>
     requires { AreKnown store.old stack.old }
     ensures { Obeys word.DeductAntisym store.old stack.old store.new stack.new result }
 {
     let two = theorem_on(stack, 0)?;
     let one = theorem_on(stack, 1)?;
-    let step = store.deduct_antisym(one, two)?;
-    stack.put(2, Object::Theorem(step));
-    Ok(())
+    let step = store.proof.deduct_antisym(one, two);
+    stack.conclude(2, step)
 }
 
 /// One beta step at the root of a term.
-fn beta_conv(store: &mut Store, stack: &mut Stack) -> Result<(), Fault>
+pub(crate) fn beta_conv(store: &mut Store, stack: &mut Stack) -> Result<(), Fault>
     requires { AreKnown store.old stack.old }
     ensures { Obeys word.BetaConv store.old stack.old store.new stack.new result }
 {
     let term = term_on(stack, 0)?;
-    let step = store.beta_conv(term)?;
-    stack.put(1, Object::Theorem(step));
-    Ok(())
+    let step = store.proof.beta_conv(term);
+    stack.conclude(1, step)
 }
 
 /// An equation turned round.
-fn sym(store: &mut Store, stack: &mut Stack) -> Result<(), Fault>
+pub(crate) fn sym(store: &mut Store, stack: &mut Stack) -> Result<(), Fault>
     requires { AreKnown store.old stack.old }
     ensures { Obeys word.Sym store.old stack.old store.new stack.new result }
 {
     let one = theorem_on(stack, 0)?;
-    let step = store.sym(one)?;
-    stack.put(1, Object::Theorem(step));
-    Ok(())
+    let step = store.proof.sym(one);
+    stack.conclude(1, step)
 }
 
 /// Two equations in a row.
-fn trans(store: &mut Store, stack: &mut Stack) -> Result<(), Fault>
+pub(crate) fn trans(store: &mut Store, stack: &mut Stack) -> Result<(), Fault>
     requires { AreKnown store.old stack.old }
     ensures { Obeys word.Trans store.old stack.old store.new stack.new result }
 {
     let two = theorem_on(stack, 0)?;
     let one = theorem_on(stack, 1)?;
-    let step = store.trans(one, two)?;
-    stack.put(2, Object::Theorem(step));
-    Ok(())
+    let step = store.proof.trans(one, two);
+    stack.conclude(2, step)
 }
 
 /// A theorem without the hypothesis that another one proves.
-fn prove_hyp(store: &mut Store, stack: &mut Stack) -> Result<(), Fault>
+pub(crate) fn prove_hyp(store: &mut Store, stack: &mut Stack) -> Result<(), Fault>
     requires { AreKnown store.old stack.old }
     ensures { Obeys word.ProveHyp store.old stack.old store.new stack.new result }
 {
     let two = theorem_on(stack, 0)?;
     let one = theorem_on(stack, 1)?;
-    let step = store.prove_hyp(one, two)?;
-    stack.put(2, Object::Theorem(step));
-    Ok(())
+    let step = store.proof.prove_hyp(one, two);
+    stack.conclude(2, step)
 }
 
 /// The two lists of a substitution at a depth of the stack.
@@ -159,7 +149,7 @@ fn lists_on(store: &Store, stack: &Stack, depth: usize) -> Result<Lists, Fault>
     }
 }
 
-/// What two lists put: what is remembered of them, or what is read, and then remembered.
+/// What two lists put: what is remembered of them, or what is read, and then remembered where it is long.
 fn put_by(
     alloc: Global,
     store: &Store,
@@ -176,7 +166,7 @@ fn put_by(
         return Ok(put.again()?);
     }
     let put = store.put_in(alloc, lists)?;
-    remembered.keep(lists, put.again()?)?;
+    remembered.keep(lists, &put)?;
     Ok(put)
 }
 
@@ -195,14 +185,13 @@ pub(crate) fn subst(
     let one = theorem_on(stack, 0)?;
     let lists = lists_on(store, stack, 1)?;
     let put = put_by(alloc, store, remembered, lists)?;
-    let step = store.subst_prepared(&put, one);
+    let step = store.proof.subst_prepared(&put, one);
     drop(put);
-    stack.put(2, Object::Theorem(step?));
-    Ok(())
+    stack.conclude(2, step)
 }
 
 /// What an article assumes, unless it is known.
-fn axiom(alloc: Global, store: &mut Store, stack: &mut Stack) -> Result<(), Fault>
+pub(crate) fn axiom(alloc: Global, store: &mut Store, stack: &mut Stack) -> Result<(), Fault>
     requires { AreKnown store.old stack.old }
     ensures { Obeys word.Axiom store.old stack.old store.new stack.new result }
 {
@@ -214,7 +203,7 @@ fn axiom(alloc: Global, store: &mut Store, stack: &mut Stack) -> Result<(), Faul
 }
 
 /// What an article exports.
-fn thm(alloc: Global, store: &mut Store, stack: &mut Stack) -> Result<(), Fault>
+pub(crate) fn thm(alloc: Global, store: &mut Store, stack: &mut Stack) -> Result<(), Fault>
     requires { AreKnown store.old stack.old }
     ensures { Obeys word.Thm store.old stack.old store.new stack.new result }
 {
@@ -224,32 +213,4 @@ fn thm(alloc: Global, store: &mut Store, stack: &mut Stack) -> Result<(), Fault>
     store.export(alloc, one, &hyps, concl)?;
     stack.drop_top(3);
     Ok(())
-}
-
-/// A word of inference, but `subst`.
-pub(crate) fn obey_by_inference(
-    alloc: Global,
-    store: &mut Store,
-    stack: &mut Stack,
-    word: Word,
-) -> Result<(), Fault>
-    requires word { IsInference word }
-    requires stack { AreKnown store.old stack.old }
-    ensures { Obeys word store.old stack.old store.new stack.new result }
-{
-    match word {
-        Word::Refl => refl(store, stack),
-        Word::Assume => assume(store, stack),
-        Word::EqMp => eq_mp(store, stack),
-        Word::AbsThm => abs_thm(store, stack),
-        Word::AppThm => app_thm(store, stack),
-        Word::DeductAntisym => deduct_antisym(store, stack),
-        Word::BetaConv => beta_conv(store, stack),
-        Word::Sym => sym(store, stack),
-        Word::Trans => trans(store, stack),
-        Word::ProveHyp => prove_hyp(store, stack),
-        Word::Axiom => axiom(alloc, store, stack),
-        Word::Thm => thm(alloc, store, stack),
-        _ => unreachable!(),
-    }
 }

@@ -17,9 +17,10 @@
 //! cells. So to keep an object, or to give it back, copies one number, however large it is, and lists may nest without
 //! limit. Names and cells that neither the stack nor the dictionary holds any more are given up while an article runs.
 //!
-//! What `subst` puts is read from two lists, judged and copied where these are put first. It is remembered by their
-//! numbers, so that the same lists are put again in a time that doesn't depend on how many pairs they have; it is
-//! forgotten where names and cells are given up, and at the end of an article.
+//! What `subst` puts is read from two lists, judged and copied where these are put first. Where there are more than eight
+//! pairs for terms it is remembered by the numbers of the lists, so that the same lists are put again in a time that
+//! doesn't depend on how many pairs they have; it is forgotten where names and cells are given up, and at the end of an
+//! article.
 //!
 //! ```text
 //! let mut machine = Machine::new(alloc)?;
@@ -41,7 +42,6 @@ mod object;
 mod operands;
 mod pairs;
 mod remembered;
-mod rules;
 mod stack;
 mod stating;
 mod store;

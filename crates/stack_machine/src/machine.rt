@@ -13,16 +13,15 @@ ghost use Rattle.article_spec.specs.Step.{finish, in_body, obey, obey_item, step
 ghost use Rattle.hol_term.specs.Tables.{Trees};
 ghost use Rattle.hol_defs.specs.Symbols.{symbols_at, AreKnownSymbols};
 ghost use Rattle.stack_machine.specs.Making.{AreSteps};
-ghost use Rattle.stack_machine.specs.Shown.{place_view, IsDefinition, IsInference, IsOnStack};
+ghost use Rattle.stack_machine.specs.Obeying.{IsObeyed};
+ghost use Rattle.stack_machine.specs.Shown.{place_view};
 
-use crate::commands::obey_on_stack;
-use crate::definitions::obey_by_definition;
-use crate::inference::{obey_by_inference, subst};
 use crate::object::Object;
 use crate::operands::{number_on, object_on};
 use crate::remembered::Remembered;
 use crate::stack::Stack;
 use crate::store::Store;
+use crate::{commands, definitions, inference};
 use article_spec::{Command, Item, Word};
 use common::{Fault, Kind, Memory};
 use hol_defs::Symbols;
@@ -303,96 +302,58 @@ impl Machine {
 
     // A word of the body.
     fn word(&mut self, word: Word) -> Result<(), Fault>
-        ensures taken { OnOk result (obey self.old word ≡ Ok self.new) }
-        ensures refused { IfErr result (λ fault. Fails fault (obey self.old word)) }
-        ensures unchanged { OnErr result (self.new ≡ self.old) }
+        ensures { IsObeyed word self.old self.new result }
     {
         match word {
             Word::Version => Err(Fault::Refused(Kind::VersionPlace)),
             Word::Def => self.define(),
             Word::Ref => self.refer(),
             Word::Remove => self.remove(),
-            Word::Nil
-            | Word::Cons
-            | Word::HdTl
-            | Word::TypeOp
-            | Word::VarType
-            | Word::OpType
-            | Word::Const
-            | Word::ConstTerm
-            | Word::Var
-            | Word::VarTerm
-            | Word::AppTerm
-            | Word::AbsTerm
-            | Word::Pop
-            | Word::Pragma => self.on_stack(word),
-            Word::Refl
-            | Word::Assume
-            | Word::EqMp
-            | Word::AbsThm
-            | Word::AppThm
-            | Word::DeductAntisym
-            | Word::BetaConv
-            | Word::Sym
-            | Word::Trans
-            | Word::ProveHyp
-            | Word::Axiom
-            | Word::Thm => self.infer(word),
-            Word::Subst => self.subst(),
-            Word::DefineConst | Word::DefineConstList | Word::DefineTypeOp => {
-                self.define_by(word)
+            Word::Nil => commands::nil(&self.store, &mut self.stack),
+            Word::Cons => commands::cons(&mut self.store, &mut self.stack),
+            Word::HdTl => commands::head_and_tail(&self.store, &mut self.stack),
+            Word::TypeOp => commands::type_operator(&self.store, &mut self.stack),
+            Word::VarType => commands::type_variable(&mut self.store, &mut self.stack),
+            Word::OpType => commands::operator_type(self.alloc, &mut self.store, &mut self.stack),
+            Word::Const => commands::constant(&self.store, &mut self.stack),
+            Word::ConstTerm => commands::constant_term(&mut self.store, &mut self.stack),
+            Word::Var => commands::variable(&self.store, &mut self.stack),
+            Word::VarTerm => commands::variable_term(&mut self.store, &mut self.stack),
+            Word::AppTerm => commands::application_term(&mut self.store, &mut self.stack),
+            Word::AbsTerm => commands::abstraction_term(&mut self.store, &mut self.stack),
+            Word::Pop => commands::drop_object(&self.store, &mut self.stack),
+            Word::Pragma => commands::drop_object(&self.store, &mut self.stack),
+            Word::Refl => inference::refl(&mut self.store, &mut self.stack),
+            Word::Assume => inference::assume(&mut self.store, &mut self.stack),
+            Word::EqMp => inference::eq_mp(&mut self.store, &mut self.stack),
+            Word::AbsThm => inference::abs_thm(&mut self.store, &mut self.stack),
+            Word::AppThm => inference::app_thm(&mut self.store, &mut self.stack),
+            Word::DeductAntisym => inference::deduct_antisym(&mut self.store, &mut self.stack),
+            Word::BetaConv => inference::beta_conv(&mut self.store, &mut self.stack),
+            Word::Sym => inference::sym(&mut self.store, &mut self.stack),
+            Word::Trans => inference::trans(&mut self.store, &mut self.stack),
+            Word::ProveHyp => inference::prove_hyp(&mut self.store, &mut self.stack),
+            Word::Subst => {
+                inference::subst(
+                    self.alloc,
+                    &mut self.store,
+                    &mut self.stack,
+                    &mut self.remembered,
+                )
             }
+            Word::DefineConst => definitions::define_const(&mut self.store, &mut self.stack),
+            Word::DefineConstList => {
+                definitions::define_const_list(self.alloc, &mut self.store, &mut self.stack)
+            }
+            Word::DefineTypeOp => definitions::define_type_op(
+                self.alloc,
+                &mut self.store,
+                &mut self.stack,
+                self.progress.version(),
+            ),
+            Word::Axiom => inference::axiom(self.alloc, &mut self.store, &mut self.stack),
+            Word::Thm => inference::thm(self.alloc, &mut self.store, &mut self.stack),
         }
-    }
-
-    // A word that works on the stack alone.
-    fn on_stack(&mut self, word: Word) -> Result<(), Fault>
-        requires word { IsOnStack word }
-        ensures taken { OnOk result (obey self.old word ≡ Ok self.new) }
-        ensures refused { IfErr result (λ fault. Fails fault (obey self.old word)) }
-        ensures unchanged { OnErr result (self.new ≡ self.old) }
-    {
-        obey_on_stack(self.alloc, &mut self.store, &mut self.stack, word)
-    }
-
-    // A theorem under a substitution.
-    fn subst(&mut self) -> Result<(), Fault>
-        ensures taken { OnOk result (obey self.old word.Subst ≡ Ok self.new) }
-        ensures refused { IfErr result (λ fault. Fails fault (obey self.old word.Subst)) }
-        ensures unchanged { OnErr result (self.new ≡ self.old) }
-    {
-        subst(
-            self.alloc,
-            &mut self.store,
-            &mut self.stack,
-            &mut self.remembered,
-        )
-    }
-
-    // A word of inference, but `subst`.
-    fn infer(&mut self, word: Word) -> Result<(), Fault>
-        requires word { IsInference word }
-        ensures taken { OnOk result (obey self.old word ≡ Ok self.new) }
-        ensures refused { IfErr result (λ fault. Fails fault (obey self.old word)) }
-        ensures unchanged { OnErr result (self.new ≡ self.old) }
-    {
-        obey_by_inference(self.alloc, &mut self.store, &mut self.stack, word)
-    }
-
-    // A word that defines.
-    fn define_by(&mut self, word: Word) -> Result<(), Fault>
-        requires word { IsDefinition word }
-        ensures taken { OnOk result (obey self.old word ≡ Ok self.new) }
-        ensures refused { IfErr result (λ fault. Fails fault (obey self.old word)) }
-        ensures unchanged { OnErr result (self.new ≡ self.old) }
-    {
-        obey_by_definition(
-            self.alloc,
-            &mut self.store,
-            &mut self.stack,
-            word,
-            self.progress.version(),
-        )
     }
 
     // Keeps an object under a number.

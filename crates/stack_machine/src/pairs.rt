@@ -182,6 +182,6 @@ impl Store {
     {
         let types = self.type_pairs_in(alloc, lists.types)?;
         let terms = self.term_pairs_in(alloc, lists.terms)?;
-        self.prepared(&types, &terms)
+        self.proof.prepared(&types, &terms)
     }
 }

@@ -10,6 +10,10 @@ use std::alloc::Global;
 use std::collections::BTreeMap;
 use std::marker::Model;
 
+// Of lists with no more pairs for terms than this nothing is remembered: so few are read in no time, and most lists that
+// articles put are as short.
+const FEW: usize = 8;
+
 /// The two lists of a substitution: of pairs for types, and of pairs for terms.
 #[derive(Clone, Copy, PartialEq, Eq, PartialOrd, Ord)]
 pub(crate) struct Lists {
@@ -50,11 +54,15 @@ impl Remembered {
         self.puts.get(&lists)
     }
 
-    /// Remembers what is put by these lists.
-    pub(crate) fn keep(&mut self, lists: Lists, put: Put) -> Result<(), Memory>
-        ensures { (m : Stored) → AreRemembered m self.old → IsPutBy m lists put → AreRemembered m self.new }
+    /// Remembers what is put by these lists, where it is long enough.
+    pub(crate) fn keep(&mut self, lists: Lists, put: &Put) -> Result<(), Memory>
+        ensures { (m : Stored) → AreRemembered m self.old → IsPutBy m lists put.now → AreRemembered m self.new }
     {
-        self.puts.insert(lists, put)?;
+        if put.get().terms.len() <= FEW {
+            return Ok(());
+        }
+        let own = put.again()?;
+        self.puts.insert(lists, own)?;
         Ok(())
     }
 

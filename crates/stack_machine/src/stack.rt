@@ -2,10 +2,12 @@
 ghost use Rattle.std.specs.Prelude.{◌≡◌, ◌<◌, ◌≤◌, ◌∷◌, [], length, map, reverse, drop, slice_get, slice_set, OnOk, OnErr};
 ghost use Rattle.std.specs.List.{fold};
 ghost use Rattle.stack_machine.specs.Collecting.{holding, numbered};
+ghost use Rattle.stack_machine.specs.Concluding.{IsConcluded};
 
 use crate::collect::{Held, Numbers};
 use crate::object::Object;
-use common::Memory;
+use common::{Fault, Memory};
+use hol_rules::StepId;
 use std::alloc::Global;
 use std::marker::Model;
 
@@ -87,6 +89,25 @@ impl Stack {
     {
         self.drop_top(count - 1);
         self.set(0, object);
+    }
+
+    /// Puts a rule's theorem in place of so many objects on top, where the rule made a step, or answers its fault.
+    pub(crate) fn conclude(
+        &mut self,
+        count: usize,
+        step: Result<StepId, Fault>,
+    ) -> Result<(), Fault>
+        requires some { 0 < count }
+        requires there { count ≤ length self.old }
+        ensures { IsConcluded count self.old step self.new result }
+    {
+        match step {
+            Ok(id) => {
+                self.put(count, Object::Theorem(id));
+                Ok(())
+            }
+            Err(fault) => Err(fault),
+        }
     }
 
     /// Puts two objects in place of so many on top, the second on top of the first.

@@ -2,6 +2,7 @@
 ghost use Rattle.std.specs.Prelude.{◌≡◌, ◌<◌, ◌++◌, ◌∷◌, [], length, take, Ok, IfOk, IfErr, IfSome, OnOk, OnErr};
 ghost use Rattle.std.specs.List.{find};
 ghost use Rattle.std.specs.Option.{option_or};
+ghost use Rattle.article_spec.specs.Changes.{by_step};
 ghost use Rattle.article_spec.specs.Conditions.{follows};
 ghost use Rattle.article_spec.specs.Results.{Fails};
 ghost use Rattle.article_spec.specs.RuleSteps.{stated as stated_tree, axiom_step, restate_step};
@@ -139,6 +140,16 @@ impl Store {
             Some(id) => self.restate(id, hyps, concl),
             None => self.assume_next(sequent, hyps, concl),
         }
+    }
+
+    // A step's sequent again, with its hypotheses in another order or with further ones.
+    fn restate(&mut self, one: StepId, hyps: &[TermId], concl: TermId) -> Result<StepId, Fault>
+        requires one { IsStep self.old one }
+        requires hyps { AreTermsAt self.old.trees hyps.now }
+        requires concl { IsTerm self.old concl.0 }
+        ensures { Infers self.old (by_step (restate_step self.old.run.made one (terms_at self.old.trees hyps.now) (term_at self.old.trees concl.0))) self.new result }
+    {
+        self.proof.restate(one, hyps, concl)
     }
 
     // The step that meets what an article assumes.

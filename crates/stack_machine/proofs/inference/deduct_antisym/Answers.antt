@@ -1,6 +1,7 @@
+use Rattle.article_spec.specs.RuleSteps.{deduct_antisym_step}
 use Rattle.stack_machine.specs.Shown.{shown}
 use Rattle.stack_machine.proofs.Obeyed.{first_fails, next_fails, stopped}
-use Rattle.stack_machine.proofs.Inferred.{Infers-fails, Infers-obeys}
+use Rattle.stack_machine.proofs.Inferred.{Concludes-IsStore, rule-obeys, step-there}
 use Rattle.stack_machine.proofs.RuleWords.{obey-DeductAntisym}
 use Rattle.stack_machine.proofs.inference.deduct_antisym.Goals as goal
 
@@ -10,17 +11,18 @@ returns-in_err-two c = stopped _ _ c.from_residual.ensures.1 c.requires (λ s. f
 pub returns-in_err-one : goal.returns-in_err-one
 returns-in_err-one c = stopped _ _ c.from_residual-in_err-one.ensures.1 c.requires (λ s. next_fails _ _ _ _ (c.in_ok-two.ensures c.args.store.now).taken (first_fails _ _ _ (c.in_err-one.ensures c.args.store.now).refused))
 
-pub deduct_antisym-requires-clause-one : goal.deduct_antisym-requires-clause-one
-deduct_antisym-requires-clause-one c = (c.in_ok-one.ensures c.args.store.now).known c.requires
+pub deduct_antisym-step-requires-clause-one : goal.deduct_antisym-step-requires-clause-one
+deduct_antisym-step-requires-clause-one c = step-there c.store.invariant c.store.view_is ((c.in_ok-one.ensures c.args.store.now).known c.requires)
 
-pub deduct_antisym-requires-clause-two : goal.deduct_antisym-requires-clause-two
-deduct_antisym-requires-clause-two c = (c.in_ok-two.ensures c.args.store.now).known c.requires
+pub deduct_antisym-step-requires-clause-two : goal.deduct_antisym-step-requires-clause-two
+deduct_antisym-step-requires-clause-two c = step-there c.store.invariant c.store.view_is ((c.in_ok-two.ensures c.args.store.now).known c.requires)
 
-pub returns-in_err-step : goal.returns-in_err-step
-returns-in_err-step c = Infers-fails 2 (λ s. obey-DeductAntisym (shown c.args.store.now c.args.stack.now s) _ _ _ _ (c.in_ok-two.ensures c.args.store.now).taken (c.in_ok-one.ensures c.args.store.now).taken) c.requires _ _ c.from_residual-in_err-step.ensures.1 c.in_err-step.ensures
+pub conclude-requires-clause-there : goal.conclude-requires-clause-there
+conclude-requires-clause-there c = (c.in_ok-one.ensures c.args.store.now).there
 
-pub put-requires-clause-there : goal.put-requires-clause-there
-put-requires-clause-there c = (c.in_ok-one.ensures c.args.store.now).there
+pub invariant_of-store : goal.invariant_of-store
+invariant_of-store c = Concludes-IsStore c.deduct_antisym-step.ensures c.store.invariant
 
 pub returns : goal.returns
-returns c = Infers-obeys 2 (λ s. obey-DeductAntisym (shown c.args.store.now c.args.stack.now s) _ _ _ _ (c.in_ok-two.ensures c.args.store.now).taken (c.in_ok-one.ensures c.args.store.now).taken) c.requires c.in_ok-step.ensures c.put.ensures
+returns c = rule-obeys c.store.invariant c.store.view_is 2 (λ m. deduct_antisym_step m.run.made c.in_ok-one.one c.in_ok-two.two) c.deduct_antisym-step.ensures c.conclude.ensures c.requires
+    (λ s. obey-DeductAntisym (shown c.args.store.now c.args.stack.now s) _ _ _ _ (c.in_ok-two.ensures c.args.store.now).taken (c.in_ok-one.ensures c.args.store.now).taken)

@@ -1,8 +1,0 @@
-use Rattle.stack_machine.proofs.Inferred.{Concludes-IsStore, Concludes-Infers}
-use Rattle.stack_machine.proofs.store.Store.beta_conv.Goals as goal
-
-pub invariant_of-self : goal.invariant_of-self
-invariant_of-self c = Concludes-IsStore c.beta_conv.ensures c.self.invariant
-
-pub returns : goal.returns
-returns c = rw (← c.self.view_is) (Concludes-Infers c.beta_conv.ensures c.self.invariant)
