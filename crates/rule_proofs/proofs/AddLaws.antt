@@ -1,5 +1,6 @@
 -- Arguments that are added one after another.
 use Rattle.std.proofs.Common.{◌≡◌, ℕ, zero, suc, refl, sym, ap, ◌∙◌, subst, List, [], ◌∷◌, ◌++◌, map}
+use Rattle.std.proofs.lemmas.List.{append_assoc, append-nil}
 use Rattle.std.specs.Prelude.{drop}
 use Rattle.std.specs.List.{AllByRecursion}
 use Rattle.hol_spec.specs.Terms.{Variable as ATerm}
@@ -16,25 +17,17 @@ module _ {A : Type 0} (f : A → Tree) where
   pub adds-begin : (First : List Tree → Type 0) (xs : List A) → AddsUp First First xs xs
   adds-begin First xs = record { each = λ made h. (made, h, refl) }
 
-  together : (xs : List Tree) (y : Tree) (zs : List Tree) → (xs ++ y ∷ []) ++ zs ≡ xs ++ (y ∷ zs)
-  together [] y zs = refl
-  together (x ∷ xs) y zs = ap (λ l. x ∷ l) (together xs y zs)
-
-  append-none : (xs : List Tree) → xs ++ [] ≡ xs
-  append-none [] = refl
-  append-none (x ∷ xs) = ap (λ l. x ∷ l) (append-none xs)
-
   pub adds-next : (First Now Later : List Tree → Type 0) (xs rest left : List A) (x : A) → rest ≡ x ∷ left → ((made : List Tree) → Now made → Later (made ++ f x ∷ [])) → AddsUp First Now xs rest → AddsUp First Later xs left
   adds-next First Now Later xs rest left x e step h = record {
     each = λ made t.
         let w = h.each made t in
-        (w.0 ++ f x ∷ [], step w.0 w.1, together w.0 (f x) (map f left) ∙ ap (λ l. w.0 ++ map f l) (sym e) ∙ w.2);
+        (w.0 ++ f x ∷ [], step w.0 w.1, append_assoc w.0 (f x ∷ []) (map f left) ∙ ap (λ l. w.0 ++ map f l) (sym e) ∙ w.2);
   }
 
   pub adds-end : (First Now : List Tree → Type 0) (xs rest : List A) → rest ≡ [] → AddsUp First Now xs rest → (made : List Tree) → First made → Now (made ++ map f xs)
   adds-end First Now xs rest e h made t =
       let w = h.each made t in
-      subst Now (sym (append-none w.0) ∙ ap (λ l. w.0 ++ map f l) (sym e) ∙ w.2) w.1
+      subst Now (sym (append-nil w.0) ∙ ap (λ l. w.0 ++ map f l) (sym e) ∙ w.2) w.1
 
 -- what holds of each variable holds of each of the rest
 pub All-drop : (P : ATerm → Type 0) (trees : Trees) (i : ℕ) (vs : List Variable) → AllByRecursion P (variables_of trees vs) → AllByRecursion P (variables_of trees (drop i vs))

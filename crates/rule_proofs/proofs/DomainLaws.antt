@@ -1,7 +1,7 @@
 -- The domains of products, read off a table, and abstractions over them.
 use Rattle.std.proofs.Common.{◌≡◌, ℕ, zero, suc, ◌+◌, ◌<◌, ◌≤◌, refl, sym, ap, ◌∙◌, subst, arith, List, [], ◌∷◌, ◌++◌, length, Some, get_or}
 use Rattle.std.specs.Prelude.{drop}
-use Rattle.std.proofs.lemmas.List.{drop_more}
+use Rattle.std.proofs.lemmas.List.{append_assoc, append-nil, drop_all, drop_more}
 use Rattle.std.proofs.lemmas.Option.{same_Some}
 use Rattle.lp_spec.specs.Trees.{Tree, SortType, Pi, Lam}
 use Rattle.lp_spec.specs.Modules.{products, abstractions}
@@ -29,13 +29,9 @@ read_more trees domains inside i ids rest domain next dk nk h l is = go (drop i 
         let first : tree_at trees domain.0 ≡ w.0 = cc in
         let second : tree_at trees next.0 ≡ products (drop (i + 1) domains) inside = cc in
         record {
-          front = ap (λ l. l ++ drop (i + 1) domains) (trees_at-append trees ids (domain ∷ [])) ∙ together (trees_at trees ids) (tree_at trees domain.0) (drop (i + 1) domains) ∙ ap (λ y. trees_at trees ids ++ (y ∷ drop (i + 1) domains)) first ∙ ap (λ l. trees_at trees ids ++ l) (sym w.1) ∙ front;
+          front = ap (λ l. l ++ drop (i + 1) domains) (trees_at-append trees ids (domain ∷ [])) ∙ append_assoc (trees_at trees ids) (tree_at trees domain.0 ∷ []) (drop (i + 1) domains) ∙ ap (λ y. trees_at trees ids ++ (y ∷ drop (i + 1) domains)) first ∙ ap (λ l. trees_at trees ids ++ l) (sym w.1) ∙ front;
           holds = tree_at-Holds trees next.0 nk ∙ ap Some second;
         }
-      where
-        together : (xs : List Tree) (y : Tree) (zs : List Tree) → (xs ++ y ∷ []) ++ zs ≡ xs ++ (y ∷ zs)
-        together [] y zs = refl
-        together (x ∷ xs) y zs = ap (λ l. x ∷ l) (together xs y zs)
 
 -- where a domain is left, the type is a product
 pub read_stops : (trees domains : List Tree) (inside : Tree) (i : ℕ) (ids : List LpId) (rest : LpId) (n : LpNode) → AreRead trees domains inside i ids rest → i < length domains → Holds trees rest.0 (tree_of_node trees n) → ((a b : LpId) → n ≡ node.Pi a b → ⊥) → ⊥
@@ -60,17 +56,8 @@ read_stops trees domains inside i ids rest n h l is other = go n (drop i domains
 
 -- all of them
 pub read_all : (trees domains : List Tree) (inside : Tree) (i : ℕ) (ids : List LpId) (rest : LpId) → AreRead trees domains inside i ids rest → length domains ≤ i → trees_at trees ids ≡ domains
-read_all trees domains inside i ids rest h l = sym (append-none (trees_at trees ids)) ∙ ap (λ r. trees_at trees ids ++ r) (sym (nothing domains i l)) ∙ h.front
-  where
-    append-none : (l : List Tree) → l ++ [] ≡ l
-    append-none [] = refl
-    append-none (x ∷ l) = ap (λ r. x ∷ r) (append-none l)
-
-    nothing : (xs : List Tree) (i : ℕ) → length xs ≤ i → drop i xs ≡ []
-    nothing [] zero h = refl
-    nothing [] (suc i) h = refl
-    nothing (x ∷ xs) zero h = absurd (omega arith)
-    nothing (x ∷ xs) (suc i) h = nothing xs i (omega (arith, h))
+read_all trees domains inside i ids rest h l =
+    sym (append-nil (trees_at trees ids)) ∙ ap (λ r. trees_at trees ids ++ r) (sym (drop_all i domains l)) ∙ h.front
 
 -- an abstraction over one domain more
 abstractions-append : (xs : List Tree) (y t : Tree) → abstractions (xs ++ y ∷ []) t ≡ abstractions xs (Lam y t)

@@ -10,6 +10,7 @@ mod AddLaws
 mod SequentLaws
 mod ParameterLaws
 mod TheoremLaws
+mod ProvedLaws
 mod PlaceOf
 mod ConclusionLaws
 mod SetLaws

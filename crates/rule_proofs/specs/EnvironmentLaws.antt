@@ -22,21 +22,34 @@ use Rattle.rule_proofs.specs.declared.scope.Environment.{Environment}
 use Rattle.rule_proofs.specs.Environments.{Given, Stands, TellTypes, TellTerms, TellProofs, proofs_in, AreProofsKnown, filled_terms, unproved}
 
 pub TellTypes-Keeps : {old new : List Tree} → Keeps old new → (es : List (Name × LpId)) (scope : TypeScope) → TellTypes old es scope → TellTypes new es scope
-TellTypes-Keeps k es scope h = record { known = AreTypesKnown-Keeps k es h.known; each = λ n. ap (λ l. told_types l n) (types_in-Keeps k es h.known) ∙ h.each n }
+TellTypes-Keeps k es scope h = record {
+  known = AreTypesKnown-Keeps k es h.known;
+  each = λ n. ap (λ l. told_types l n) (types_in-Keeps k es h.known) ∙ h.each n;
+}
 
-pub TellTerms-Keeps : {old new : List Tree} → Keeps old new → (types : List HolType) (es : List (AVariable × LpId)) (other scope : Variable → Tree) → TellTerms types old es other scope → TellTerms types new es other scope
-TellTerms-Keeps k types es other scope h = record { known = AreTermsKnown-Keeps k types es h.known; each = λ v. ap (λ l. unwrap_or (lookup (variable_eq v) l) (other v)) (terms_in-Keeps k types es h.known) ∙ h.each v }
+pub TellTerms-Keeps : {old new : List Tree} → Keeps old new → (types : List HolType) (es : List (AVariable × LpId)) (other scope : Variable → Tree)
+    → TellTerms types old es other scope → TellTerms types new es other scope
+TellTerms-Keeps k types es other scope h = record {
+  known = AreTermsKnown-Keeps k types es h.known;
+  each = λ v. ap (λ l. unwrap_or (lookup (variable_eq v) l) (other v)) (terms_in-Keeps k types es h.known) ∙ h.each v;
+}
 
-proofs_in-Keeps : {old new : List Tree} → Keeps old new → (terms : Trees) (es : List (TermId × LpId)) → AreProofsKnown terms old es → proofs_in terms new es ≡ proofs_in terms old es
+proofs_in-Keeps : {old new : List Tree} → Keeps old new → (terms : Trees) (es : List (TermId × LpId)) → AreProofsKnown terms old es
+    → proofs_in terms new es ≡ proofs_in terms old es
 proofs_in-Keeps k terms [] h = refl
 proofs_in-Keeps k terms (e ∷ es) h = ap₂ (λ t l. (term_at terms e.0.0, t) ∷ l) (sym (tree_at-Stays k.stays e.1.0 h.1)) (proofs_in-Keeps k terms es h.2)
 
-AreProofsKnown-Keeps : {old new : List Tree} → Keeps old new → (terms : Trees) (es : List (TermId × LpId)) → AreProofsKnown terms old es → AreProofsKnown terms new es
+AreProofsKnown-Keeps : {old new : List Tree} → Keeps old new → (terms : Trees) (es : List (TermId × LpId)) → AreProofsKnown terms old es
+    → AreProofsKnown terms new es
 AreProofsKnown-Keeps k terms [] h = tt
 AreProofsKnown-Keeps k terms (e ∷ es) h = (h.0, omega (arith, k.longer, h.1), AreProofsKnown-Keeps k terms es h.2)
 
-pub TellProofs-Keeps : {old new : List Tree} → Keeps old new → (terms : Trees) (es : List (TermId × LpId)) (other scope : Term → Tree) → TellProofs terms old es other scope → TellProofs terms new es other scope
-TellProofs-Keeps k terms es other scope h = record { known = AreProofsKnown-Keeps k terms es h.known; each = λ g. ap (λ l. unwrap_or (lookup (term_eq g) l) (other g)) (proofs_in-Keeps k terms es h.known) ∙ h.each g }
+pub TellProofs-Keeps : {old new : List Tree} → Keeps old new → (terms : Trees) (es : List (TermId × LpId)) (other scope : Term → Tree)
+    → TellProofs terms old es other scope → TellProofs terms new es other scope
+TellProofs-Keeps k terms es other scope h = record {
+  known = AreProofsKnown-Keeps k terms es h.known;
+  each = λ g. ap (λ l. unwrap_or (lookup (term_eq g) l) (other g)) (proofs_in-Keeps k terms es h.known) ∙ h.each g;
+}
 
 -- so it stands for the same
 pub Stands-Grows : {m n : Module} → Grows m n → (given : Given) (terms : Trees) (env : Environment) → Stands given m terms env → Stands given n terms env

@@ -29,6 +29,7 @@ module _ (terms : Trees) (one : IsDistinct terms.terms) where
       (λ e. ap (λ (i : TermId). i.0) (term_laws.term_in-same one p q k l e))
 
   -- whether a number is among others, and whether its term is among theirs
-  pub is_in-terms : (id : TermId) → id.0 < length terms.terms → (ids : List TermId) → AreKnown terms ids → is_in same_id id ids ≡ is_in term_eq (formula id) (terms_at terms ids)
+  pub is_in-terms : (id : TermId) → id.0 < length terms.terms → (ids : List TermId) → AreKnown terms ids
+      → is_in same_id id ids ≡ is_in term_eq (formula id) (terms_at terms ids)
   is_in-terms id l [] h = refl
   is_in-terms id l (i ∷ is) h = λ w. same-formula id i l h.0 w || is_in-terms id l is h.1 w

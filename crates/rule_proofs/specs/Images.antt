@@ -45,5 +45,6 @@ HasOwnVariable trees put own v =
 -- a step is what a fitting substitution makes of another
 pub record IsSubstituted (k : Kept) (put : Substitution) (id one : ℕ) : Type 0 where
   pub fitting : AreFitting (term_pairs k.trees put)
-  pub hypotheses : (sequent_at k.made id).hypotheses ≡ distinct term_eq (map (sub (type_pairs k.trees put) (term_pairs k.trees put)) (sequent_at k.made one).hypotheses)
+  pub hypotheses : (sequent_at k.made id).hypotheses
+      ≡ distinct term_eq (map (sub (type_pairs k.trees put) (term_pairs k.trees put)) (sequent_at k.made one).hypotheses)
   pub conclusion : (sequent_at k.made id).conclusion ≡ sub (type_pairs k.trees put) (term_pairs k.trees put) (sequent_at k.made one).conclusion

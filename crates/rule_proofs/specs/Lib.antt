@@ -7,7 +7,14 @@ pub mod Numbers
 pub mod Parameters
 pub mod Keeping
 pub mod Rescoped
+pub mod Binding
+pub mod Abstractions
+pub mod Grounds
+pub mod RuleRows
+pub mod ProvedHypotheses
+pub mod Adding
 pub mod Images
+pub mod ImageRows
 pub mod Matching
 pub mod Constants
 pub mod Parts

@@ -22,7 +22,8 @@ lift_own : (k : ℕ) → lift k (Var 0) ≡ Var k
 lift_own k = grind arith
 
 module _ {A : Type 0} (same : A → A → Bool) where
-  lift-under_all : (j : ℕ) (xs : List A) (f : A → Tree) (y : A) → lift j (under_all same xs f y) ≡ placed same (j + length xs) xs (λ z. lift (j + length xs) (f z)) y
+  lift-under_all : (j : ℕ) (xs : List A) (f : A → Tree) (y : A)
+      → lift j (under_all same xs f y) ≡ placed same (j + length xs) xs (λ z. lift (j + length xs) (f z)) y
   lift-under_all j [] f y = ap (λ k. lift k (f y)) (let e : j ≡ j + 0 = omega arith in e)
   lift-under_all j (x ∷ xs) f y =
       lift-under_all j xs (λ z. cond (same z x) (Var 0) (lift 1 (f z))) y
@@ -54,8 +55,10 @@ under_terms-proofs [] scope h = sym (lift_zero (scope.proofs h))
 under_terms-proofs (v ∷ vs) scope h = under_terms-proofs vs (under_term v scope) h ∙ suc_lift (length vs) (scope.proofs h)
 
 -- the filler of a type under binders
-filler-lifts : (symbols : Symbols) (k : ℕ) (scope : TypeScope) (a : HolType) → lift k (filler (type_tree symbols scope a)) ≡ filler (type_tree symbols (λ n. lift k (scope n)) a)
-filler-lifts symbols zero scope a = lift_zero (filler (type_tree symbols scope a)) ∙ ap (λ w. filler (type_tree symbols w a)) (fun_ext (λ n. sym (lift_zero (scope n))))
+filler-lifts : (symbols : Symbols) (k : ℕ) (scope : TypeScope) (a : HolType)
+    → lift k (filler (type_tree symbols scope a)) ≡ filler (type_tree symbols (λ n. lift k (scope n)) a)
+filler-lifts symbols zero scope a =
+    lift_zero (filler (type_tree symbols scope a)) ∙ ap (λ w. filler (type_tree symbols w a)) (fun_ext (λ n. sym (lift_zero (scope n))))
 filler-lifts symbols (suc k) scope a =
     sym (suc_lift k (filler (type_tree symbols scope a)))
     ∙ ap (lift k) (filler-lift (type_tree symbols scope a) ∙ ap filler (type_tree-lift symbols scope a))
@@ -77,28 +80,35 @@ module _ (symbols : Symbols) (s : Sequent) (inside : ℕ) where
 
   pub types-placed : (n : Name) → lift inside ((scope_of symbols s).types n) ≡ placed_types n
   types-placed n =
-      ap (lift inside) (under_proofs-types s.hypotheses (scope_of_terms symbols s) n ∙ ap (lift (length s.hypotheses)) (under_terms-types variables (scope_of_types symbols s) n))
+      ap (lift inside) (under_proofs-types s.hypotheses (scope_of_terms symbols s) n
+      ∙ ap (lift (length s.hypotheses)) (under_terms-types variables (scope_of_types symbols s) n))
       ∙ lift-lift inside (length s.hypotheses) (lift (length variables) (under_types names unfilled n))
       ∙ lift-lift (inside + length s.hypotheses) (length variables) (under_types names unfilled n)
       ∙ ap (lift below_terms) (under_types-all names unfilled n)
       ∙ lift-under_all name_eq below_terms names unfilled n
 
-  pub terms-placed : (v : Variable) → lift inside ((scope_of symbols s).terms v) ≡ placed variable_eq (inside + length s.hypotheses + length variables) variables (λ w. filler (type_tree symbols (λ n. lift inside ((scope_of symbols s).types n)) w.1)) v
+  pub terms-placed : (v : Variable)
+      → lift inside ((scope_of symbols s).terms v)
+      ≡ placed variable_eq (inside + length s.hypotheses + length variables) variables
+      (λ w. filler (type_tree symbols (λ n. lift inside ((scope_of symbols s).types n)) w.1)) v
   terms-placed v =
       ap (lift inside) (under_proofs-terms s.hypotheses (scope_of_terms symbols s) v)
       ∙ lift-lift inside (length s.hypotheses) ((scope_of_terms symbols s).terms v)
       ∙ ap (lift (inside + length s.hypotheses)) (under_terms-all variables (scope_of_types symbols s) v)
       ∙ lift-under_all variable_eq (inside + length s.hypotheses) variables (scope_of_types symbols s).terms v
-      ∙ ap (λ f. placed variable_eq below_terms variables f v) (fun_ext (λ w. filler-lifts symbols below_terms (under_types names unfilled) w.1 ∙ ap (λ g. filler (type_tree symbols g w.1)) (fun_ext outside)))
+      ∙ ap (λ f. placed variable_eq below_terms variables f v) (fun_ext (λ w. filler-lifts symbols below_terms (under_types names unfilled) w.1
+      ∙ ap (λ g. filler (type_tree symbols g w.1)) (fun_ext outside)))
     where
       outside : (n : Name) → lift below_terms (under_types names unfilled n) ≡ lift inside ((scope_of symbols s).types n)
       outside n =
           sym (lift-lift (inside + length s.hypotheses) (length variables) (under_types names unfilled n))
           ∙ sym (lift-lift inside (length s.hypotheses) (lift (length variables) (under_types names unfilled n)))
-          ∙ ap (lift inside) (sym (under_proofs-types s.hypotheses (scope_of_terms symbols s) n ∙ ap (lift (length s.hypotheses)) (under_terms-types variables (scope_of_types symbols s) n)))
+          ∙ ap (lift inside) (sym (under_proofs-types s.hypotheses (scope_of_terms symbols s) n
+          ∙ ap (lift (length s.hypotheses)) (under_terms-types variables (scope_of_types symbols s) n)))
 
   pub proofs-placed : (h : Term) → lift inside ((scope_of symbols s).proofs h) ≡ placed term_eq (inside + length s.hypotheses) s.hypotheses (λ g. Sym 0) h
   proofs-placed h =
       ap (lift inside) (under_proofs-all s.hypotheses (scope_of_terms symbols s) h)
       ∙ lift-under_all term_eq inside s.hypotheses (scope_of_terms symbols s).proofs h
-      ∙ ap (λ f. placed term_eq (inside + length s.hypotheses) s.hypotheses f h) (fun_ext (λ g. ap (lift (inside + length s.hypotheses)) (under_terms-proofs variables (scope_of_types symbols s) g)))
+      ∙ ap (λ f. placed term_eq (inside + length s.hypotheses) s.hypotheses f h)
+      (fun_ext (λ g. ap (lift (inside + length s.hypotheses)) (under_terms-proofs variables (scope_of_types symbols s) g)))

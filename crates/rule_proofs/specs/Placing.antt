@@ -44,5 +44,7 @@ pub record IsPlaced (given : Given) (m : Module) (trees : Trees) (names : List N
   pub variables_known : HaveTypes trees variables
   pub hyps_known : AreKnown trees hyps
   pub types : (n : Name) → placed name_eq (inside + length hyps + length variables + length names) names (λ m. bools) n ≡ given.scope.types n
-  pub terms : (v : Variable) → placed variable_eq (inside + length hyps + length variables) (variables_of trees variables) (filled_terms given.symbols given.scope.types) v ≡ given.scope.terms v
+  pub terms : (v : Variable)
+      → placed variable_eq (inside + length hyps + length variables) (variables_of trees variables) (filled_terms given.symbols given.scope.types) v
+      ≡ given.scope.terms v
   pub proofs : (h : Term) → placed term_eq (inside + length hyps) (terms_at trees hyps) unproved h ≡ given.scope.proofs h

@@ -10,7 +10,8 @@ use Rattle.proof_laws.specs.ProofGrowth.{All-get, proof-sequents}
 pub at_step : (m : List Made) (i : ℕ) → i < length (steps_of m) → slice_get (sequents_of m) i ≡ Some (sequent_at m i)
 at_step m i l = from (steps_of m) i l
   where
-    from : (xs : List Step) (i : ℕ) → i < length xs → slice_get (map (λ (y : Step). y.sequent) xs) i ≡ Some (slice_index_or (map (λ (y : Step). y.sequent) xs) i (record { hypotheses = []; conclusion = Term.bound 0 }))
+    from : (xs : List Step) (i : ℕ) → i < length xs → slice_get (map (λ (y : Step). y.sequent) xs) i
+        ≡ Some (slice_index_or (map (λ (y : Step). y.sequent) xs) i (record { hypotheses = []; conclusion = Term.bound 0 }))
     from [] i l = absurd (omega arith)
     from (x ∷ xs) zero l = refl
     from (x ∷ xs) (suc i) l = from xs i (omega arith)

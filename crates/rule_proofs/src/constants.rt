@@ -1,32 +1,24 @@
 //! A premise whose hypotheses define constants: these stand for its free variables, and reflexivity proves its hypotheses.
-ghost use Rattle.std.specs.Prelude.{◌≡◌, ◌<◌, ◌++◌, ◌∷◌, List, [], length, map, option_map, IfOk, IsTrue, OnOk};
+ghost use Rattle.std.specs.Prelude.{◌≡◌, ◌<◌, [], length, option_map, IsTrue};
 ghost use Rattle.std.specs.List.{AllByRecursion};
 ghost use Rattle.std.specs.Map.{lookup};
-ghost use Rattle.hol_spec.specs.DefinitionLists.{constants_put, is_definition_list};
+ghost use Rattle.hol_spec.specs.DefinitionLists.{is_definition_list};
 ghost use Rattle.hol_spec.specs.Proofs.{sequent_at};
-ghost use Rattle.hol_spec.specs.Terms.{Variable as ATerm};
-ghost use Rattle.hol_term.specs.Subterms.{HaveTypes, variables_of};
-ghost use Rattle.hol_term.specs.Tables.{term_at, terms_at, type_at, AreKnown};
+ghost use Rattle.hol_term.specs.Subterms.{HaveTypes};
+ghost use Rattle.hol_term.specs.Tables.{term_at, terms_at, AreKnown};
 ghost use Rattle.hol_rules.specs.Kept.{step_count};
 ghost use Rattle.hol_defs.specs.Lists.{pairs_at as pairs_view, ArePairsKnown as AreConstantPairsKnown};
-ghost use Rattle.hol_rules.specs.Views.{variable_view};
-ghost use Rattle.lp_spec.specs.Trees.{Tree};
-ghost use Rattle.lp_term.specs.Tables.{Holds};
-ghost use Rattle.module_spec.specs.ProofTrees.{constants_scope, premise_tree, self_proof};
 ghost use Rattle.sequent.specs.Params.{same_variable};
-ghost use Rattle.translate_term.specs.Told.{TellsTerm, TellsType};
 ghost use Rattle.translate_term.specs.Walks.{Grows};
-ghost use Rattle.rule_proofs.specs.Constants.{by_variable, scope_with, IsEquatedFormula, IsEquationFormula, TellsConstants};
-ghost use Rattle.rule_proofs.specs.Environments.{Given, Ready, Stands};
+ghost use Rattle.rule_proofs.specs.Constants.{by_variable, AddsConstant, AddsConstants, AddsSelfProof, AddsSelfProofs, IsEquatedFormula, IsEquationFormula, MakesList, MakesSelfProof, TellsConstantsWhere, TellsFormula, TellsFormulas, TellsList};
+ghost use Rattle.rule_proofs.specs.Grounds.{TellsTypeAt, TellsVariables, TellsWhere};
 ghost use Rattle.rule_proofs.specs.Parameters.{AreParams};
-ghost use Rattle.rule_proofs.specs.Told.{TellsStep};
 
+use crate::ground::Ground;
 use crate::premise::{Premise, params_of};
 use crate::rows::Equated;
-use crate::scope::Environment;
 use common::Memory;
 use hol_name::Name;
-use hol_rules::Proof;
 use hol_term::{TermId, TermTable, Variable};
 use holide_sig::symbols::REFL;
 use holide_sig::{Module, call};
@@ -37,26 +29,20 @@ use translate_term::constant;
 /// From a theorem whose hypotheses define the variables of these pairs: what it says of the constants that are put for them.
 pub fn constant_list(
     target: &mut Module,
-    proof: &Proof,
-    env: &Environment,
+    ground: Ground<'_>,
     pairs: &[(Name, Variable)],
     one: Premise,
 ) -> Result<LpId, Memory>
-    requires one { one.id < step_count proof.now }
-    requires pairs { AreConstantPairsKnown proof.now.trees pairs.now }
-    requires list { IsTrue (is_definition_list (pairs_view proof.now.trees pairs.now) (sequent_at proof.now.made one.id)) }
-    requires told { (given : Given) × Stands given target.old proof.now.trees env.now × TellsConstants given (pairs_view proof.now.trees pairs.now)
-        × TellsStep given proof.now one.id }
-    ensures made { IfOk result (λ r. (given : Given) → Stands given target.old proof.now.trees env.now
-        → TellsConstants given (pairs_view proof.now.trees pairs.now) → TellsStep given proof.now one.id
-        → Holds target.new.table r.0
-        (premise_tree (constants_scope given.symbols given.scope (constants_put (pairs_view proof.now.trees pairs.now)))
-        (one.symbol, sequent_at proof.now.made one.id))) }
+    requires one { one.id < step_count ground.proof.now }
+    requires pairs { AreConstantPairsKnown ground.proof.now.trees pairs.now }
+    requires list { IsTrue (is_definition_list (pairs_view ground.proof.now.trees pairs.now) (sequent_at ground.proof.now.made one.id)) }
+    requires told { TellsList target.old ground pairs.now one.id }
+    ensures made { MakesList target.old target.new ground.entry pairs.now one result }
     ensures grows { Grows target.old target.new }
 {
-    let params = params_of(env.alloc, proof, one.id)?;
-    let mut args = Vec::new(env.alloc);
-    let made = constant_list_over(target, proof, env, pairs, one, &params, &mut args);
+    let params = params_of(ground.env.alloc, ground.proof, one.id)?;
+    let mut args = Vec::new(ground.env.alloc);
+    let made = constant_list_over(target, ground, pairs, one, &params, &mut args);
     drop(args);
     drop(params);
     made
@@ -65,155 +51,134 @@ pub fn constant_list(
 /// What such a theorem says of the constants, where its parameters are known. The arguments are added to none.
 fn constant_list_over(
     target: &mut Module,
-    proof: &Proof,
-    env: &Environment,
+    ground: Ground<'_>,
     pairs: &[(Name, Variable)],
     one: Premise,
     params: &Params,
     args: &mut Vec<LpId>,
 ) -> Result<LpId, Memory>
-    requires one { one.id < step_count proof.now }
-    requires pairs { AreConstantPairsKnown proof.now.trees pairs.now }
-    requires list { IsTrue (is_definition_list (pairs_view proof.now.trees pairs.now) (sequent_at proof.now.made one.id)) }
-    requires params { AreParams proof.now one.id params.now }
+    requires one { one.id < step_count ground.proof.now }
+    requires pairs { AreConstantPairsKnown ground.proof.now.trees pairs.now }
+    requires list { IsTrue (is_definition_list (pairs_view ground.proof.now.trees pairs.now) (sequent_at ground.proof.now.made one.id)) }
+    requires params { AreParams ground.proof.now one.id params.now }
     requires none { args.old.items ≡ [] }
-    requires told { (given : Given) × Stands given target.old proof.now.trees env.now × TellsConstants given (pairs_view proof.now.trees pairs.now)
-        × TellsStep given proof.now one.id }
-    ensures made { IfOk result (λ r. (given : Given) → Stands given target.old proof.now.trees env.now
-        → TellsConstants given (pairs_view proof.now.trees pairs.now) → TellsStep given proof.now one.id
-        → Holds target.new.table r.0
-        (premise_tree (constants_scope given.symbols given.scope (constants_put (pairs_view proof.now.trees pairs.now)))
-        (one.symbol, sequent_at proof.now.made one.id))) }
+    requires told { TellsList target.old ground pairs.now one.id }
+    ensures made { MakesList target.old target.new ground.entry pairs.now one result }
     ensures grows { Grows target.old target.new }
 {
-    proof.is_proof();
-    let sequent = proof.sequent(one.id);
-    env.add_type_variables(target, params.type_vars.names(), args)?;
-    env.add_constants(target, proof, pairs, params.free_vars.variables(), args)?;
-    env.add_self_proofs(target, proof, sequent.hyps.ids(), args)?;
+    let variables = params.free_vars.variables();
+    ground.proof.is_proof();
+    let sequent = ground.proof.sequent(one.id);
+    ground
+        .env
+        .add_type_variables(target, params.type_vars.names(), args)?;
+    ground.add_constants(target, pairs, variables, args)?;
+    ground.add_self_proofs(target, sequent.hyps.ids(), args)?;
     call(&mut target.table, one.symbol, args)
 }
 
-impl Environment {
+impl Ground<'_> {
     // Adds what stands for each of some free variables where constants are put.
     fn add_constants(
-        &self,
+        self,
         target: &mut Module,
-        proof: &Proof,
         pairs: &[(Name, Variable)],
         variables: &[Variable],
         args: &mut Vec<LpId>,
     ) -> Result<(), Memory>
-        requires pairs { AreConstantPairsKnown proof.now.trees pairs.now }
-        requires variables { HaveTypes proof.now.trees variables.now }
-        requires told { (given : Given) × Stands given target.old proof.now.trees self.now × TellsConstants given (pairs_view proof.now.trees pairs.now)
-            × AllByRecursion (λ (v : ATerm). TellsType given.declarations given.symbols v.1) (variables_of proof.now.trees variables.now) }
-        ensures ready { OnOk result ((given : Given) (made : List Tree) → Ready given target.old proof.now.trees self.now args.old.items made
-            → TellsConstants given (pairs_view proof.now.trees pairs.now)
-            → AllByRecursion (λ (v : ATerm). TellsType given.declarations given.symbols v.1) (variables_of proof.now.trees variables.now)
-            → Ready given target.new proof.now.trees self.now args.new.items
-            (made ++ map (scope_with given proof.now.trees pairs.now).terms (variables_of proof.now.trees variables.now))) }
+        requires pairs { AreConstantPairsKnown self.proof.now.trees pairs.now }
+        requires variables { HaveTypes self.proof.now.trees variables.now }
+        requires told { TellsConstantsWhere target.old self.proof.now self.env.now pairs.now (TellsVariables self.proof.now variables.now) }
+        ensures ready { AddsConstants target.old target.new self.entry args.old.items args.new.items pairs.now variables.now result }
         ensures grows { Grows target.old target.new }
     {
         for variable in variables {
-            self.add_constant(target, proof, pairs, variable, args)?;
+            self.add_constant(target, pairs, variable, args)?;
         }
         Ok(())
     }
 
     // Adds the constant that is put for a free variable, or else what stands for it.
     fn add_constant(
-        &self,
+        self,
         target: &mut Module,
-        proof: &Proof,
         pairs: &[(Name, Variable)],
         variable: &Variable,
         args: &mut Vec<LpId>,
     ) -> Result<(), Memory>
-        requires pairs { AreConstantPairsKnown proof.now.trees pairs.now }
-        requires variable { variable.now.ty.0 < length proof.now.trees.types }
-        requires told { (given : Given) × Stands given target.old proof.now.trees self.now × TellsConstants given (pairs_view proof.now.trees pairs.now)
-            × TellsType given.declarations given.symbols (type_at proof.now.trees variable.now.ty.0) }
-        ensures ready { OnOk result ((given : Given) (made : List Tree) → Ready given target.old proof.now.trees self.now args.old.items made
-            → TellsConstants given (pairs_view proof.now.trees pairs.now)
-            → TellsType given.declarations given.symbols (type_at proof.now.trees variable.now.ty.0)
-            → Ready given target.new proof.now.trees self.now args.new.items
-            (made ++ (scope_with given proof.now.trees pairs.now).terms (variable_view proof.now.trees variable.now) ∷ [])) }
+        requires pairs { AreConstantPairsKnown self.proof.now.trees pairs.now }
+        requires variable { variable.now.ty.0 < length self.proof.now.trees.types }
+        requires told { TellsConstantsWhere target.old self.proof.now self.env.now pairs.now (TellsTypeAt self.proof.now variable.now.ty) }
+        ensures ready { AddsConstant target.old target.new self.entry args.old.items args.new.items pairs.now variable.now result }
         ensures grows { Grows target.old target.new }
     {
         match put_constant(pairs, variable) {
             Some(name) => {
-                let types = proof.terms().types();
-                let tree = constant(self.alloc, target, types, &self.scope, name, variable.ty)?;
+                let types = self.proof.terms().types();
+                let tree = constant(
+                    self.env.alloc,
+                    target,
+                    types,
+                    &self.env.scope,
+                    name,
+                    variable.ty,
+                )?;
                 args.push(tree)?;
                 Ok(())
             }
-            None => self.add_free_variable(target, proof, variable, args),
+            None => self.add_free_variable(target, variable, args),
         }
     }
 
     // Adds what proves each of some equations: reflexivity.
     fn add_self_proofs(
-        &self,
+        self,
         target: &mut Module,
-        proof: &Proof,
         hyps: &[TermId],
         args: &mut Vec<LpId>,
     ) -> Result<(), Memory>
-        requires hyps { AreKnown proof.now.trees hyps.now }
-        requires equations { AllByRecursion IsEquationFormula (terms_at proof.now.trees hyps.now) }
-        requires told { (given : Given) × Stands given target.old proof.now.trees self.now
-            × AllByRecursion (TellsTerm given.declarations given.symbols) (terms_at proof.now.trees hyps.now) }
-        ensures ready { OnOk result ((given : Given) (made : List Tree) → Ready given target.old proof.now.trees self.now args.old.items made
-            → AllByRecursion (TellsTerm given.declarations given.symbols) (terms_at proof.now.trees hyps.now)
-            → Ready given target.new proof.now.trees self.now args.new.items
-            (made ++ map (self_proof given.symbols given.scope) (terms_at proof.now.trees hyps.now))) }
+        requires hyps { AreKnown self.proof.now.trees hyps.now }
+        requires equations { AllByRecursion IsEquationFormula (terms_at self.proof.now.trees hyps.now) }
+        requires told { TellsWhere target.old self.proof.now self.env.now (TellsFormulas self.proof.now hyps.now) }
+        ensures ready { AddsSelfProofs target.old target.new self.entry args.old.items args.new.items hyps.now result }
         ensures grows { Grows target.old target.new }
     {
         for hyp in hyps {
-            self.add_self_proof(target, proof, *hyp, args)?;
+            self.add_self_proof(target, *hyp, args)?;
         }
         Ok(())
     }
 
     // Adds what proves an equation.
     fn add_self_proof(
-        &self,
+        self,
         target: &mut Module,
-        proof: &Proof,
         hyp: TermId,
         args: &mut Vec<LpId>,
     ) -> Result<(), Memory>
-        requires hyp { hyp.0 < length proof.now.trees.terms }
-        requires equation { IsEquationFormula (term_at proof.now.trees hyp.0) }
-        requires told { (given : Given) × Stands given target.old proof.now.trees self.now
-            × TellsTerm given.declarations given.symbols (term_at proof.now.trees hyp.0) }
-        ensures ready { OnOk result ((given : Given) (made : List Tree) → Ready given target.old proof.now.trees self.now args.old.items made
-            → TellsTerm given.declarations given.symbols (term_at proof.now.trees hyp.0)
-            → Ready given target.new proof.now.trees self.now args.new.items
-            (made ++ self_proof given.symbols given.scope (term_at proof.now.trees hyp.0) ∷ [])) }
+        requires hyp { hyp.0 < length self.proof.now.trees.terms }
+        requires equation { IsEquationFormula (term_at self.proof.now.trees hyp.0) }
+        requires told { TellsWhere target.old self.proof.now self.env.now (TellsFormula self.proof.now hyp) }
+        ensures ready { AddsSelfProof target.old target.new self.entry args.old.items args.new.items hyp result }
         ensures grows { Grows target.old target.new }
     {
-        let tree = self.self_proof(target, proof, hyp)?;
+        let tree = self.self_proof(target, hyp)?;
         args.push(tree)?;
         Ok(())
     }
 
     // Reflexivity of the right side of an equation.
-    fn self_proof(&self, target: &mut Module, proof: &Proof, hyp: TermId) -> Result<LpId, Memory>
-        requires hyp { hyp.0 < length proof.now.trees.terms }
-        requires equation { IsEquationFormula (term_at proof.now.trees hyp.0) }
-        requires told { (given : Given) × Stands given target.old proof.now.trees self.now
-            × TellsTerm given.declarations given.symbols (term_at proof.now.trees hyp.0) }
-        ensures made { IfOk result (λ r. (given : Given) → Stands given target.old proof.now.trees self.now
-            → TellsTerm given.declarations given.symbols (term_at proof.now.trees hyp.0)
-            → Holds target.new.table r.0 (self_proof given.symbols given.scope (term_at proof.now.trees hyp.0))) }
+    fn self_proof(self, target: &mut Module, hyp: TermId) -> Result<LpId, Memory>
+        requires hyp { hyp.0 < length self.proof.now.trees.terms }
+        requires equation { IsEquationFormula (term_at self.proof.now.trees hyp.0) }
+        requires told { TellsWhere target.old self.proof.now self.env.now (TellsFormula self.proof.now hyp) }
+        ensures made { MakesSelfProof target.old target.new self.entry hyp result }
         ensures grows { Grows target.old target.new }
     {
-        let own = equated(proof.terms(), hyp);
-        let mut args = Vec::new(self.alloc);
-        self.add_type(target, proof, own.ty, &mut args)?;
-        self.add_term(target, proof, own.right, &mut args)?;
+        let own = equated(self.proof.terms(), hyp);
+        let mut args = Vec::new(self.env.alloc);
+        self.add_type(target, own.ty, &mut args)?;
+        self.add_term(target, own.right, &mut args)?;
         call(&mut target.table, REFL, &args)
     }
 }

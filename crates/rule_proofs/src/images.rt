@@ -1,67 +1,61 @@
 //! A premise under a substitution: the images stand for its type variables and its free variables, and what proves the images for its
 //! hypotheses.
-ghost use Rattle.std.specs.Prelude.{◌≡◌, ◌<◌, ◌++◌, ◌∷◌, List, [], length, map, IfOk, OnOk};
+ghost use Rattle.std.specs.Prelude.{◌≡◌, ◌<◌, ◌∷◌, [], length, IfOk};
 ghost use Rattle.std.specs.List.{AllByRecursion};
 ghost use Rattle.hol_spec.specs.Lists.{IsIn};
-ghost use Rattle.hol_spec.specs.Names.{Name as AName};
-ghost use Rattle.hol_spec.specs.Proofs.{sequent_at};
-ghost use Rattle.hol_spec.specs.Substitution.{image};
-ghost use Rattle.hol_spec.specs.Terms.{Term, Variable as ATerm};
-ghost use Rattle.hol_spec.specs.TermSubstitution.{sub};
 ghost use Rattle.hol_term.specs.Substitutions.{AreKnownPairs};
 ghost use Rattle.hol_term.specs.Subterms.{HaveTypes, variables_of};
 ghost use Rattle.hol_term.specs.Tables.{term_at, terms_at, AreKnown};
 ghost use Rattle.hol_rules.specs.Kept.{step_count};
 ghost use Rattle.hol_rules.specs.Views.{variable_view};
-ghost use Rattle.lp_spec.specs.Trees.{Tree};
-ghost use Rattle.lp_term.specs.Tables.{Holds};
-ghost use Rattle.module_spec.specs.ProofTrees.{subst_tree};
-ghost use Rattle.module_spec.specs.Scopes.{images, type_tree};
-ghost use Rattle.translate_term.specs.Told.{TellsType};
 ghost use Rattle.translate_term.specs.Walks.{Grows};
-ghost use Rattle.rule_proofs.specs.Environments.{Given, IsTold, Ready, Stands};
-ghost use Rattle.rule_proofs.specs.Images.{made_term, retyped, term_pairs, type_pairs, variable_image, HasOwnVariable, IsSubstituted};
+ghost use Rattle.rule_proofs.specs.Grounds.{MakesOn, TellsOne, TellsWhere};
+ghost use Rattle.rule_proofs.specs.ImageRows.{subst_row, AddsHypothesisImages, AddsTermImage, AddsTermImages, AddsTypeImage, AddsTypeImages, HaveOwnHypotheses, TellsTermImage, TellsTermImages, TellsTypeImage, TellsTypeImages};
+ghost use Rattle.rule_proofs.specs.Images.{made_term, retyped, HasOwnVariable, IsSubstituted};
 ghost use Rattle.rule_proofs.specs.Keeping.{AreKept};
 ghost use Rattle.rule_proofs.specs.Parameters.{AreParams};
-ghost use Rattle.rule_proofs.specs.Told.{TellsStep};
 
-use crate::kept::KeptParams;
+use crate::ground::Ground;
 use crate::matching::{becomes, makes_term, put_term, put_type};
 use crate::premise::Premise;
-use crate::scope::Environment;
 use common::Memory;
 use hol_name::Name;
-use hol_rules::{Proof, StepId, Substitution};
+use hol_rules::{StepId, Substitution};
 use hol_term::{TermId, TermTable, Variable};
 use holide_sig::{Module, call};
 use lp_term::LpId;
 use sequent::Params;
 use std::alloc::Global;
 
+/// A theorem that a substitution makes another step of, with the parameters of both.
+#[derive(Clone, Copy)]
+struct Becoming<'a> {
+    id: StepId,
+    own: &'a Params,
+    put: &'a Substitution,
+    one: Premise,
+    params: &'a Params,
+}
+
 /// From a theorem: what a substitution makes of it, which is the step itself.
 pub fn subst(
     target: &mut Module,
-    proof: &Proof,
-    env: &Environment,
-    kept: &KeptParams,
+    ground: Ground<'_>,
     id: StepId,
     put: &Substitution,
     one: Premise,
 ) -> Result<LpId, Memory>
-    requires kept { AreKept proof.now kept.now }
-    requires id { id < step_count proof.now }
-    requires one { one.id < step_count proof.now }
-    requires put { AreKnownPairs proof.now.trees put.now.types.items put.now.terms.items }
-    requires substituted { IsSubstituted proof.now put.now id one.id }
-    requires told { (given : Given) × Stands given target.old proof.now.trees env.now × TellsStep given proof.now id }
-    ensures made { IfOk result (λ r. (given : Given) → Stands given target.old proof.now.trees env.now → TellsStep given proof.now id
-        → Holds target.new.table r.0
-        (subst_tree given.symbols given.scope (type_pairs proof.now.trees put.now) (term_pairs proof.now.trees put.now)
-        (one.symbol, sequent_at proof.now.made one.id))) }
+    requires kept { AreKept ground.proof.now ground.kept.now }
+    requires id { id < step_count ground.proof.now }
+    requires one { one.id < step_count ground.proof.now }
+    requires put { AreKnownPairs ground.proof.now.trees put.now.types.items put.now.terms.items }
+    requires substituted { IsSubstituted ground.proof.now put.now id one.id }
+    requires told { TellsOne target.old ground.proof.now ground.env.now id }
+    ensures made { MakesOn target.old target.new ground.entry (id ∷ []) result (subst_row ground.entry.proof.now put.now one) }
     ensures grows { Grows target.old target.new }
 {
-    let lent = kept.lend(proof, one.id)?;
-    let made = subst_over(target, proof, env, kept, id, put, one, lent.params());
+    let lent = ground.kept.lend(ground.proof, one.id)?;
+    let made = subst_over(target, ground, id, put, one, lent.params());
     drop(lent);
     made
 }
@@ -69,221 +63,179 @@ pub fn subst(
 /// What a substitution makes of a theorem whose parameters are known.
 fn subst_over(
     target: &mut Module,
-    proof: &Proof,
-    env: &Environment,
-    kept: &KeptParams,
+    ground: Ground<'_>,
     id: StepId,
     put: &Substitution,
     one: Premise,
     params: &Params,
 ) -> Result<LpId, Memory>
-    requires kept { AreKept proof.now kept.now }
-    requires id { id < step_count proof.now }
-    requires one { one.id < step_count proof.now }
-    requires put { AreKnownPairs proof.now.trees put.now.types.items put.now.terms.items }
-    requires substituted { IsSubstituted proof.now put.now id one.id }
-    requires params { AreParams proof.now one.id params.now }
-    requires told { (given : Given) × Stands given target.old proof.now.trees env.now × TellsStep given proof.now id }
-    ensures made { IfOk result (λ r. (given : Given) → Stands given target.old proof.now.trees env.now → TellsStep given proof.now id
-        → Holds target.new.table r.0
-        (subst_tree given.symbols given.scope (type_pairs proof.now.trees put.now) (term_pairs proof.now.trees put.now)
-        (one.symbol, sequent_at proof.now.made one.id))) }
+    requires kept { AreKept ground.proof.now ground.kept.now }
+    requires id { id < step_count ground.proof.now }
+    requires one { one.id < step_count ground.proof.now }
+    requires put { AreKnownPairs ground.proof.now.trees put.now.types.items put.now.terms.items }
+    requires substituted { IsSubstituted ground.proof.now put.now id one.id }
+    requires params { AreParams ground.proof.now one.id params.now }
+    requires told { TellsOne target.old ground.proof.now ground.env.now id }
+    ensures made { MakesOn target.old target.new ground.entry (id ∷ []) result (subst_row ground.entry.proof.now put.now one) }
     ensures grows { Grows target.old target.new }
 {
-    let own = kept.lend(proof, id)?;
-    let mut args = Vec::new(env.alloc);
-    let made = subst_onto(
-        target,
-        proof,
-        env,
+    let lent = ground.kept.lend(ground.proof, id)?;
+    let mut args = Vec::new(ground.env.alloc);
+    let step = Becoming {
         id,
+        own: lent.params(),
         put,
         one,
         params,
-        own.params(),
-        &mut args,
-    );
+    };
+    let made = subst_onto(target, ground, step, &mut args);
     drop(args);
-    drop(own);
+    drop(lent);
     made
 }
 
 /// What it makes of the theorem where the step's own parameters are known too. The arguments are added to none.
 fn subst_onto(
     target: &mut Module,
-    proof: &Proof,
-    env: &Environment,
-    id: StepId,
-    put: &Substitution,
-    one: Premise,
-    params: &Params,
-    own_params: &Params,
+    ground: Ground<'_>,
+    step: Becoming<'_>,
     args: &mut Vec<LpId>,
 ) -> Result<LpId, Memory>
-    requires id { id < step_count proof.now }
-    requires one { one.id < step_count proof.now }
-    requires put { AreKnownPairs proof.now.trees put.now.types.items put.now.terms.items }
-    requires substituted { IsSubstituted proof.now put.now id one.id }
-    requires params { AreParams proof.now one.id params.now }
-    requires own_params { AreParams proof.now id own_params.now }
+    requires id { step.id < step_count ground.proof.now }
+    requires one { step.one.id < step_count ground.proof.now }
+    requires put { AreKnownPairs ground.proof.now.trees step.put.now.types.items step.put.now.terms.items }
+    requires substituted { IsSubstituted ground.proof.now step.put.now step.id step.one.id }
+    requires params { AreParams ground.proof.now step.one.id step.params.now }
+    requires own_params { AreParams ground.proof.now step.id step.own.now }
     requires none { args.old.items ≡ [] }
-    requires told { (given : Given) × Stands given target.old proof.now.trees env.now × TellsStep given proof.now id }
-    ensures made { IfOk result (λ r. (given : Given) → Stands given target.old proof.now.trees env.now → TellsStep given proof.now id
-        → Holds target.new.table r.0
-        (subst_tree given.symbols given.scope (type_pairs proof.now.trees put.now) (term_pairs proof.now.trees put.now)
-        (one.symbol, sequent_at proof.now.made one.id))) }
+    requires told { TellsOne target.old ground.proof.now ground.env.now step.id }
+    ensures made { MakesOn target.old target.new ground.entry (step.entry.id ∷ []) result
+        (subst_row ground.entry.proof.now step.entry.put.now step.entry.one) }
     ensures grows { Grows target.old target.new }
 {
-    let sequent = proof.sequent(one.id);
-    let own = proof.sequent(id);
-    let variables = own_params.free_vars.variables();
-    env.add_type_images(target, proof, put, params.type_vars.names(), args)?;
-    env.add_term_images(
-        target,
-        proof,
-        put,
-        variables,
-        params.free_vars.variables(),
-        args,
-    )?;
-    env.add_hypothesis_images(target, proof, put, own.hyps.ids(), sequent.hyps.ids(), args)?;
-    call(&mut target.table, one.symbol, args)
+    let sequent = ground.proof.sequent(step.one.id);
+    let own = ground.proof.sequent(step.id);
+    let variables = step.own.free_vars.variables();
+    let general = step.params.free_vars.variables();
+    ground.add_type_images(target, step.put, step.params.type_vars.names(), args)?;
+    ground.add_term_images(target, step.put, variables, general, args)?;
+    ground.add_hypothesis_images(target, step.put, own.hyps.ids(), sequent.hyps.ids(), args)?;
+    call(&mut target.table, step.one.symbol, args)
 }
 
-impl Environment {
+impl Ground<'_> {
     // Adds the image of each of some type variables.
     fn add_type_images(
-        &self,
+        self,
         target: &mut Module,
-        proof: &Proof,
         put: &Substitution,
         names: &[Name],
         args: &mut Vec<LpId>,
     ) -> Result<(), Memory>
-        requires put { AreKnownPairs proof.now.trees put.now.types.items put.now.terms.items }
-        requires told { (given : Given) × Stands given target.old proof.now.trees self.now
-            × AllByRecursion (λ (n : AName). TellsType given.declarations given.symbols (image (type_pairs proof.now.trees put.now) n)) names.now }
-        ensures ready { OnOk result ((given : Given) (made : List Tree) → Ready given target.old proof.now.trees self.now args.old.items made
-            → AllByRecursion (λ (n : AName). TellsType given.declarations given.symbols (image (type_pairs proof.now.trees put.now) n)) names.now
-            → Ready given target.new proof.now.trees self.now args.new.items
-            (made ++ map (images given.symbols (type_pairs proof.now.trees put.now) (term_pairs proof.now.trees put.now) given.scope).types names.now)) }
+        requires put { AreKnownPairs self.proof.now.trees put.now.types.items put.now.terms.items }
+        requires told { TellsWhere target.old self.proof.now self.env.now (TellsTypeImages self.proof.now put.now names.now) }
+        ensures ready { AddsTypeImages target.old target.new self.entry args.old.items args.new.items put.now names.now result }
         ensures grows { Grows target.old target.new }
     {
         for name in names {
-            self.add_type_image(target, proof, put, name, args)?;
+            self.add_type_image(target, put, name, args)?;
         }
         Ok(())
     }
 
     // Adds the image of a type variable.
     fn add_type_image(
-        &self,
+        self,
         target: &mut Module,
-        proof: &Proof,
         put: &Substitution,
         name: &Name,
         args: &mut Vec<LpId>,
     ) -> Result<(), Memory>
-        requires put { AreKnownPairs proof.now.trees put.now.types.items put.now.terms.items }
-        requires told { (given : Given) × Stands given target.old proof.now.trees self.now
-            × TellsType given.declarations given.symbols (image (type_pairs proof.now.trees put.now) name.now) }
-        ensures ready { OnOk result ((given : Given) (made : List Tree) → Ready given target.old proof.now.trees self.now args.old.items made
-            → TellsType given.declarations given.symbols (image (type_pairs proof.now.trees put.now) name.now)
-            → Ready given target.new proof.now.trees self.now args.new.items
-            (made ++ type_tree given.symbols given.scope.types (image (type_pairs proof.now.trees put.now) name.now) ∷ [])) }
+        requires put { AreKnownPairs self.proof.now.trees put.now.types.items put.now.terms.items }
+        requires told { TellsWhere target.old self.proof.now self.env.now (TellsTypeImage self.proof.now put.now name.now) }
+        ensures ready { AddsTypeImage target.old target.new self.entry args.old.items args.new.items put.now name.now result }
         ensures grows { Grows target.old target.new }
     {
         match put_type(&put.types, name) {
-            Some(ty) => self.add_type(target, proof, ty, args),
-            None => self.add_type_variable(target, name, args),
+            Some(ty) => self.add_type(target, ty, args),
+            None => self.env.add_type_variable(target, name, args),
         }
     }
 
     // Adds the image of each of some free variables. What becomes of one that nothing is put for is among the step's own.
     fn add_term_images(
-        &self,
+        self,
         target: &mut Module,
-        proof: &Proof,
         put: &Substitution,
         own: &[Variable],
         variables: &[Variable],
         args: &mut Vec<LpId>,
     ) -> Result<(), Memory>
-        requires put { AreKnownPairs proof.now.trees put.now.types.items put.now.terms.items }
-        requires own { HaveTypes proof.now.trees own.now }
-        requires variables { HaveTypes proof.now.trees variables.now }
-        requires there { AllByRecursion (HasOwnVariable proof.now.trees put.now own.now) (variables_of proof.now.trees variables.now) }
-        requires told { (given : Given) × Stands given target.old proof.now.trees self.now
-            × AllByRecursion (λ (v : ATerm). IsTold given (variable_image proof.now.trees put.now v)) (variables_of proof.now.trees variables.now) }
-        ensures ready { OnOk result ((given : Given) (made : List Tree) → Ready given target.old proof.now.trees self.now args.old.items made
-            → AllByRecursion (λ (v : ATerm). IsTold given (variable_image proof.now.trees put.now v)) (variables_of proof.now.trees variables.now)
-            → Ready given target.new proof.now.trees self.now args.new.items
-            (made ++ map (images given.symbols (type_pairs proof.now.trees put.now) (term_pairs proof.now.trees put.now) given.scope).terms
-            (variables_of proof.now.trees variables.now))) }
+        requires put { AreKnownPairs self.proof.now.trees put.now.types.items put.now.terms.items }
+        requires own { HaveTypes self.proof.now.trees own.now }
+        requires variables { HaveTypes self.proof.now.trees variables.now }
+        requires there { AllByRecursion (HasOwnVariable self.proof.now.trees put.now own.now) (variables_of self.proof.now.trees variables.now) }
+        requires told { TellsWhere target.old self.proof.now self.env.now (TellsTermImages self.proof.now put.now variables.now) }
+        ensures ready { AddsTermImages target.old target.new self.entry args.old.items args.new.items put.now variables.now result }
         ensures grows { Grows target.old target.new }
     {
         for variable in variables {
-            self.add_term_image(target, proof, put, own, variable, args)?;
+            self.add_term_image(target, put, own, variable, args)?;
         }
         Ok(())
     }
 
     // Adds the image of a free variable: the term that is put for it, or else what stands for the variable that it becomes.
     fn add_term_image(
-        &self,
+        self,
         target: &mut Module,
-        proof: &Proof,
         put: &Substitution,
         own: &[Variable],
         variable: &Variable,
         args: &mut Vec<LpId>,
     ) -> Result<(), Memory>
-        requires put { AreKnownPairs proof.now.trees put.now.types.items put.now.terms.items }
-        requires own { HaveTypes proof.now.trees own.now }
-        requires variable { variable.now.ty.0 < length proof.now.trees.types }
-        requires there { HasOwnVariable proof.now.trees put.now own.now (variable_view proof.now.trees variable.now) }
-        requires told { (given : Given) × Stands given target.old proof.now.trees self.now
-            × IsTold given (variable_image proof.now.trees put.now (variable_view proof.now.trees variable.now)) }
-        ensures ready { OnOk result ((given : Given) (made : List Tree) → Ready given target.old proof.now.trees self.now args.old.items made
-            → IsTold given (variable_image proof.now.trees put.now (variable_view proof.now.trees variable.now))
-            → Ready given target.new proof.now.trees self.now args.new.items
-            (made ++ (images given.symbols (type_pairs proof.now.trees put.now) (term_pairs proof.now.trees put.now) given.scope).terms
-            (variable_view proof.now.trees variable.now) ∷ [])) }
+        requires put { AreKnownPairs self.proof.now.trees put.now.types.items put.now.terms.items }
+        requires own { HaveTypes self.proof.now.trees own.now }
+        requires variable { variable.now.ty.0 < length self.proof.now.trees.types }
+        requires there { HasOwnVariable self.proof.now.trees put.now own.now (variable_view self.proof.now.trees variable.now) }
+        requires told { TellsWhere target.old self.proof.now self.env.now (TellsTermImage self.proof.now put.now variable.now) }
+        ensures ready { AddsTermImage target.old target.new self.entry args.old.items args.new.items put.now variable.now result }
         ensures grows { Grows target.old target.new }
     {
-        match put_term(self.alloc, proof.terms(), put, &variable.name, variable.ty)? {
-            Some(id) => self.add_term(target, proof, id, args),
+        match put_term(
+            self.env.alloc,
+            self.proof.terms(),
+            put,
+            &variable.name,
+            variable.ty,
+        )? {
+            Some(id) => self.add_term(target, id, args),
             None => {
-                let made = own_variable(self.alloc, proof.terms(), put, own, variable)?;
-                self.add_free_variable(target, proof, made, args)
+                let made = own_variable(self.env.alloc, self.proof.terms(), put, own, variable)?;
+                self.add_free_variable(target, made, args)
             }
         }
     }
 
     // Adds what proves the image of each of some hypotheses, which are among the step's own.
     fn add_hypothesis_images(
-        &self,
+        self,
         target: &mut Module,
-        proof: &Proof,
         put: &Substitution,
         own: &[TermId],
         hyps: &[TermId],
         args: &mut Vec<LpId>,
     ) -> Result<(), Memory>
-        requires put { AreKnownPairs proof.now.trees put.now.types.items put.now.terms.items }
-        requires own { AreKnown proof.now.trees own.now }
-        requires hyps { AreKnown proof.now.trees hyps.now }
-        requires there { AllByRecursion (λ (h : Term). IsIn (terms_at proof.now.trees own.now)
-            (sub (type_pairs proof.now.trees put.now) (term_pairs proof.now.trees put.now) h)) (terms_at proof.now.trees hyps.now) }
-        ensures ready { OnOk result ((given : Given) (made : List Tree) → Ready given target.old proof.now.trees self.now args.old.items made
-            → Ready given target.new proof.now.trees self.now args.new.items
-            (made ++ map (images given.symbols (type_pairs proof.now.trees put.now) (term_pairs proof.now.trees put.now) given.scope).proofs
-            (terms_at proof.now.trees hyps.now))) }
+        requires put { AreKnownPairs self.proof.now.trees put.now.types.items put.now.terms.items }
+        requires own { AreKnown self.proof.now.trees own.now }
+        requires hyps { AreKnown self.proof.now.trees hyps.now }
+        requires there { HaveOwnHypotheses self.proof.now.trees put.now own.now hyps.now }
+        ensures ready { AddsHypothesisImages target.old target.new self.entry args.old.items args.new.items put.now hyps.now result }
         ensures grows { Grows target.old target.new }
     {
         for hyp in hyps {
-            let made = own_hypothesis(self.alloc, proof.terms(), put, own, *hyp)?;
-            self.add_hypothesis(target, made, args)?;
+            let made = own_hypothesis(self.env.alloc, self.proof.terms(), put, own, *hyp)?;
+            self.env.add_hypothesis(target, made, args)?;
         }
         Ok(())
     }

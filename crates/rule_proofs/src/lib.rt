@@ -5,11 +5,13 @@
 //! as translation fills. A row makes the proof of a step by its rule, of the premises and of what their sequents say. What is made is the tree
 //! that the definitions give in each scope that the environment stands for, for whatever symbols the module tells; the declarations stay, and
 //! so does the tree of each number. A premise comes with the number of its step and with its symbol. The parameters of a sequent are found by
-//! a walk of its terms: `KeptParams` keeps those of the steps that were noted lately, and the rows find only others anew.
+//! a walk of its terms: `KeptParams` keeps those of the steps that were noted lately, and the rows find only others anew. A row is given its
+//! `Ground`: the steps of a proof, the parameters that are kept of them, and the environment.
 //!
 //! ```
 //! let env = Environment::of(alloc, &mut module, &params, sequent.hyps.ids(), 0)?;
-//! let inner = eq_mp(&mut module, &proof, &env, &kept, one, two)?;
+//! let ground = Ground { proof: &proof, kept: &kept, env: &env };
+//! let inner = eq_mp(&mut module, ground, one, two)?;
 //! ```
 //!
 //! | Rule | Call |
@@ -33,6 +35,7 @@
 #![tactic(auto)]
 
 mod constants;
+mod ground;
 mod images;
 mod kept;
 mod matching;
@@ -44,6 +47,7 @@ mod scope;
 mod trees;
 
 pub use constants::constant_list;
+pub use ground::Ground;
 pub use images::subst;
 pub use kept::{KeptParams, LentParams};
 pub use names::step_name;

@@ -4,16 +4,15 @@ ghost use Rattle.std.specs.Prelude.{◌≡◌, ◌<◌, ◌≤◌, ◌+◌, ◌&
 ghost use Rattle.std.specs.Map.{lookup};
 ghost use Rattle.hol_spec.specs.Limits.{types_size};
 ghost use Rattle.hol_spec.specs.NameEquality.{name_eq};
-ghost use Rattle.hol_spec.specs.Substitution.{substitute, substitute_all};
 ghost use Rattle.hol_spec.specs.Terms.{term_eq, variable_eq};
-ghost use Rattle.hol_spec.specs.Types.{type_eq, types_eq, types_of};
+ghost use Rattle.hol_spec.specs.Types.{types_of};
 ghost use Rattle.hol_type.specs.Tables as type;
 ghost use Rattle.hol_spec.specs.TermSubstitution.{term_image};
-ghost use Rattle.hol_term.specs.Substitutions.{AreKnownPairs, IsPutFor, term_pairs_at};
+ghost use Rattle.hol_term.specs.Substitutions.{AreKnownPairs, IsPutFor};
 ghost use Rattle.hol_term.specs.Tables.{term_at};
 ghost use Rattle.hol_rules.specs.Views.{variable_view};
-ghost use Rattle.rule_proofs.specs.Images.{made_term, retyped};
-ghost use Rattle.rule_proofs.specs.Matching.{are_terms_made, are_types_made, terms_left, types_left, AreTermsLeft, AreTypesLeft};
+ghost use Rattle.rule_proofs.specs.Images.{made_term, retyped, term_pairs};
+ghost use Rattle.rule_proofs.specs.Matching.{are_terms_made, is_named_made, is_type_made, terms_left, types_left, AreTermsLeft, AreTypesLeft, LeavesAll, LeavesTypes};
 
 use common::{Memory, Stack};
 use hol_name::Name;
@@ -21,6 +20,13 @@ use hol_rules::Substitution;
 use hol_term::{TermId, TermTable, TermView, Variable};
 use hol_type::{TypeId, TypeTable, TypeView};
 use std::alloc::Global;
+
+// A name and a type, as of a variable or a constant.
+#[derive(Clone, Copy)]
+struct Named<'a> {
+    name: &'a Name,
+    ty: TypeId,
+}
 
 // The type that is put for a type variable: the first pair of its name counts.
 pub(crate) fn put_type(pairs: &[(Name, TypeId)], name: &Name) -> Option<TypeId>
@@ -45,8 +51,7 @@ pub(crate) fn makes_type(
     requires pairs { type.ArePairsKnown table.now pairs.now }
     requires general { general.0 < length table.now }
     requires ty { ty.0 < length table.now }
-    ensures { IfOk result (λ made. made ≡ type_eq (substitute (type.pairs_at table.now pairs.now) (type.tree_at table.now general.0))
-        (type.tree_at table.now ty.0)) }
+    ensures { IfOk result (λ made. made ≡ is_type_made table.now pairs.now general ty) }
 {
     let mut left = Stack::new(alloc);
     left.push((general, ty))?;
@@ -68,8 +73,7 @@ fn sees_type(
 ) -> Result<bool, Memory>
     requires pairs { type.ArePairsKnown table.now pairs.now }
     requires known { AreTypesLeft table.now ((general, ty) ∷ left.old) }
-    ensures made { IfOk result (λ seen. are_types_made table.now (type.pairs_at table.now pairs.now) ((general, ty) ∷ left.old) ≡
-        (seen && are_types_made table.now (type.pairs_at table.now pairs.now) left.new)) }
+    ensures made { IfOk result (LeavesTypes table.now pairs.now ((general, ty) ∷ left.old) left.new) }
     ensures known { OnOk result (AreTypesLeft table.now left.new) }
     ensures less { OnOk result (types_left table.now left.new < types_left table.now ((general, ty) ∷ left.old)) }
 {
@@ -101,9 +105,7 @@ fn leave_types(
     requires general { type.AreKnown table.now general.now }
     requires types { type.AreKnown table.now types.now }
     requires known { AreTypesLeft table.now left.old }
-    ensures made { IfOk result (λ many. (types_eq (substitute_all (type.pairs_at table.now pairs.now) (types_of (type.types_at table.now general.now)))
-        (types_of (type.types_at table.now types.now)) && are_types_made table.now (type.pairs_at table.now pairs.now) left.old) ≡
-        (many && are_types_made table.now (type.pairs_at table.now pairs.now) left.new)) }
+    ensures made { IfOk result (LeavesAll table.now pairs.now general.now types.now left.old left.new) }
     ensures known { OnOk result (AreTypesLeft table.now left.new) }
     ensures less { OnOk result (types_left table.now left.new ≤ types_size (types_of (type.types_at table.now general.now)) + types_left table.now left.old) }
 {
@@ -125,21 +127,18 @@ fn makes_named(
     alloc: Global,
     table: &TypeTable,
     pairs: &[(Name, TypeId)],
-    name: &Name,
-    general: TypeId,
-    own: &Name,
-    ty: TypeId,
+    general: Named<'_>,
+    own: Named<'_>,
 ) -> Result<bool, Memory>
     requires pairs { type.ArePairsKnown table.now pairs.now }
-    requires general { general.0 < length table.now }
-    requires ty { ty.0 < length table.now }
-    ensures { IfOk result (λ made. made ≡
-        (name_eq name.now own.now && type_eq (substitute (type.pairs_at table.now pairs.now) (type.tree_at table.now general.0)) (type.tree_at table.now ty.0))) }
+    requires general { general.ty.0 < length table.now }
+    requires own { own.ty.0 < length table.now }
+    ensures { IfOk result (λ made. made ≡ is_named_made table.now pairs.now general.entry own.entry) }
 {
-    if name != own {
+    if general.name != own.name {
         return Ok(false);
     }
-    makes_type(alloc, table, pairs, general, ty)
+    makes_type(alloc, table, pairs, general.ty, own.ty)
 }
 
 // Whether a variable of this name and type is this one once its type is changed.
@@ -156,15 +155,11 @@ pub(crate) fn becomes(
     requires own { own.now.ty.0 < length table.now.types }
     ensures { IfOk result (λ same. same ≡ variable_eq (retyped table.now put.now name.now ty) (variable_view table.now own.now)) }
 {
-    makes_named(
-        alloc,
-        table.types(),
-        &put.types,
-        name,
-        ty,
-        &own.name,
-        own.ty,
-    )
+    let own = Named {
+        name: &own.name,
+        ty: own.ty,
+    };
+    makes_named(alloc, table.types(), &put.types, Named { name, ty }, own)
 }
 
 // The term that is put for a variable of this name and type once its type is changed: the first pair of what it becomes counts.
@@ -230,7 +225,11 @@ fn sees_term(
         TermView::Bound(_) => Ok(general == id),
         TermView::Const(name, ty) => match table.view(id) {
             TermView::Const(own, made) => {
-                makes_named(alloc, table.types(), &put.types, name, ty, own, made)
+                let own = Named {
+                    name: own,
+                    ty: made,
+                };
+                makes_named(alloc, table.types(), &put.types, Named { name, ty }, own)
             }
             _ => Ok(false),
         },
@@ -264,15 +263,18 @@ fn makes_variable(
     requires put { AreKnownPairs table.now put.now.types.items put.now.terms.items }
     requires ty { ty.0 < length table.now.types }
     requires id { id.0 < length table.now.terms }
-    ensures { IfOk result (λ made. made ≡ term_eq (term_image (term_pairs_at table.now put.now.terms.items) (retyped table.now put.now name.now ty))
-        (term_at table.now id.0)) }
+    ensures { IfOk result (λ made. made ≡ term_eq (term_image (term_pairs table.now put.now) (retyped table.now put.now name.now ty)) (term_at table.now id.0)) }
 {
     let view = table.view(id);
     match put_term(alloc, table, put, name, ty)? {
         Some(image) => Ok(image == id),
         None => match view {
             TermView::Free(own, made) => {
-                makes_named(alloc, table.types(), &put.types, name, ty, own, made)
+                let own = Named {
+                    name: own,
+                    ty: made,
+                };
+                makes_named(alloc, table.types(), &put.types, Named { name, ty }, own)
             }
             _ => Ok(false),
         },

@@ -2,10 +2,9 @@
 ghost use Rattle.std.specs.Prelude.{◌≡◌, ◌<◌, ◌++◌, decimal, nat_eq, position, IfOk, OnOk};
 ghost use Rattle.std.specs.List.{position_or_len};
 ghost use Rattle.hol_rules.specs.Kept.{step_count};
-ghost use Rattle.hol_rules.specs.Views.{step_at};
-ghost use Rattle.module_spec.specs.Image.{step_name as name_of_step, unexported_name as name_by_kind};
+ghost use Rattle.module_spec.specs.Image.{unexported_name as name_by_kind};
 ghost use Rattle.lp_spec.specs.Numerals.{numeral};
-ghost use Rattle.rule_proofs.specs.Numbers.{IsRising};
+ghost use Rattle.rule_proofs.specs.Numbers.{name_among, IsRising};
 
 use common::Memory;
 use hol_rules::{Proof, StepId};
@@ -24,8 +23,7 @@ pub fn step_name(
     requires id { id < step_count proof.now }
     requires assumptions { IsRising assumptions.now }
     requires exports { IsRising exports.now }
-    ensures { IfOk result (λ text. text.items ≡ name_of_step (record { made = proof.now.made; assumptions = assumptions.now; exports = exports.now }) id
-        (step_at proof.now.made id).kind) }
+    ensures { IfOk result (λ text. text.items ≡ name_among proof.now.made assumptions.now exports.now id) }
 {
     match place_of(exports, id) {
         Some(place) => lettered(alloc, b"E", place),

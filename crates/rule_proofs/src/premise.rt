@@ -1,23 +1,20 @@
 //! What is made in an environment: types, terms, and premises as theorems.
-ghost use Rattle.std.specs.Prelude.{◌≡◌, ◌<◌, ◌++◌, ◌∷◌, ℕ, List, [], length, map, IfOk, OnOk};
-ghost use Rattle.std.specs.List.{AllByRecursion};
-ghost use Rattle.hol_spec.specs.Proofs.{sequent_at};
-ghost use Rattle.hol_spec.specs.Terms.{Term, Variable as ATerm};
-ghost use Rattle.hol_type.specs.Tables as type;
-ghost use Rattle.hol_term.specs.Subterms.{HaveTypes, variables_of};
-ghost use Rattle.hol_term.specs.Tables.{Trees, term_at, terms_at, type_at, AreKnown};
+ghost use Rattle.std.specs.Prelude.{◌≡◌, ◌<◌, ◌∷◌, [], length, map, IfOk};
+ghost use Rattle.hol_term.specs.Subterms.{HaveTypes};
 ghost use Rattle.hol_rules.specs.Kept.{step_count};
-ghost use Rattle.lp_spec.specs.Modules.{term_of as terms_of};
-ghost use Rattle.lp_spec.specs.Trees.{Tree, App, Lam, Sym};
-ghost use Rattle.lp_term.specs.Tables.{tree_at, Holds};
-ghost use Rattle.module_spec.specs.Scopes.{TypeScope, term_tree, theorem_tree, type_tree};
-ghost use Rattle.translate_term.specs.Told.{TellsType};
+ghost use Rattle.lp_spec.specs.Trees.{Tree};
+ghost use Rattle.lp_term.specs.Tables.{Holds};
+ghost use Rattle.module_spec.specs.Scopes.{TypeScope};
 ghost use Rattle.translate_term.specs.Walks.{Grows};
-ghost use Rattle.rule_proofs.specs.Environments.{Given, IsTold, Ready, Stands, TellProofs, TellTypes, unproved};
+ghost use Rattle.rule_proofs.specs.Adding.{AddsAbstracted, AddsFunction, AddsProof, AddsProofs, AddsTerm, AddsTheorem, AddsType, AddsVariable, AddsVariables};
+ghost use Rattle.rule_proofs.specs.Environments.{TellTypes};
+ghost use Rattle.rule_proofs.specs.Grounds.{type_row, term_row, variable_row, AddsAlways, MakesTree, MakesWhere, TellsOne, TellsTermAt, TellsTypeAt, TellsVariables, TellsWhere};
 ghost use Rattle.rule_proofs.specs.Keeping.{AreKept};
 ghost use Rattle.rule_proofs.specs.Parameters.{AreParams};
-ghost use Rattle.rule_proofs.specs.Told.{TellsStep};
+ghost use Rattle.rule_proofs.specs.ProvedHypotheses.{IsPut, MakesProof, MakesProofWith, MakesTheorem};
+ghost use Rattle.rule_proofs.specs.RuleRows.{theorem_row};
 
+use crate::ground::Ground;
 use crate::kept::KeptParams;
 use crate::scope::Environment;
 use crate::trees::abstraction;
@@ -40,6 +37,13 @@ pub struct Premise {
     pub symbol: usize,
 }
 
+/// A hypothesis with a tree that proves it.
+#[derive(Clone, Copy)]
+pub(crate) struct Proved {
+    pub(crate) id: TermId,
+    pub(crate) tree: LpId,
+}
+
 /// The parameters of a step's sequent.
 pub(crate) fn params_of(alloc: Global, proof: &Proof, id: StepId) -> Result<Params, Memory>
     requires { id < step_count proof.now }
@@ -52,10 +56,8 @@ impl Environment {
     /// The tree of a type.
     pub fn ty(&self, target: &mut Module, proof: &Proof, id: TypeId) -> Result<LpId, Memory>
         requires id { id.0 < length proof.now.trees.types }
-        requires told { (given : Given) × Stands given target.old proof.now.trees self.now × TellsType given.declarations given.symbols (type_at proof.now.trees id.0) }
-        ensures made { IfOk result (λ r. (given : Given) → Stands given target.old proof.now.trees self.now
-            → TellsType given.declarations given.symbols (type_at proof.now.trees id.0)
-            → Holds target.new.table r.0 (type_tree given.symbols given.scope.types (type_at proof.now.trees id.0))) }
+        requires told { TellsWhere target.old proof.now self.now (TellsTypeAt proof.now id) }
+        ensures made { MakesWhere target.old target.new proof.now self.now (TellsTypeAt proof.now id) result (type_row proof.now id) }
         ensures grows { Grows target.old target.new }
     {
         ty(self.alloc, target, proof.terms().types(), &self.scope, id)
@@ -64,9 +66,8 @@ impl Environment {
     /// The tree of a term.
     pub fn term(&self, target: &mut Module, proof: &Proof, id: TermId) -> Result<LpId, Memory>
         requires id { id.0 < length proof.now.trees.terms }
-        requires told { (given : Given) × Stands given target.old proof.now.trees self.now × IsTold given (term_at proof.now.trees id.0) }
-        ensures made { IfOk result (λ r. (given : Given) → Stands given target.old proof.now.trees self.now → IsTold given (term_at proof.now.trees id.0)
-            → Holds target.new.table r.0 (term_tree given.symbols given.scope (term_at proof.now.trees id.0))) }
+        requires told { TellsWhere target.old proof.now self.now (TellsTermAt proof.now id) }
+        ensures made { MakesWhere target.old target.new proof.now self.now (TellsTermAt proof.now id) result (term_row proof.now id) }
         ensures grows { Grows target.old target.new }
     {
         tm(self.alloc, target, proof.terms(), &self.scope, id)
@@ -91,11 +92,9 @@ impl Environment {
         variable: &Variable,
     ) -> Result<LpId, Memory>
         requires variable { variable.now.ty.0 < length proof.now.trees.types }
-        requires told { (given : Given) × Stands given target.old proof.now.trees self.now
-            × TellsType given.declarations given.symbols (type_at proof.now.trees variable.now.ty.0) }
-        ensures made { IfOk result (λ r. (given : Given) → Stands given target.old proof.now.trees self.now
-            → TellsType given.declarations given.symbols (type_at proof.now.trees variable.now.ty.0)
-            → Holds target.new.table r.0 (given.scope.terms (variable.now.name, type_at proof.now.trees variable.now.ty.0))) }
+        requires told { TellsWhere target.old proof.now self.now (TellsTypeAt proof.now variable.now.ty) }
+        ensures made { MakesWhere target.old target.new proof.now self.now (TellsTypeAt proof.now variable.now.ty) result
+            (variable_row proof.now variable.now) }
         ensures grows { Grows target.old target.new }
     {
         match self.find_term(variable) {
@@ -109,8 +108,7 @@ impl Environment {
 
     /// What proves a hypothesis.
     pub fn hypothesis(&self, target: &mut Module, id: TermId) -> Result<LpId, Memory>
-        ensures made { IfOk result (λ r. (given : Given) (trees : Trees) → Stands given target.old trees self.now → id.0 < length trees.terms
-            → Holds target.new.table r.0 (given.scope.proofs (term_at trees id.0))) }
+        ensures made { MakesProof target.old target.new self.now id result }
         ensures grows { Grows target.old target.new }
     {
         match self.find_proof(id) {
@@ -120,47 +118,6 @@ impl Environment {
         }
     }
 
-    // Adds the tree of a type to some arguments.
-    pub(crate) fn add_type(
-        &self,
-        target: &mut Module,
-        proof: &Proof,
-        id: TypeId,
-        args: &mut Vec<LpId>,
-    ) -> Result<(), Memory>
-        requires id { id.0 < length proof.now.trees.types }
-        requires told { (given : Given) × Stands given target.old proof.now.trees self.now × TellsType given.declarations given.symbols (type_at proof.now.trees id.0) }
-        ensures ready { OnOk result ((given : Given) (made : List Tree) → Ready given target.old proof.now.trees self.now args.old.items made
-            → TellsType given.declarations given.symbols (type_at proof.now.trees id.0)
-            → Ready given target.new proof.now.trees self.now args.new.items
-            (made ++ type_tree given.symbols given.scope.types (type_at proof.now.trees id.0) ∷ [])) }
-        ensures grows { Grows target.old target.new }
-    {
-        let tree = self.ty(target, proof, id)?;
-        args.push(tree)?;
-        Ok(())
-    }
-
-    // Adds the tree of a term.
-    pub(crate) fn add_term(
-        &self,
-        target: &mut Module,
-        proof: &Proof,
-        id: TermId,
-        args: &mut Vec<LpId>,
-    ) -> Result<(), Memory>
-        requires id { id.0 < length proof.now.trees.terms }
-        requires told { (given : Given) × Stands given target.old proof.now.trees self.now × IsTold given (term_at proof.now.trees id.0) }
-        ensures ready { OnOk result ((given : Given) (made : List Tree) → Ready given target.old proof.now.trees self.now args.old.items made
-            → IsTold given (term_at proof.now.trees id.0)
-            → Ready given target.new proof.now.trees self.now args.new.items (made ++ term_tree given.symbols given.scope (term_at proof.now.trees id.0) ∷ [])) }
-        ensures grows { Grows target.old target.new }
-    {
-        let tree = self.term(target, proof, id)?;
-        args.push(tree)?;
-        Ok(())
-    }
-
     // Adds what stands for a type variable.
     pub(crate) fn add_type_variable(
         &self,
@@ -168,33 +125,10 @@ impl Environment {
         name: &Name,
         args: &mut Vec<LpId>,
     ) -> Result<(), Memory>
-        ensures ready { OnOk result ((given : Given) (trees : Trees) (made : List Tree) → Ready given target.old trees self.now args.old.items made
-            → Ready given target.new trees self.now args.new.items (made ++ given.scope.types name.now ∷ [])) }
+        ensures ready { AddsAlways target.old target.new self.now args.old.items args.new.items result (λ given. given.scope.types name.now ∷ []) }
         ensures grows { Grows target.old target.new }
     {
         let tree = self.type_variable(target, name)?;
-        args.push(tree)?;
-        Ok(())
-    }
-
-    // Adds what stands for a free variable.
-    pub(crate) fn add_free_variable(
-        &self,
-        target: &mut Module,
-        proof: &Proof,
-        variable: &Variable,
-        args: &mut Vec<LpId>,
-    ) -> Result<(), Memory>
-        requires variable { variable.now.ty.0 < length proof.now.trees.types }
-        requires told { (given : Given) × Stands given target.old proof.now.trees self.now
-            × TellsType given.declarations given.symbols (type_at proof.now.trees variable.now.ty.0) }
-        ensures ready { OnOk result ((given : Given) (made : List Tree) → Ready given target.old proof.now.trees self.now args.old.items made
-            → TellsType given.declarations given.symbols (type_at proof.now.trees variable.now.ty.0)
-            → Ready given target.new proof.now.trees self.now args.new.items
-            (made ++ given.scope.terms (variable.now.name, type_at proof.now.trees variable.now.ty.0) ∷ [])) }
-        ensures grows { Grows target.old target.new }
-    {
-        let tree = self.free_variable(target, proof, variable)?;
         args.push(tree)?;
         Ok(())
     }
@@ -206,8 +140,7 @@ impl Environment {
         id: TermId,
         args: &mut Vec<LpId>,
     ) -> Result<(), Memory>
-        ensures ready { OnOk result ((given : Given) (trees : Trees) (made : List Tree) → Ready given target.old trees self.now args.old.items made
-            → id.0 < length trees.terms → Ready given target.new trees self.now args.new.items (made ++ given.scope.proofs (term_at trees id.0) ∷ [])) }
+        ensures ready { AddsProof target.old target.new self.now args.old.items args.new.items id result }
         ensures grows { Grows target.old target.new }
     {
         let tree = self.hypothesis(target, id)?;
@@ -222,8 +155,7 @@ impl Environment {
         names: &[Name],
         args: &mut Vec<LpId>,
     ) -> Result<(), Memory>
-        ensures ready { OnOk result ((given : Given) (trees : Trees) (made : List Tree) → Ready given target.old trees self.now args.old.items made
-            → Ready given target.new trees self.now args.new.items (made ++ map given.scope.types names.now)) }
+        ensures ready { AddsAlways target.old target.new self.now args.old.items args.new.items result (λ given. map given.scope.types names.now) }
         ensures grows { Grows target.old target.new }
     {
         for name in names {
@@ -232,43 +164,41 @@ impl Environment {
         Ok(())
     }
 
-    // Adds what stands for each of some free variables.
-    fn add_free_variables(
+    // Adds what proves each of some hypotheses, where a tree of its own may prove one.
+    fn add_hypotheses(
         &self,
         target: &mut Module,
-        proof: &Proof,
-        variables: &[Variable],
+        hyps: &[TermId],
+        proved: Option<Proved>,
         args: &mut Vec<LpId>,
     ) -> Result<(), Memory>
-        requires variables { HaveTypes proof.now.trees variables.now }
-        requires told { (given : Given) × Stands given target.old proof.now.trees self.now
-            × AllByRecursion (λ (v : ATerm). TellsType given.declarations given.symbols v.1) (variables_of proof.now.trees variables.now) }
-        ensures ready { OnOk result ((given : Given) (made : List Tree) → Ready given target.old proof.now.trees self.now args.old.items made
-            → AllByRecursion (λ (v : ATerm). TellsType given.declarations given.symbols v.1) (variables_of proof.now.trees variables.now)
-            → Ready given target.new proof.now.trees self.now args.new.items (made ++ map given.scope.terms (variables_of proof.now.trees variables.now))) }
+        ensures ready { AddsProofs target.old target.new self.now args.old.items args.new.items hyps.now proved result }
         ensures grows { Grows target.old target.new }
     {
-        for variable in variables {
-            self.add_free_variable(target, proof, variable, args)?;
+        for id in hyps {
+            let tree = self.proof_with(target, *id, proved)?;
+            args.push(tree)?;
         }
         Ok(())
     }
 
-    // Adds what proves each of some hypotheses.
-    pub(crate) fn add_hypotheses(
+    // What proves a hypothesis, where a tree of its own may prove one.
+    fn proof_with(
         &self,
         target: &mut Module,
-        hyps: &[TermId],
-        args: &mut Vec<LpId>,
-    ) -> Result<(), Memory>
-        ensures ready { OnOk result ((given : Given) (trees : Trees) (made : List Tree) → Ready given target.old trees self.now args.old.items made
-            → AreKnown trees hyps.now → Ready given target.new trees self.now args.new.items (made ++ map given.scope.proofs (terms_at trees hyps.now))) }
+        id: TermId,
+        proved: Option<Proved>,
+    ) -> Result<LpId, Memory>
+        ensures made { MakesProofWith target.old target.new self.now id proved result }
         ensures grows { Grows target.old target.new }
     {
-        for id in hyps {
-            self.add_hypothesis(target, *id, args)?;
+        let Some(own) = proved else {
+            return self.hypothesis(target, id);
+        };
+        if id == own.id {
+            return Ok(own.tree);
         }
-        Ok(())
+        self.hypothesis(target, id)
     }
 
     /// A premise as a theorem: its symbol, applied to what stands for its type variables, its free variables and its hypotheses.
@@ -281,84 +211,169 @@ impl Environment {
     ) -> Result<LpId, Memory>
         requires kept { AreKept proof.now kept.now }
         requires premise { premise.id < step_count proof.now }
-        requires told { (given : Given) × Stands given target.old proof.now.trees self.now × TellsStep given proof.now premise.id }
-        ensures made { IfOk result (λ r. (given : Given) → Stands given target.old proof.now.trees self.now → TellsStep given proof.now premise.id
-            → Holds target.new.table r.0 (theorem_tree given.scope premise.symbol (sequent_at proof.now.made premise.id))) }
+        requires told { TellsOne target.old proof.now self.now premise.id }
+        ensures made { MakesTree target.old target.new proof.now self.now (premise.id ∷ []) result (theorem_row proof.now premise) }
         ensures grows { Grows target.old target.new }
     {
-        let lent = kept.lend(proof, premise.id)?;
-        let mut args = Vec::new(self.alloc);
-        let made = self.theorem_over(target, proof, premise, lent.params(), &mut args);
+        let ground = Ground {
+            proof,
+            kept,
+            env: self,
+        };
+        ground.theorem_with(target, premise, None)
+    }
+}
+
+impl Ground<'_> {
+    /// A premise as a theorem, where a tree of its own may prove one of its hypotheses.
+    pub(crate) fn theorem_with(
+        self,
+        target: &mut Module,
+        premise: Premise,
+        proved: Option<Proved>,
+    ) -> Result<LpId, Memory>
+        requires kept { AreKept self.proof.now self.kept.now }
+        requires premise { premise.id < step_count self.proof.now }
+        requires proved { (x : Tree) × IsPut self.proof.now.trees target.old.table proved x }
+        requires told { TellsOne target.old self.proof.now self.env.now premise.id }
+        ensures made { MakesTheorem target.old target.new self.entry proved premise result }
+        ensures grows { Grows target.old target.new }
+    {
+        let lent = self.kept.lend(self.proof, premise.id)?;
+        let mut args = Vec::new(self.env.alloc);
+        let made = self.theorem_over(target, premise, lent.params(), proved, &mut args);
         drop(args);
         drop(lent);
         made
     }
 
-    /// A premise as a theorem, where its parameters are known. The arguments are added to none.
+    /// The same, where its parameters are known. The arguments are added to none.
     fn theorem_over(
-        &self,
+        self,
         target: &mut Module,
-        proof: &Proof,
         premise: Premise,
         params: &Params,
+        proved: Option<Proved>,
         args: &mut Vec<LpId>,
     ) -> Result<LpId, Memory>
-        requires premise { premise.id < step_count proof.now }
-        requires params { AreParams proof.now premise.id params.now }
+        requires premise { premise.id < step_count self.proof.now }
+        requires params { AreParams self.proof.now premise.id params.now }
         requires none { args.old.items ≡ [] }
-        requires told { (given : Given) × Stands given target.old proof.now.trees self.now × TellsStep given proof.now premise.id }
-        ensures made { IfOk result (λ r. (given : Given) → Stands given target.old proof.now.trees self.now → TellsStep given proof.now premise.id
-            → Holds target.new.table r.0 (theorem_tree given.scope premise.symbol (sequent_at proof.now.made premise.id))) }
+        requires proved { (x : Tree) × IsPut self.proof.now.trees target.old.table proved x }
+        requires told { TellsOne target.old self.proof.now self.env.now premise.id }
+        ensures made { MakesTheorem target.old target.new self.entry proved premise result }
         ensures grows { Grows target.old target.new }
     {
-        self.add_type_variables(target, params.type_vars.names(), args)?;
-        self.add_free_variables(target, proof, params.free_vars.variables(), args)?;
-        self.add_hypotheses(target, proof.sequent(premise.id).hyps.ids(), args)?;
+        let hyps = self.proof.sequent(premise.id).hyps.ids();
+        self.env
+            .add_type_variables(target, params.type_vars.names(), args)?;
+        self.add_free_variables(target, params.free_vars.variables(), args)?;
+        self.env.add_hypotheses(target, hyps, proved, args)?;
         call(&mut target.table, premise.symbol, args)
+    }
+
+    // Adds the tree of a type to some arguments.
+    pub(crate) fn add_type(
+        self,
+        target: &mut Module,
+        id: TypeId,
+        args: &mut Vec<LpId>,
+    ) -> Result<(), Memory>
+        requires id { id.0 < length self.proof.now.trees.types }
+        requires told { TellsWhere target.old self.proof.now self.env.now (TellsTypeAt self.proof.now id) }
+        ensures ready { AddsType target.old target.new self.entry args.old.items args.new.items id result }
+        ensures grows { Grows target.old target.new }
+    {
+        let tree = self.env.ty(target, self.proof, id)?;
+        args.push(tree)?;
+        Ok(())
+    }
+
+    // Adds the tree of a term.
+    pub(crate) fn add_term(
+        self,
+        target: &mut Module,
+        id: TermId,
+        args: &mut Vec<LpId>,
+    ) -> Result<(), Memory>
+        requires id { id.0 < length self.proof.now.trees.terms }
+        requires told { TellsWhere target.old self.proof.now self.env.now (TellsTermAt self.proof.now id) }
+        ensures ready { AddsTerm target.old target.new self.entry args.old.items args.new.items id result }
+        ensures grows { Grows target.old target.new }
+    {
+        let tree = self.env.term(target, self.proof, id)?;
+        args.push(tree)?;
+        Ok(())
+    }
+
+    // Adds what stands for a free variable.
+    pub(crate) fn add_free_variable(
+        self,
+        target: &mut Module,
+        variable: &Variable,
+        args: &mut Vec<LpId>,
+    ) -> Result<(), Memory>
+        requires variable { variable.now.ty.0 < length self.proof.now.trees.types }
+        requires told { TellsWhere target.old self.proof.now self.env.now (TellsTypeAt self.proof.now variable.now.ty) }
+        ensures ready { AddsVariable target.old target.new self.entry args.old.items args.new.items variable.now result }
+        ensures grows { Grows target.old target.new }
+    {
+        let tree = self.env.free_variable(target, self.proof, variable)?;
+        args.push(tree)?;
+        Ok(())
+    }
+
+    // Adds what stands for each of some free variables.
+    fn add_free_variables(
+        self,
+        target: &mut Module,
+        variables: &[Variable],
+        args: &mut Vec<LpId>,
+    ) -> Result<(), Memory>
+        requires variables { HaveTypes self.proof.now.trees variables.now }
+        requires told { TellsWhere target.old self.proof.now self.env.now (TellsVariables self.proof.now variables.now) }
+        ensures ready { AddsVariables target.old target.new self.entry args.old.items args.new.items variables.now result }
+        ensures grows { Grows target.old target.new }
+    {
+        for variable in variables {
+            self.add_free_variable(target, variable, args)?;
+        }
+        Ok(())
     }
 
     // Adds a premise as a theorem.
     pub(crate) fn add_theorem(
-        &self,
+        self,
         target: &mut Module,
-        proof: &Proof,
-        kept: &KeptParams,
         premise: Premise,
         args: &mut Vec<LpId>,
     ) -> Result<(), Memory>
-        requires kept { AreKept proof.now kept.now }
-        requires premise { premise.id < step_count proof.now }
-        requires told { (given : Given) × Stands given target.old proof.now.trees self.now × TellsStep given proof.now premise.id }
-        ensures ready { OnOk result ((given : Given) (made : List Tree) → Ready given target.old proof.now.trees self.now args.old.items made
-            → TellsStep given proof.now premise.id
-            → Ready given target.new proof.now.trees self.now args.new.items
-            (made ++ theorem_tree given.scope premise.symbol (sequent_at proof.now.made premise.id) ∷ [])) }
+        requires kept { AreKept self.proof.now self.kept.now }
+        requires premise { premise.id < step_count self.proof.now }
+        requires told { TellsOne target.old self.proof.now self.env.now premise.id }
+        ensures ready { AddsTheorem target.old target.new self.entry args.old.items args.new.items premise result }
         ensures grows { Grows target.old target.new }
     {
-        let tree = self.theorem(target, proof, kept, premise)?;
+        let tree = self.env.theorem(target, self.proof, self.kept, premise)?;
         args.push(tree)?;
         Ok(())
     }
 
     // Adds an abstraction over the terms of a type, whose body is the tree of a term.
     pub(crate) fn add_function(
-        &self,
+        self,
         target: &mut Module,
-        proof: &Proof,
         domain: LpId,
         id: TermId,
         args: &mut Vec<LpId>,
     ) -> Result<(), Memory>
         requires domain { domain.0 < length target.old.table }
-        requires id { id.0 < length proof.now.trees.terms }
-        requires told { (given : Given) × Stands given target.old proof.now.trees self.now × IsTold given (term_at proof.now.trees id.0) }
-        ensures ready { OnOk result ((given : Given) (made : List Tree) → Ready given target.old proof.now.trees self.now args.old.items made
-            → IsTold given (term_at proof.now.trees id.0)
-            → Ready given target.new proof.now.trees self.now args.new.items
-            (made ++ Lam (terms_of (tree_at target.old.table domain.0)) (term_tree given.symbols given.scope (term_at proof.now.trees id.0)) ∷ [])) }
+        requires id { id.0 < length self.proof.now.trees.terms }
+        requires told { TellsWhere target.old self.proof.now self.env.now (TellsTermAt self.proof.now id) }
+        ensures ready { AddsFunction target.old target.new self.entry args.old.items args.new.items domain id result }
         ensures grows { Grows target.old target.new }
     {
-        let body = self.term(target, proof, id)?;
+        let body = self.env.term(target, self.proof, id)?;
         let tree = abstraction(&mut target.table, TERM, domain, body)?;
         args.push(tree)?;
         Ok(())
@@ -366,27 +381,21 @@ impl Environment {
 
     // Adds an abstraction over what a symbol gives at an index, whose body is a premise as a theorem.
     pub(crate) fn add_abstracted(
-        &self,
+        self,
         target: &mut Module,
-        proof: &Proof,
-        kept: &KeptParams,
         family: usize,
         index: LpId,
         premise: Premise,
         args: &mut Vec<LpId>,
     ) -> Result<(), Memory>
         requires index { index.0 < length target.old.table }
-        requires kept { AreKept proof.now kept.now }
-        requires premise { premise.id < step_count proof.now }
-        requires told { (given : Given) × Stands given target.old proof.now.trees self.now × TellsStep given proof.now premise.id }
-        ensures ready { OnOk result ((given : Given) (made : List Tree) → Ready given target.old proof.now.trees self.now args.old.items made
-            → TellsStep given proof.now premise.id
-            → Ready given target.new proof.now.trees self.now args.new.items
-            (made ++ Lam (App (Sym family) (tree_at target.old.table index.0))
-            (theorem_tree given.scope premise.symbol (sequent_at proof.now.made premise.id)) ∷ [])) }
+        requires kept { AreKept self.proof.now self.kept.now }
+        requires premise { premise.id < step_count self.proof.now }
+        requires told { TellsOne target.old self.proof.now self.env.now premise.id }
+        ensures ready { AddsAbstracted target.old target.new self.entry args.old.items args.new.items family index premise result }
         ensures grows { Grows target.old target.new }
     {
-        let body = self.theorem(target, proof, kept, premise)?;
+        let body = self.env.theorem(target, self.proof, self.kept, premise)?;
         let tree = abstraction(&mut target.table, family, index, body)?;
         args.push(tree)?;
         Ok(())

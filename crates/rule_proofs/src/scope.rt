@@ -1,22 +1,13 @@
 //! What stands for type variables, free variables and hypotheses.
-ghost use Rattle.std.specs.Prelude.{◌≡◌, ◌<◌, ◌^◌, [], length, IfOk, OnOk};
+ghost use Rattle.std.specs.Prelude.{◌≡◌, ◌<◌, ◌^◌, [], IfOk, OnOk};
 ghost use Rattle.std.specs.Map.{lookup};
 ghost use Rattle.hol_spec.specs.NameEquality.{name_eq};
-ghost use Rattle.hol_spec.specs.Terms.{Term, Variable as ATerm, term_eq, variable_eq};
-ghost use Rattle.hol_type.specs.Tables as type;
-ghost use Rattle.hol_term.specs.Subterms.{HaveTypes, variables_of};
-ghost use Rattle.hol_term.specs.Tables.{Trees, term_at, terms_at, AreKnown, IsDistinct};
-ghost use Rattle.hol_rules.specs.Views.{variable_view};
 ghost use Rattle.tree_map.specs.Entries.{insert_entry};
-ghost use Rattle.lp_spec.specs.Trees.{Tree, Var};
-ghost use Rattle.module_spec.specs.Scopes.{TypeScope, set_proof, set_term};
 ghost use Rattle.sequent.specs.Params.{same_variable};
 ghost use Rattle.sequent.specs.Sequents.{same_id};
 ghost use Rattle.translate_term.specs.Walks.{Grows};
-ghost use Rattle.rule_proofs.specs.Environments.{Given, Stands, TellProofs, TellTerms, TellTypes};
-ghost use Rattle.rule_proofs.specs.Placed.{placed};
-ghost use Rattle.rule_proofs.specs.Placing.{IsPlaced, ProofsAlone, TermsAlone, TypesAlone};
-ghost use Rattle.rule_proofs.specs.Rescoped.{with_scope};
+ghost use Rattle.rule_proofs.specs.Binding.{BindsProof, BindsVariable, PlacesProofs, PlacesTerms, PlacesTypes, StandsPlaced, StandsUnderProof, StandsUnderVariable};
+ghost use Rattle.rule_proofs.specs.Placing.{ProofsAlone, TermsAlone, TypesAlone};
 
 use common::Memory;
 use hol_name::Name;
@@ -49,8 +40,7 @@ impl Environment {
         inside: u128,
     ) -> Result<Environment, Memory>
         requires { inside < 2 ^ 64 }
-        ensures made { IfOk result (λ env. (given : Given) (trees : Trees)
-            → IsPlaced given target.old trees params.now.type_vars params.now.free_vars hyps.now inside → Stands given target.new trees env) }
+        ensures made { IfOk result (StandsPlaced target.old target.new params.now.type_vars params.now.free_vars hyps.now inside) }
         ensures grows { Grows target.old target.new }
     {
         let mut made = Environment::new(alloc);
@@ -66,8 +56,7 @@ impl Environment {
         inside: u128,
     ) -> Result<Environment, Memory>
         requires { inside < 2 ^ 65 }
-        ensures made { IfOk result (λ env. (given : Given) (trees : Trees) → IsPlaced given target.old trees names.now [] [] inside
-            → Stands given target.new trees env) }
+        ensures made { IfOk result (StandsPlaced target.old target.new names.now [] [] inside) }
         ensures grows { Grows target.old target.new }
     {
         let mut made = Environment::new(alloc);
@@ -89,8 +78,7 @@ impl Environment {
         requires proofs { self.old.proofs ≡ [] }
         requires scope_types { self.old.scope.types ≡ [] }
         requires scope_terms { self.old.scope.terms ≡ [] }
-        ensures made { OnOk result ((given : Given) (trees : Trees)
-            → IsPlaced given target.old trees params.now.type_vars params.now.free_vars hyps.now inside → Stands given target.new trees self.new) }
+        ensures made { OnOk result (StandsPlaced target.old target.new params.now.type_vars params.now.free_vars hyps.now inside self.new) }
         ensures grows { Grows target.old target.new }
     {
         let names = params.type_vars.names();
@@ -112,9 +100,7 @@ impl Environment {
         hyps: &[TermId],
         variable: &Variable,
     ) -> Result<Environment, Memory>
-        ensures made { IfOk result (λ env. (given : Given) (trees : Trees)
-            → IsPlaced given target.old trees params.now.type_vars params.now.free_vars hyps.now 1 → variable.now.ty.0 < length trees.types
-            → Stands (with_scope given (set_term (variable_view trees variable.now) (Var 0) given.scope)) target.new trees env) }
+        ensures made { IfOk result (StandsUnderVariable target.old target.new params.now hyps.now variable.now) }
         ensures grows { Grows target.old target.new }
     {
         let mut made = Environment::of(alloc, target, params, hyps, 1)?;
@@ -130,9 +116,7 @@ impl Environment {
         hyps: &[TermId],
         id: TermId,
     ) -> Result<Environment, Memory>
-        ensures made { IfOk result (λ env. (given : Given) (trees : Trees)
-            → IsPlaced given target.old trees params.now.type_vars params.now.free_vars hyps.now 1 → id.0 < length trees.terms
-            → Stands (with_scope given (set_proof (term_at trees id.0) (Var 0) given.scope)) target.new trees env) }
+        ensures made { IfOk result (StandsUnderProof target.old target.new params.now hyps.now id) }
         ensures grows { Grows target.old target.new }
     {
         let mut made = Environment::of(alloc, target, params, hyps, 1)?;
@@ -142,8 +126,7 @@ impl Environment {
 
     /// Lets the innermost binder stand for a variable.
     fn bind_variable(&mut self, target: &mut Module, variable: &Variable) -> Result<(), Memory>
-        ensures bound { OnOk result ((given : Given) (trees : Trees) → Stands given target.old trees self.old → variable.now.ty.0 < length trees.types
-            → Stands (with_scope given (set_term (variable_view trees variable.now) (Var 0) given.scope)) target.new trees self.new) }
+        ensures bound { OnOk result (BindsVariable target.old target.new self.old variable.now self.new) }
         ensures grows { Grows target.old target.new }
     {
         let tree = target.table.node(LpNode::Var(0))?;
@@ -153,8 +136,7 @@ impl Environment {
 
     /// Lets it prove a formula.
     fn bind_proof(&mut self, target: &mut Module, id: TermId) -> Result<(), Memory>
-        ensures bound { OnOk result ((given : Given) (trees : Trees) → Stands given target.old trees self.old → id.0 < length trees.terms
-            → Stands (with_scope given (set_proof (term_at trees id.0) (Var 0) given.scope)) target.new trees self.new) }
+        ensures bound { OnOk result (BindsProof target.old target.new self.old id self.new) }
         ensures grows { Grows target.old target.new }
     {
         let tree = target.table.node(LpNode::Var(0))?;
@@ -186,8 +168,7 @@ impl Environment {
         names: &[Name],
         depth: u128,
     ) -> Result<(), Memory>
-        ensures types { OnOk result ((scope : TypeScope) → TellTypes target.old.table self.old.types scope
-            → TellTypes target.new.table self.new.types (placed name_eq depth names.now scope)) }
+        ensures types { OnOk result (PlacesTypes target.old target.new self.old names.now depth self.new) }
         ensures alone { OnOk result (TypesAlone self.old self.new) }
         ensures grows { Grows target.old target.new }
     {
@@ -207,9 +188,7 @@ impl Environment {
         variables: &[Variable],
         depth: u128,
     ) -> Result<(), Memory>
-        ensures terms { OnOk result ((trees : Trees) (other scope : ATerm → Tree) → type.IsDistinct trees.types → HaveTypes trees variables.now
-            → TellTerms trees.types target.old.table self.old.terms other scope
-            → TellTerms trees.types target.new.table self.new.terms other (placed variable_eq depth (variables_of trees variables.now) scope)) }
+        ensures terms { OnOk result (PlacesTerms target.old target.new self.old variables.now depth self.new) }
         ensures alone { OnOk result (TermsAlone self.old self.new) }
         ensures grows { Grows target.old target.new }
     {
@@ -229,9 +208,7 @@ impl Environment {
         hyps: &[TermId],
         depth: u128,
     ) -> Result<(), Memory>
-        ensures proofs { OnOk result ((trees : Trees) (other scope : Term → Tree) → IsDistinct trees.terms → AreKnown trees hyps.now
-            → TellProofs trees target.old.table self.old.proofs other scope
-            → TellProofs trees target.new.table self.new.proofs other (placed term_eq depth (terms_at trees hyps.now) scope)) }
+        ensures proofs { OnOk result (PlacesProofs target.old target.new self.old hyps.now depth self.new) }
         ensures alone { OnOk result (ProofsAlone self.old self.new) }
         ensures grows { Grows target.old target.new }
     {

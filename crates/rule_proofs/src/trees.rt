@@ -1,8 +1,9 @@
 //! Trees that are made of symbols.
-ghost use Rattle.std.specs.Prelude.{◌≡◌, ◌<◌, ◌∷◌, ℕ, List, [], length, IfOk};
-ghost use Rattle.lp_spec.specs.Modules.{abstractions, applied, products};
-ghost use Rattle.lp_spec.specs.Trees.{Tree, App, Lam, Sym, Var};
+ghost use Rattle.std.specs.Prelude.{◌<◌, ◌∷◌, [], length, IfOk};
+ghost use Rattle.lp_spec.specs.Modules.{abstractions, applied};
+ghost use Rattle.lp_spec.specs.Trees.{App, Lam, Sym, Var};
 ghost use Rattle.lp_term.specs.Tables.{tree_at, trees_at, AreKnown, Holds, Keeps};
+ghost use Rattle.rule_proofs.specs.Abstractions.{AreDomains, IsAbstracted};
 
 use common::Memory;
 use holide_sig::call;
@@ -45,8 +46,7 @@ pub fn abstracted(
 ) -> Result<LpId, Memory>
     requires ty { ty.0 < length table.old }
     requires body { body.0 < length table.old }
-    ensures made { IfOk result (λ r. (domains : List Tree) (inside : Tree) → Holds table.old ty.0 (products domains inside) → length domains ≡ count
-        → Holds table.new r.0 (abstractions domains (tree_at table.old body.0))) }
+    ensures made { IfOk result (IsAbstracted table.old table.new ty count body) }
     ensures known { IfOk result (λ r. r.0 < length table.new) }
     ensures keeps { Keeps table.old table.new }
 {
@@ -74,8 +74,7 @@ fn over(table: &mut LpTable, domains: &[LpId], body: LpId) -> Result<LpId, Memor
 fn domains(alloc: Global, table: &LpTable, ty: LpId, count: u128) -> Result<Vec<LpId>, Memory>
     requires { ty.0 < length table.now }
     ensures known { IfOk result (λ ids. AreKnown table.now ids.items) }
-    ensures are { IfOk result (λ ids. (domains : List Tree) (inside : Tree) → Holds table.now ty.0 (products domains inside) → length domains ≡ count
-        → trees_at table.now ids.items ≡ domains) }
+    ensures are { IfOk result (λ ids. AreDomains table.now ty count ids.items) }
 {
     let mut domains = Vec::new(alloc);
     let mut rest = ty;

@@ -18,7 +18,7 @@ use Rattle.module_spec.specs.Items.{declaration_of}
 use Rattle.module_spec.specs.MadeItems.{content_by}
 use Rattle.module_spec.specs.Rows.{has_row, proof_tree}
 use Rattle.module_spec.specs.Scopes.{Symbols, Scope, conclusion_tree, domains_of, scope_of, sequent_tree, term_domains, proof_domains, under_term, under_proof, scope_of_types, scope_of_terms}
-use Rattle.translate_rule.specs.Steps.{TellsContent, TellsGiven, TellsRow, needed_at, content_at, symbol_in, row_of}
+use Rattle.translate_rule.specs.Steps.{TellsContent, TellsGiven, TellsProof, needed_at, content_at, symbol_in, rule_tree}
 use Rattle.rule_proofs.specs.Told.{TellsSequent}
 use Rattle.translate_rule.proofs.StepLaws.{step-sequent}
 
@@ -38,20 +38,20 @@ domains-length symbols s =
     let proofs = proof_domains symbols s.hypotheses (scope_of_terms symbols s) in
     omega (arith, length-append (names ++ terms) proofs, length-append names terms, length-map (type_variables_of s) (λ (n : Name). types), terms-length symbols (free_variables_of s) (scope_of_types symbols s), proofs-length symbols s.hypotheses (scope_of_terms symbols s))
 
--- what a content tells of a step that has a row, and of one that has none
-content-by-row : (d : List Declaration) (tables : Symbols) (b : Bool) (kind : StepKind) (js : List ℕ) (ss : List Sequent) (given : Parameters) (s : Sequent) → b ≡ true → TellsContent d tables (content_by b kind js ss given s)
+-- what a content tells of a step that has a proof, and of one that has none
+content-by-proof : (d : List Declaration) (tables : Symbols) (b : Bool) (kind : StepKind) (js : List ℕ) (ss : List Sequent) (given : Parameters) (s : Sequent) → b ≡ true → TellsContent d tables (content_by b kind js ss given s)
     → TellsSequent d tables s × AllByRecursion (TellsSequent d tables) ss × TellsGiven d tables given
-content-by-row d tables true kind js ss given s e h = h
-content-by-row d tables false kind js ss given s e h = absurd (cc)
+content-by-proof d tables true kind js ss given s e h = h
+content-by-proof d tables false kind js ss given s e h = absurd (cc)
 
 content-by-own : (d : List Declaration) (tables : Symbols) (b : Bool) (kind : StepKind) (js : List ℕ) (ss : List Sequent) (given : Parameters) (s : Sequent) → TellsContent d tables (content_by b kind js ss given s) → TellsSequent d tables s
 content-by-own d tables true kind js ss given s h = h.0
 content-by-own d tables false kind js ss given s h = h
 
-declared-by-row : (tables : Symbols) (name : List ℕ) (b : Bool) (kind : StepKind) (js : List ℕ) (ss : List Sequent) (given : Parameters) (s : Sequent) → b ≡ true
+declared-by-proof : (tables : Symbols) (name : List ℕ) (b : Bool) (kind : StepKind) (js : List ℕ) (ss : List Sequent) (given : Parameters) (s : Sequent) → b ≡ true
     → declaration_of tables name (content_by b kind js ss given s) ≡ theorem name (domains_of tables s) (conclusion_tree tables s) (proof_tree tables (scope_of tables s) kind js ss given)
-declared-by-row tables name true kind js ss given s e = refl
-declared-by-row tables name false kind js ss given s e = absurd (cc)
+declared-by-proof tables name true kind js ss given s e = refl
+declared-by-proof tables name false kind js ss given s e = absurd (cc)
 
 declared-by-none : (tables : Symbols) (name : List ℕ) (b : Bool) (kind : StepKind) (js : List ℕ) (ss : List Sequent) (given : Parameters) (s : Sequent) → b ≡ false → declaration_of tables name (content_by b kind js ss given s) ≡ symbol name (sequent_tree tables s)
 declared-by-none tables name false kind js ss given s e = refl
@@ -65,26 +65,26 @@ module _ (k : Kept) (id : ℕ) (l : id < step_count k) (p : IsProof k.made) (num
   own-sequent : x.sequent ≡ sequent_at k.made id
   own-sequent = needed-sequent (map (sequent_at k.made) (step_at k.made id).premises) (step_at k.made id) ∙ step-sequent k.made p id l
 
-  own-row : has_row x.kind ≡ has_row (step_at k.made id).kind
-  own-row = needed-row (map (sequent_at k.made) (step_at k.made id).premises) (step_at k.made id)
+  own-proved : has_row x.kind ≡ has_row (step_at k.made id).kind
+  own-proved = needed-row (map (sequent_at k.made) (step_at k.made id).premises) (step_at k.made id)
 
   pub content-own : TellsContent d tables (content_at numbers k.made id) → TellsSequent d tables (sequent_at k.made id)
   content-own h =
       subst (TellsSequent d tables) own-sequent (content-by-own d tables (has_row x.kind) x.kind (map (symbol_in numbers) x.premises) (map (sequent_at k.made) x.premises) x.parameters x.sequent h)
 
-  pub content-row : has_row (step_at k.made id).kind ≡ true → TellsContent d tables (content_at numbers k.made id) → TellsRow d tables k.made x
-  content-row e h =
-      let told = content-by-row d tables (has_row x.kind) x.kind (map (symbol_in numbers) x.premises) (map (sequent_at k.made) x.premises) x.parameters x.sequent (own-row ∙ e) h in
+  pub content-proved : has_row (step_at k.made id).kind ≡ true → TellsContent d tables (content_at numbers k.made id) → TellsProof d tables k.made x
+  content-proved e h =
+      let told = content-by-proof d tables (has_row x.kind) x.kind (map (symbol_in numbers) x.premises) (map (sequent_at k.made) x.premises) x.parameters x.sequent (own-proved ∙ e) h in
       record { own = told.0; premises = told.1; given = told.2 }
 
   -- its declaration
-  pub declared-row : (name : List ℕ) → has_row (step_at k.made id).kind ≡ true
-      → theorem name (domains_of tables (sequent_at k.made id)) (conclusion_tree tables (sequent_at k.made id)) (row_of tables (scope_of tables (sequent_at k.made id)) numbers k.made x) ≡ declaration_of tables name (content_at numbers k.made id)
-  declared-row name e =
-      sym (declared-by-row tables name (has_row x.kind) x.kind (map (symbol_in numbers) x.premises) (map (sequent_at k.made) x.premises) x.parameters x.sequent (own-row ∙ e)
-      ∙ ap (λ s. theorem name (domains_of tables s) (conclusion_tree tables s) (row_of tables (scope_of tables s) numbers k.made x)) own-sequent)
+  pub declared-proved : (name : List ℕ) → has_row (step_at k.made id).kind ≡ true
+      → theorem name (domains_of tables (sequent_at k.made id)) (conclusion_tree tables (sequent_at k.made id)) (rule_tree tables (scope_of tables (sequent_at k.made id)) numbers k.made x) ≡ declaration_of tables name (content_at numbers k.made id)
+  declared-proved name e =
+      sym (declared-by-proof tables name (has_row x.kind) x.kind (map (symbol_in numbers) x.premises) (map (sequent_at k.made) x.premises) x.parameters x.sequent (own-proved ∙ e)
+      ∙ ap (λ s. theorem name (domains_of tables s) (conclusion_tree tables s) (rule_tree tables (scope_of tables s) numbers k.made x)) own-sequent)
 
   pub declared-none : (name : List ℕ) → has_row (step_at k.made id).kind ≡ false → symbol name (sequent_tree tables (sequent_at k.made id)) ≡ declaration_of tables name (content_at numbers k.made id)
   declared-none name e =
-      sym (declared-by-none tables name (has_row x.kind) x.kind (map (symbol_in numbers) x.premises) (map (sequent_at k.made) x.premises) x.parameters x.sequent (own-row ∙ e)
+      sym (declared-by-none tables name (has_row x.kind) x.kind (map (symbol_in numbers) x.premises) (map (sequent_at k.made) x.premises) x.parameters x.sequent (own-proved ∙ e)
       ∙ ap (λ s. symbol name (sequent_tree tables s)) own-sequent)

@@ -31,9 +31,10 @@ use Rattle.telling_laws.specs.Positions.{index-front, get-within}
 use Rattle.translate_rule.specs.declared.items.Item.{Item as AnItem}
 use Rattle.translate_rule.specs.declared.items.Item.TheVariants as item
 use Rattle.translate_rule.specs.declared.items.TypeDefinition.{TypeDefinition}
-use Rattle.translate_rule.specs.declared.making.Making.{Making}
-use Rattle.translate_rule.specs.ItemViews.{run_of, names_of, part_name, part_content, IsDefinitionKnown}
-use Rattle.translate_rule.specs.Making.{AreCounted, IsMaking, IsNextItem}
+use Rattle.translate_rule.specs.declared.builder.ModuleBuilder.{ModuleBuilder}
+use Rattle.translate_rule.specs.declared.run.Run.{Run}
+use Rattle.translate_rule.specs.ItemViews.{accepted, names_of, part_name, part_content, IsDefinitionKnown}
+use Rattle.translate_rule.specs.Building.{AddsItem, AreCounted, IsBuilt, IsNextItem}
 use Rattle.translate_rule.specs.Steps.{symbol_in}
 use Rattle.translate_rule.proofs.NextItems.{content-next}
 
@@ -53,9 +54,12 @@ index-is [] i x d e = absurd (cc)
 index-is (y ∷ xs) zero x d e = same_Some _ _ e
 index-is (y ∷ xs) (suc i) x d e = index-is xs i x d e
 
-module _ (k : Kept) (assumptions exports : List ℕ) (earlier : List Made) (d : TypeDefinition) where
+module _ (r : Run) (earlier : List Made) (d : TypeDefinition) where
   abbrev run : Accepted
-  run = run_of k assumptions exports
+  run = accepted r
+
+  abbrev k : Kept
+  k = r.proof.now
 
   abbrev names : TypeNames
   names = names_of d
@@ -82,12 +86,8 @@ module _ (k : Kept) (assumptions exports : List ℕ) (earlier : List Made) (d : 
   abbrev pub up_to_abstraction : List Item
   up_to_abstraction = definition_up_to run earlier (made_part part.Operator ∷ made_part part.Abstraction ∷ [])
 
-  -- what adds this item
-  abbrev pub Adds : AnItem → Making → Making → Type 0
-  Adds own old new = (items grown : List Item) → AreCounted run items old → IsNextItem run items grown k old.numbers.items own → AreCounted run grown new
-
-  module _ (sound : IsSoundRun (run_of k assumptions exports)) (later : List Made) (whole : k.made ≡ earlier ++ definition_made k.trees d.view d.premise ∷ later) (known : IsKnownSymbol k.trees (operator_of_view d.view)) (old : Making)
-      (h : IsMaking (run_of k assumptions exports) earlier old) where
+  module _ (sound : IsSoundRun run) (later : List Made) (whole : k.made ≡ earlier ++ definition_made k.trees d.view d.premise ∷ later) (known : IsKnownSymbol k.trees (operator_of_view d.view)) (old : ModuleBuilder)
+      (h : IsBuilt run earlier old) where
     abbrev y : Made
     y = definition_made k.trees d.view d.premise
 
@@ -105,7 +105,7 @@ module _ (k : Kept) (assumptions exports : List ℕ) (earlier : List Made) (d : 
         ∙ index-is (sequents_of earlier) i is-defined.one nothing_said is-defined.at
 
     -- while the steps so far have their symbols
-    module _ (now : Making) (same : now.numbers ≡ old.numbers) where
+    module _ (now : ModuleBuilder) (same : now.numbers ≡ old.numbers) where
       definition-known : IsDefinitionKnown k now.numbers.items d
       definition-known =
           let within = law.earlier_premise in
@@ -149,13 +149,13 @@ module _ (k : Kept) (assumptions exports : List ℕ) (earlier : List Made) (d : 
           (next-part part.Representation (made_part part.Operator ∷ made_part part.Abstraction ∷ []) [] refl)
 
     -- they are added one after another
-    pub operator-counted : (one : Making) → Adds (item.Part part.Operator d) old one → AreCounted run up_to_operator one
+    pub operator-counted : (one : ModuleBuilder) → AddsItem r (item.Part part.Operator d) old one → AreCounted run up_to_operator one
     operator-counted one add = add (items_made run earlier) up_to_operator h.counted (next-operator old refl)
 
-    pub abstraction-counted : (one two : Making) → Adds (item.Part part.Operator d) old one → one.numbers ≡ old.numbers → Adds (item.Part part.Abstraction d) one two → AreCounted run up_to_abstraction two
+    pub abstraction-counted : (one two : ModuleBuilder) → AddsItem r (item.Part part.Operator d) old one → one.numbers ≡ old.numbers → AddsItem r (item.Part part.Abstraction d) one two → AreCounted run up_to_abstraction two
     abstraction-counted one two add same more = more up_to_operator up_to_abstraction (operator-counted one add) (next-abstraction one same)
 
-    pub definition-counted : (one two new : Making) → Adds (item.Part part.Operator d) old one → one.numbers ≡ old.numbers → Adds (item.Part part.Abstraction d) one two → two.numbers ≡ old.numbers → Adds (item.Part part.Representation d) two new
+    pub definition-counted : (one two new : ModuleBuilder) → AddsItem r (item.Part part.Operator d) old one → one.numbers ≡ old.numbers → AddsItem r (item.Part part.Abstraction d) one two → two.numbers ≡ old.numbers → AddsItem r (item.Part part.Representation d) two new
         → AreCounted run (items_made run (earlier ++ y ∷ [])) new
     definition-counted one two new add same more same2 last =
         last up_to_abstraction (items_made run (earlier ++ y ∷ [])) (abstraction-counted one two add same more) (next-representation two same2)

@@ -24,8 +24,9 @@ use Rattle.telling_laws.specs.NextSteps.{next-premises}
 use Rattle.telling_laws.specs.Positions.{index-front, index-seam}
 use Rattle.translate_rule.specs.declared.items.Item.{Item as AnItem}
 use Rattle.translate_rule.specs.declared.items.Item.TheVariants as item
-use Rattle.translate_rule.specs.ItemViews.{run_of, item_name, item_content, IsItemKnown}
-use Rattle.translate_rule.specs.Making.{HaveNumbers, IsKeptItem, IsNextItem}
+use Rattle.translate_rule.specs.declared.run.Run.{Run}
+use Rattle.translate_rule.specs.ItemViews.{accepted, item_name, item_content, IsItemKnown}
+use Rattle.translate_rule.specs.Building.{HaveNumbers, IsKeptItem, IsNextItem}
 use Rattle.translate_rule.specs.Steps.{symbol_in, needed_at, content_at}
 use Rattle.translate_rule.proofs.RunLaws.{step-there, step-within, steps-more}
 
@@ -87,9 +88,12 @@ numbers-of : (run : Accepted) (earlier : List Made) (numbers : List ℕ) → Hav
 numbers-of run earlier numbers have [] h l = refl
 numbers-of run earlier numbers have (k ∷ ks) h l = λ i. sym (have k h.0 l.0) i ∷ numbers-of run earlier numbers have ks h.1 l.1 i
 
-module _ (k : Kept) (assumptions exports : List ℕ) (sound : IsSoundRun (run_of k assumptions exports)) (earlier later : List Made) (x : Step) (whole : k.made ≡ earlier ++ Made.step x ∷ later) where
+module _ (r : Run) (sound : IsSoundRun (accepted r)) (earlier later : List Made) (x : Step) (whole : r.proof.now.made ≡ earlier ++ Made.step x ∷ later) where
   abbrev run : Accepted
-  run = run_of k assumptions exports
+  run = accepted r
+
+  abbrev k : Kept
+  k = r.proof.now
 
   abbrev id : ℕ
   id = length (steps_of earlier)

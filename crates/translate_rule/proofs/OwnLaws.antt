@@ -1,5 +1,5 @@
--- The binders of a step's own sequent are placed for its parameters, in its scope and under more binders.
-use Rattle.std.proofs.Common.{◌≡◌, ℕ, suc, ◌+◌, refl, sym, ap, ◌∙◌, arith, List, [], ◌∷◌, length}
+-- The binders of a step's own sequent are placed for its parameters, in its scope and under more binders; a step in a module that grew.
+use Rattle.std.proofs.Common.{◌≡◌, ℕ, suc, ◌+◌, refl, sym, ap, subst, ◌∙◌, arith, List, [], ◌∷◌, length}
 use Rattle.hol_spec.specs.Names.{Name}
 use Rattle.hol_spec.specs.NameEquality.{name_eq}
 use Rattle.hol_spec.specs.Proofs.{sequent_at}
@@ -21,7 +21,13 @@ use Rattle.rule_proofs.specs.Environments.{filled_terms, unproved}
 use Rattle.rule_proofs.specs.Placed.{placed}
 use Rattle.rule_proofs.specs.Placing.{IsPlaced}
 use Rattle.rule_proofs.specs.Rescoped.{over_types, with_scope}
+use Rattle.rule_proofs.specs.declared.scope.Environment.{Environment}
+use Rattle.rule_proofs.specs.EnvironmentLaws.{Stands-Grows}
+use Rattle.translate_rule.specs.declared.own.OwnStep.{OwnStep}
+use Rattle.translate_rule.specs.OwnSteps.{own_scope, proof_in, IsReady, StandsFor}
 use Rattle.translate_rule.specs.Steps.{given_at, given_over, AreParams}
+use Rattle.translate_term.specs.GrowLaws.{declarations_of-Grows, IsHeld-Grows}
+use Rattle.translate_term.specs.Walks.{Grows}
 use Rattle.translate_rule.proofs.StatementLaws.{without_hypotheses, type_variables-joined, free_variables-joined}
 use Rattle.rule_proofs.specs.PlacedLaws.{placed-under_types, types-placed, terms-placed, proofs-placed}
 
@@ -115,3 +121,27 @@ placed-over trees d symbols m held declared one_type one_term names = record {
   terms = λ v. refl;
   proofs = λ h. refl;
 }
+
+-- over a module that grew
+module _ {old new : Module} (grows : Grows old new) where
+  -- an environment that was made while it grew stands there
+  pub StandsFor-Made : (k : Kept) (scope : Symbols → Scope) (env : Environment) → IsHeld old → StandsFor k scope old new env → StandsFor k scope new new env
+  StandsFor-Made k scope env held h d symbols e = h d symbols (sym (declarations_of-Grows _ _ grows held) ∙ e)
+
+  -- an environment stands for what it stood for
+  pub StandsFor-Grows : (k : Kept) (scope : Symbols → Scope) (env : Environment) → IsHeld old → StandsFor k scope old old env → StandsFor k scope new new env
+  StandsFor-Grows k scope env held h d symbols e = Stands-Grows grows (record { declarations = d; symbols = symbols; scope = scope symbols }) k.trees env (h d symbols (sym (declarations_of-Grows _ _ grows held) ∙ e))
+
+  -- what a module tells it tells still
+  pub told-Grows : (Told : List Declaration → Type 0) → IsHeld old → Told (declarations_of old) → Told (declarations_of new)
+  told-Grows Told held h = subst Told (sym (declarations_of-Grows _ _ grows held)) h
+
+  -- a step is as ready as before
+  pub IsReady-Grows : (step : OwnStep) → IsReady step old → IsReady step new
+  IsReady-Grows step h = record {
+    id = h.id;
+    params = h.params;
+    kept = h.kept;
+    held = IsHeld-Grows _ _ grows h.held;
+    stands = StandsFor-Grows (proof_in step) (own_scope (proof_in step) step.id) step.ground.env.now h.held h.stands;
+  }

@@ -25,7 +25,7 @@ use Rattle.telling_laws.specs.Told.{TellsContent, TellsGiven, TellsSequent}
 use Rattle.translate_term.specs.Told.{TellsTerm}
 use Rattle.translate_rule.specs.declared.items.Item.{Item as AnItem}
 use Rattle.translate_rule.specs.ItemViews.{item_name, item_content}
-use Rattle.translate_rule.specs.Making.{AreDeclared, IsKeptItem}
+use Rattle.translate_rule.specs.Building.{AreDeclared, IsKeptItem}
 use Rattle.translate_rule.specs.Steps as steps
 
 -- what a step asks of what is told

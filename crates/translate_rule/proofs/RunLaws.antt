@@ -22,7 +22,7 @@ use Rattle.module_reach.specs.MadeItems.{IsNoted}
 use Rattle.proof_laws.specs.ProofGrowth.{symbols_of-append, steps_of-append}
 use Rattle.rule_proofs.specs.Numbers.{IsRising}
 use Rattle.telling_laws.specs.Positions.{index-seam}
-use Rattle.translate_rule.specs.Making.{IsSameKind}
+use Rattle.translate_rule.specs.Building.{IsSameKind}
 
 -- the thing at a place
 pub record IsMadeAt (made : List Made) (i : ℕ) (m : OneMade) : Type 0 where

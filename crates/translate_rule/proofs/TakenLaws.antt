@@ -27,8 +27,9 @@ use Rattle.telling_laws.specs.Making.{items_made}
 use Rattle.telling_laws.specs.NextSteps.{each-at}
 use Rattle.translate_rule.specs.declared.items.Item.{Item as AnItem}
 use Rattle.translate_rule.specs.declared.items.Item.TheVariants as item
-use Rattle.translate_rule.specs.ItemViews.{run_of, item_name, item_content, IsItemKnown}
-use Rattle.translate_rule.specs.Making.{IsNextItem}
+use Rattle.translate_rule.specs.declared.run.Run.{Run}
+use Rattle.translate_rule.specs.ItemViews.{accepted, item_name, item_content, IsItemKnown}
+use Rattle.translate_rule.specs.Building.{IsNextItem}
 use Rattle.translate_rule.proofs.NextItems.{only-content}
 
 -- a plain symbol is made alone
@@ -69,9 +70,12 @@ module _ (trees : Trees) (made earlier later : List Made) (y : Made) (m : OneMad
       let e = definition-noted (named x.op.now x.abs.now x.rep.now x.names.now) (type_at trees x.whole.0) (term_at trees x.predicate.0) d.0 m d.2 in
       other e.0 d.0 e.1
 
-module _ (k : Kept) (assumptions exports : List ℕ) (earlier later : List Made) (y : Made) where
+module _ (r : Run) (earlier later : List Made) (y : Made) where
   abbrev run : Accepted
-  run = run_of k assumptions exports
+  run = accepted r
+
+  abbrev k : Kept
+  k = r.proof.now
 
   -- the one item of a symbol
   next-one : (s : Symbol) → y ≡ Made.symbol s → k.made ≡ earlier ++ y ∷ later → (c : Content) → contents_of s ≡ c ∷ [] → (numbers : List ℕ) (own : AnItem) → symbol_name s ≡ item_name run own → c ≡ item_content k numbers own → IsItemKnown k numbers own

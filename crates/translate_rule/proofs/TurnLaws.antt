@@ -11,7 +11,6 @@ use Rattle.hol_spec.specs.Symbols.{Symbol}
 use Rattle.hol_term.specs.Tables.{Trees}
 use Rattle.hol_rules.specs.declared.made.Made.{Made as OneMade}
 use Rattle.hol_rules.specs.declared.made.Made.TheVariants as one
-use Rattle.hol_rules.specs.Kept.{Kept}
 use Rattle.holide_sig.specs.Modules.{declarations_of, declaration_in}
 use Rattle.lp_spec.specs.Modules.{signature}
 use Rattle.module_reach.specs.MadeItems.{IsNoted}
@@ -20,19 +19,20 @@ use Rattle.module_spec.specs.Image.{name_in, image}
 use Rattle.module_spec.specs.Items.{Item}
 use Rattle.telling_laws.specs.Making.{items_made, is_kept, kept_of, declared}
 use Rattle.translate_rule.specs.declared.items.Item.TheVariants as item
-use Rattle.translate_rule.specs.declared.making.Making.{Making}
-use Rattle.translate_rule.specs.ItemViews.{run_of}
-use Rattle.translate_rule.specs.Making.{IsRun, AreDeclared, AreCounted, HaveNumbers, IsMaking, IsNextItem, IsSameKind}
+use Rattle.translate_rule.specs.declared.builder.ModuleBuilder.{ModuleBuilder}
+use Rattle.translate_rule.specs.declared.run.Run.{Run}
+use Rattle.translate_rule.specs.ItemViews.{accepted}
+use Rattle.translate_rule.specs.Building.{IsRun, IsStep, AreDeclared, AreCounted, HaveNumbers, IsBuilt, IsNextItem, IsSameKind}
 use Rattle.translate_rule.specs.Steps.{symbol_in}
 use Rattle.translate_rule.proofs.RunLaws.{symbol-there, symbol-within, symbols-more, symbols-same, steps-more, steps-same}
 use Rattle.translate_rule.proofs.NextItems.{next-step, next-number, numbers-more}
 
 -- an item is flagged where it is kept
-pub flag-kept : (k : Kept) (assumptions exports : List ℕ) (flags : List Bool) → IsRun k assumptions exports flags → (b v : Bool) (i n : ℕ) → b ≡ flag flags i → i ≡ n → b ≡ v → is_kept (run_of k assumptions exports) n ≡ v
-flag-kept k assumptions exports flags h b v i n e same is = sym (h.reach.each (name_in (run_of k assumptions exports)) n) ∙ ap (flag flags) (sym same) ∙ sym e ∙ is
+pub flag-kept : (r : Run) (flags : List Bool) → IsRun r flags → (b v : Bool) (i n : ℕ) → b ≡ flag flags i → i ≡ n → b ≡ v → is_kept (accepted r) n ≡ v
+flag-kept r flags h b v i n e same is = sym (h.reach.each (name_in (accepted r)) n) ∙ ap (flag flags) (sym same) ∙ sym e ∙ is
 
 -- an item that isn't kept adds nothing
-pub declared-gone : (run : Accepted) (items grown : List Item) (now : Making) → AreCounted run items now → kept_of run grown ≡ kept_of run items → AreDeclared run grown now.target
+pub declared-gone : (run : Accepted) (items grown : List Item) (now : ModuleBuilder) → AreCounted run items now → kept_of run grown ≡ kept_of run items → AreDeclared run grown now.target
 declared-gone run items grown now h e = record { held = h.declared.held; declared = h.declared.declared ∙ ap (declared run) (sym e) }
 
 -- The next symbol, by what is kept of it
@@ -69,8 +69,8 @@ taken-within trees symbols made earlier later y m i are whole noted place =
     omega (arith, within, long, place)
 
 -- After a symbol
-pub symbol-made : (run : Accepted) (earlier : List Made) (y : Made) (x : Symbol) → made_symbol y ≡ Some x → (old new : Making) (next : ℕ) → IsMaking run earlier old → AreCounted run (items_made run (earlier ++ y ∷ [])) new → new.numbers ≡ old.numbers → next ≡ old.symbol + 1
-    → IsMaking run (earlier ++ y ∷ []) (record new { symbol = next })
+pub symbol-made : (run : Accepted) (earlier : List Made) (y : Made) (x : Symbol) → made_symbol y ≡ Some x → (old new : ModuleBuilder) (next : ℕ) → IsBuilt run earlier old → AreCounted run (items_made run (earlier ++ y ∷ [])) new → new.numbers ≡ old.numbers → next ≡ old.symbol + 1
+    → IsBuilt run (earlier ++ y ∷ []) (record new { symbol = next })
 symbol-made run earlier y x one old new next h counted numbers is =
     let count = steps-same earlier y x one in
     record {
@@ -81,19 +81,19 @@ symbol-made run earlier y x one old new next h counted numbers is =
     }
 
 -- After a step
-module _ (k : Kept) (assumptions exports : List ℕ) (sound : IsSoundRun (run_of k assumptions exports)) (earlier later : List Made) (x : Step) (whole : k.made ≡ earlier ++ Made.step x ∷ later) where
+module _ (r : Run) (sound : IsSoundRun (accepted r)) (earlier later : List Made) (x : Step) (whole : r.proof.now.made ≡ earlier ++ Made.step x ∷ later) where
   abbrev run : Accepted
-  run = run_of k assumptions exports
+  run = accepted r
 
-  pub step-numbers : (old : Making) → IsMaking run earlier old → (n : ℕ) (more : List ℕ) → n ≡ length signature + length old.target.decls → more ≡ old.numbers.items ++ n ∷ []
+  pub step-numbers : (old : ModuleBuilder) → IsBuilt run earlier old → (n : ℕ) (more : List ℕ) → n ≡ length signature + length old.target.decls → more ≡ old.numbers.items ++ n ∷ []
       → HaveNumbers run (earlier ++ Made.step x ∷ []) more
   step-numbers old h n more is put =
-      numbers-more k assumptions exports sound earlier later x whole old.numbers.items more n put h.steps
-      (next-number k assumptions exports sound earlier later x whole (declarations_of old.target) h.counted.declared.declared n
+      numbers-more r sound earlier later x whole old.numbers.items more n put h.steps
+      (next-number r sound earlier later x whole (declarations_of old.target) h.counted.declared.declared n
       (is ∙ ap (λ m. length signature + m) (sym (length-map old.target.decls (declaration_in old.target.table)))))
       h.numbers
 
-  pub steps-counted : (old : Making) → IsMaking run earlier old → (n : ℕ) (more : List ℕ) → more ≡ old.numbers.items ++ n ∷ [] → length more ≡ length (steps_of (earlier ++ Made.step x ∷ []))
+  pub steps-counted : (old : ModuleBuilder) → IsBuilt run earlier old → (n : ℕ) (more : List ℕ) → more ≡ old.numbers.items ++ n ∷ [] → length more ≡ length (steps_of (earlier ++ Made.step x ∷ []))
   steps-counted old h n more put =
       let count = steps-more earlier x in
       let long = ap length put ∙ length-append old.numbers.items (n ∷ []) in
@@ -116,28 +116,33 @@ kind-noted (one.Const n) y other h = h
 kind-noted (one.TypeOp n i) y other h = h
 kind-noted (one.Step j) y other h = absurd (other j refl)
 
--- the next step as the next item
-pub step-next : (k : Kept) (assumptions exports : List ℕ) → IsSoundRun (run_of k assumptions exports) → (earlier later : List Made) (x : Step) → k.made ≡ earlier ++ Made.step x ∷ later → (now : Making) → IsMaking (run_of k assumptions exports) earlier now → (id : ℕ) → id ≡ length now.numbers.items
-    → IsNextItem (run_of k assumptions exports) (items_made (run_of k assumptions exports) earlier) (items_made (run_of k assumptions exports) (earlier ++ Made.step x ∷ [])) k now.numbers.items (item.Step id)
-step-next k assumptions exports sound earlier later x whole now h id is =
-    let run = run_of k assumptions exports in
-    subst (λ i. IsNextItem run (items_made run earlier) (items_made run (earlier ++ Made.step x ∷ [])) k now.numbers.items (item.Step i)) (sym (is ∙ h.steps))
-    (next-step k assumptions exports sound earlier later x whole now.numbers.items h.steps h.numbers)
+-- the next step, as the next item and when it is added
+module _ (r : Run) (sound : IsSoundRun (accepted r)) (earlier later : List Made) (y : Made) (whole : r.proof.now.made ≡ earlier ++ y ∷ later) (is : IsStep y) (old : ModuleBuilder) (h : IsBuilt (accepted r) earlier old) where
+  abbrev up_to : Made → List Item
+  up_to z = items_made (accepted r) (earlier ++ z ∷ [])
 
--- after it
-pub step-made : (k : Kept) (assumptions exports : List ℕ) → IsSoundRun (run_of k assumptions exports) → (earlier later : List Made) (x : Step) → k.made ≡ earlier ++ Made.step x ∷ later → (old new : Making) (n : ℕ) → IsMaking (run_of k assumptions exports) earlier old
-    → AreCounted (run_of k assumptions exports) (items_made (run_of k assumptions exports) (earlier ++ Made.step x ∷ [])) new → n ≡ length signature + length old.target.decls → new.numbers.items ≡ old.numbers.items ++ n ∷ [] → new.symbol ≡ old.symbol → IsMaking (run_of k assumptions exports) (earlier ++ Made.step x ∷ []) new
-step-made k assumptions exports sound earlier later x whole old new n h counted is put symbol = record {
-  counted = counted;
-  symbol = symbol ∙ h.symbol ∙ sym (symbols-same earlier x);
-  steps = steps-counted k assumptions exports sound earlier later x whole old h n new.numbers.items put;
-  numbers = step-numbers k assumptions exports sound earlier later x whole old h n new.numbers.items is put;
-}
+  pub step-next : (id : ℕ) → id ≡ length old.numbers.items → IsNextItem (accepted r) (items_made (accepted r) earlier) (up_to y) r.proof.now old.numbers.items (item.Step id)
+  step-next id e =
+      subst (λ (z : Made). r.proof.now.made ≡ earlier ++ z ∷ later → IsNextItem (accepted r) (items_made (accepted r) earlier) (up_to z) r.proof.now old.numbers.items (item.Step id)) (sym is.1)
+      (λ w. subst (λ i. IsNextItem (accepted r) (items_made (accepted r) earlier) (up_to (Made.step is.0)) r.proof.now old.numbers.items (item.Step i)) (sym (e ∙ h.steps))
+      (next-step r sound earlier later is.0 w old.numbers.items h.steps h.numbers))
+      whole
+
+  pub step-made : (new : ModuleBuilder) (n : ℕ) → AreCounted (accepted r) (up_to y) new → n ≡ length signature + length old.target.decls → new.numbers.items ≡ old.numbers.items ++ n ∷ [] → new.symbol ≡ old.symbol → IsBuilt (accepted r) (earlier ++ y ∷ []) new
+  step-made new n counted number put symbol =
+      subst (λ (z : Made). r.proof.now.made ≡ earlier ++ z ∷ later → AreCounted (accepted r) (up_to z) new → IsBuilt (accepted r) (earlier ++ z ∷ []) new) (sym is.1)
+      (λ w all. record {
+        counted = all;
+        symbol = symbol ∙ h.symbol ∙ sym (symbols-same earlier is.0);
+        steps = steps-counted r sound earlier later is.0 w old h n new.numbers.items put;
+        numbers = step-numbers r sound earlier later is.0 w old h n new.numbers.items number put;
+      })
+      whole counted
 
 -- a module on its way whose numbers alone changed
-pub counted-with : (run : Accepted) (items : List Item) (a b : Making) → AreCounted run items a → b.target ≡ a.target → b.item ≡ a.item → AreCounted run items b
+pub counted-with : (run : Accepted) (items : List Item) (a b : ModuleBuilder) → AreCounted run items a → b.target ≡ a.target → b.item ≡ a.item → AreCounted run items b
 counted-with run items a b h t i = record { declared = subst (AreDeclared run items) (sym t) h.declared; item = i ∙ h.item }
 
 -- When all is made the module is the image
-pub all-declared : (run : Accepted) (earlier : List Made) (now : Making) → earlier ≡ run.made → IsMaking run earlier now → declarations_of now.target ≡ image run
+pub all-declared : (run : Accepted) (earlier : List Made) (now : ModuleBuilder) → earlier ≡ run.made → IsBuilt run earlier now → declarations_of now.target ≡ image run
 all-declared run earlier now e h = h.counted.declared.declared ∙ ap (λ l. declared run (kept_of run (items_made run l))) e

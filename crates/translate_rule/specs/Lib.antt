@@ -2,8 +2,11 @@ pub mod Steps
 pub mod ItemViews
 pub mod Parts
 pub mod LemmaNodes
-pub mod Making
+pub mod Building
 pub mod TypeScopes
 pub mod LawSteps
 pub mod Domains
 pub mod Unnamed
+pub mod Declaring
+pub mod OwnSteps
+pub mod Products

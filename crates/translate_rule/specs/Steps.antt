@@ -36,9 +36,9 @@ content_at numbers made id =
     let x = needed_at made id in
     content_by (has_row x.kind) x.kind (map (symbol_in numbers) x.premises) (map (sequent_at made) x.premises) x.parameters x.sequent
 
--- the row of its rule
-abbrev pub row_of : Symbols → Scope → List ℕ → List Made → Step → Tree
-row_of symbols scope numbers made x = proof_tree symbols scope x.kind (map (symbol_in numbers) x.premises) (map (sequent_at made) x.premises) x.parameters
+-- the proof of a step by its rule
+abbrev pub rule_tree : Symbols → Scope → List ℕ → List Made → Step → Tree
+rule_tree symbols scope numbers made x = proof_tree symbols scope x.kind (map (symbol_in numbers) x.premises) (map (sequent_at made) x.premises) x.parameters
 
 -- a module tells the constants that are put for variables
 abbrev pub TellsGiven : List Declaration → Symbols → Parameters → Type 0
@@ -57,7 +57,7 @@ TellsContent declarations symbols (unproved s) = TellsSequent declarations symbo
 TellsContent declarations symbols (step kind js premises given s) = TellsSequent declarations symbols s × AllByRecursion (TellsSequent declarations symbols) premises × TellsGiven declarations symbols given
 
 -- in a step, its premises and what it was given
-pub record TellsRow (declarations : List Declaration) (symbols : Symbols) (made : List Made) (x : Step) : Type 0 where
+pub record TellsProof (declarations : List Declaration) (symbols : Symbols) (made : List Made) (x : Step) : Type 0 where
   pub own : TellsSequent declarations symbols x.sequent
   pub premises : AllByRecursion (TellsSequent declarations symbols) (map (sequent_at made) x.premises)
   pub given : TellsGiven declarations symbols x.parameters

@@ -3,28 +3,28 @@ ghost use Rattle.std.specs.Prelude.{◌≡◌, ◌<◌, length, IfOk, List, ℕ}
 ghost use Rattle.hol_spec.specs.Primitives.{generic};
 ghost use Rattle.hol_term.specs.Tables.{term_at, type_at};
 ghost use Rattle.hol_type.specs.Tables as type;
-ghost use Rattle.holide_sig.specs.Modules.{declaration_in, declarations_of, IsHeld, IsKnown};
+ghost use Rattle.holide_sig.specs.Modules.{declarations_of, IsHeld, IsKnown};
 ghost use Rattle.lp_spec.specs.declared.form.Form.TheVariants as form;
-ghost use Rattle.lp_term.specs.Tables.{Holds};
 ghost use Rattle.module_spec.specs.Image.{constant_name as name_of_constant, input_constant_name as name_of_input_constant};
-ghost use Rattle.module_spec.specs.Items.{Content, declaration_of, definition_tree};
-ghost use Rattle.module_spec.specs.Scopes.{Symbols as Tables, generic_tree};
+ghost use Rattle.module_spec.specs.Items.{Content};
+ghost use Rattle.module_spec.specs.Scopes.{Symbols as Tables};
 ghost use Rattle.rule_proofs.specs.Keeping.{AreKept};
 ghost use Rattle.rule_proofs.specs.Numbers.{IsRising};
-ghost use Rattle.telling_laws.specs.Told.{TellsContent};
 ghost use Rattle.translate_term.specs.Told.{TellsTerm, TellsType};
 ghost use Rattle.translate_term.specs.Walks.{Grows};
-ghost use Rattle.translate_rule.specs.ItemViews.{item_content, item_name, run_of, IsItemKnown};
+ghost use Rattle.translate_rule.specs.Declaring.{IsDeclared, IsDefinitionBody, IsGenericType, IsItemDeclared, IsSymbolOf, IsTold};
+ghost use Rattle.translate_rule.specs.ItemViews.{constant_at, item_content, IsItemKnown};
 
 use crate::declaration::step_with;
 use crate::generics::{at_types, operator_type, over_types, terms, terms_of_all, type_scope};
 use crate::parts::part_declaration;
 use crate::premises::with_symbol;
+use crate::run::Run;
 use crate::symbol_names::{constant_name, input_constant_name, input_operator_name};
 use common::Memory;
 use hol_defs::TypeOpView;
 use hol_name::Name;
-use hol_rules::{Proof, StepId};
+use hol_rules::StepId;
 use hol_term::{TermId, TermTable};
 use hol_type::{TypeId, TypeTable};
 use holide_sig::{Decl, Form, Ident, Module};
@@ -61,25 +61,21 @@ pub(crate) enum Item<'a> {
 pub(crate) fn declaration(
     alloc: Global,
     target: &mut Module,
-    proof: &Proof,
-    assumptions: &[StepId],
-    exports: &[StepId],
+    run: Run<'_>,
     numbers: &[usize],
     kept: &mut KeptParams,
     item: Item<'_>,
 ) -> Result<Decl, Memory>
-    requires kept { AreKept proof.now kept.old }
-    requires known { IsItemKnown proof.now numbers.now item }
-    requires assumptions { IsRising assumptions.now }
-    requires exports { IsRising exports.now }
+    requires kept { AreKept run.proof.now kept.old }
+    requires known { IsItemKnown run.proof.now numbers.now item }
+    requires assumptions { IsRising run.assumptions.now }
+    requires exports { IsRising run.exports.now }
     requires held { IsHeld target.old }
-    requires told { (tables : Tables) × TellsContent (declarations_of target.old) tables (item_content proof.now numbers.now item) }
-    ensures made { IfOk result (λ decl. (tables : Tables) → TellsContent (declarations_of target.old) tables (item_content proof.now numbers.now item.entry)
-        → declaration_in target.new.table decl ≡ declaration_of tables (item_name (run_of proof.now assumptions.now exports.now) item.entry)
-        (item_content proof.now numbers.now item.entry)) }
+    requires told { IsTold target.old (item_content run.proof.now numbers.now item) }
+    ensures made { IfOk result (IsItemDeclared target.old target.new run.entry numbers.now item.entry) }
     ensures known { IfOk result (IsKnown target.new.table) }
     ensures grows { Grows target.old target.new }
-    ensures kept { AreKept proof.now kept.new }
+    ensures kept { AreKept run.entry.proof.now kept.new }
 {
     match item {
         Item::InputConst(name) => input_constant(alloc, target, name),
@@ -87,31 +83,21 @@ pub(crate) fn declaration(
             let text = input_operator_name(alloc, name, arity)?;
             operator(target, text, arity)
         }
-        Item::Const(name, term, ty) => constant(alloc, target, proof.terms(), name, term, ty),
+        Item::Const(name, term, ty) => constant(alloc, target, run.proof.terms(), name, term, ty),
         Item::Part(part, definition) => {
             let one = with_symbol(numbers, definition.premise);
-            part_declaration(alloc, target, proof, part, definition.view, one)
+            part_declaration(alloc, target, run.proof, part, definition.view, one)
         }
         Item::Step(id) => {
-            kept.note(proof, id)?;
-            step_with(
-                alloc,
-                target,
-                proof,
-                assumptions,
-                exports,
-                numbers,
-                kept,
-                id,
-            )
+            kept.note(run.proof, id)?;
+            step_with(alloc, target, run, numbers, kept, id)
         }
     }
 }
 
 // An input constant.
 fn input_constant(alloc: Global, target: &mut Module, name: &Name) -> Result<Decl, Memory>
-    ensures made { IfOk result (λ decl. (tables : Tables)
-        → declaration_in target.new.table decl ≡ declaration_of tables (name_of_input_constant name.now) (Content.constant name.now generic)) }
+    ensures made { IfOk result (IsSymbolOf target.new (name_of_input_constant name.now) (Content.constant name.now generic)) }
     ensures known { IfOk result (IsKnown target.new.table) }
     ensures grows { Grows target.old target.new }
 {
@@ -122,8 +108,7 @@ fn input_constant(alloc: Global, target: &mut Module, name: &Name) -> Result<Dec
 
 // An operator with so many arguments.
 fn operator(target: &mut Module, text: Vec<u8>, arity: usize) -> Result<Decl, Memory>
-    ensures made { IfOk result (λ decl. (tables : Tables) (n : List (List ℕ))
-        → declaration_in target.new.table decl ≡ declaration_of tables text.items (Content.operator n arity)) }
+    ensures made { IfOk result (λ decl. (n : List (List ℕ)) → IsSymbolOf target.new text.items (Content.operator n arity) decl) }
     ensures known { IfOk result (IsKnown target.new.table) }
     ensures grows { Grows target.old target.new }
 {
@@ -143,12 +128,8 @@ fn constant(
     requires term { term.0 < length table.now.terms }
     requires id { id.0 < length table.now.types }
     requires held { IsHeld target.old }
-    requires told { (tables : Tables) × TellsType (declarations_of target.old) tables (type_at table.now id.0)
-        × TellsTerm (declarations_of target.old) tables (term_at table.now term.0) }
-    ensures made { IfOk result (λ decl. (tables : Tables) → TellsType (declarations_of target.old) tables (type_at table.now id.0)
-        → TellsTerm (declarations_of target.old) tables (term_at table.now term.0)
-        → declaration_in target.new.table decl ≡ declaration_of tables (name_of_constant name.now)
-        (Content.defined_constant name.now (type_at table.now id.0) (term_at table.now term.0))) }
+    requires told { IsTold target.old (constant_at table.now name.now term id) }
+    ensures made { IfOk result (IsDeclared target.old target.new (name_of_constant name.now) (constant_at table.now name.now term id)) }
     ensures known { IfOk result (IsKnown target.new.table) }
     ensures grows { Grows target.old target.new }
 {
@@ -185,8 +166,7 @@ pub(crate) fn constant_type(
     requires id { id.0 < length types.now }
     requires held { IsHeld target.old }
     requires told { (tables : Tables) × TellsType (declarations_of target.old) tables (type.tree_at types.now id.0) }
-    ensures made { IfOk result (λ r. (tables : Tables) → TellsType (declarations_of target.old) tables (type.tree_at types.now id.0)
-        → Holds target.new.table r.0 (generic_tree tables (type.tree_at types.now id.0))) }
+    ensures made { IfOk result (IsGenericType target.old target.new (type.tree_at types.now id.0)) }
     ensures known { IfOk result (λ r. r.0 < length target.new.table) }
     ensures grows { Grows target.old target.new }
 {
@@ -209,8 +189,7 @@ fn definition(
     requires id { id.0 < length table.now.types }
     requires held { IsHeld target.old }
     requires told { (tables : Tables) × TellsTerm (declarations_of target.old) tables (term_at table.now term.0) }
-    ensures made { IfOk result (λ r. (tables : Tables) → TellsTerm (declarations_of target.old) tables (term_at table.now term.0)
-        → Holds target.new.table r.0 (definition_tree tables (type_at table.now id.0) (term_at table.now term.0))) }
+    ensures made { IfOk result (IsDefinitionBody target.old target.new (type_at table.now id.0) (term_at table.now term.0)) }
     ensures known { IfOk result (λ r. r.0 < length target.new.table) }
     ensures grows { Grows target.old target.new }
 {

@@ -1,5 +1,5 @@
 //! The two lemmas with which each module begins.
-ghost use Rattle.std.specs.Prelude.{◌≡◌, ◌<◌, ◌++◌, ◌∷◌, List, [], length, IfOk, IsTrue, OnOk};
+ghost use Rattle.std.specs.Prelude.{◌≡◌, ◌<◌, ◌++◌, List, [], length, IfOk, IsTrue, OnOk};
 ghost use Rattle.holide_sig.specs.Modules.{declarations_of, IsHeld};
 ghost use Rattle.holide_sig.specs.Nodes.{trees_with};
 ghost use Rattle.lp_spec.specs.Lemmas.{lemmas};
@@ -7,7 +7,7 @@ ghost use Rattle.lp_spec.specs.ModuleOrder.{MayFollow};
 ghost use Rattle.lp_spec.specs.Modules.{signature};
 ghost use Rattle.lp_spec.specs.Trees.{Tree};
 ghost use Rattle.lp_term.specs.Tables.{trees_at, tree_of_node, AreKnown, Keeps, PartsBelow};
-ghost use Rattle.translate_rule.specs.LemmaNodes.{are_ordered, theorem_at};
+ghost use Rattle.translate_rule.specs.LemmaNodes.{are_ordered, theorem_at, with_theorem};
 
 use common::Memory;
 use holide_sig::{Decl, Form, Ident, Module};
@@ -160,8 +160,7 @@ fn declare(
     requires ty { ty < length ids.now }
     requires body { body < length ids.now }
     requires follows { MayFollow (signature ++ declarations_of target.old) (theorem_at (trees_at target.old.table ids.now) name.now ty body) }
-    ensures declared { OnOk result (declarations_of target.new ≡ declarations_of target.old ++ theorem_at
-        (trees_at target.old.table ids.now) name.now ty body ∷ []) }
+    ensures declared { OnOk result (declarations_of target.new ≡ with_theorem (declarations_of target.old) (trees_at target.old.table ids.now) name.now ty body) }
     ensures table { target.new.table ≡ target.old.table }
     ensures held { IsHeld target.new }
 {

@@ -17,10 +17,11 @@
 //! |---|---|
 //! | `declaration` | `step`: the name, the type and the body of a declaration |
 //! | `statement` | the type: the product over the binders of a sequent's parameters |
-//! | `row` | the proof of a step by its rule, one function for the rules with as many premises, and one for each rule that was given more than premises or has binders of its own |
+//! | `proof_term` | the proof term of a step, by its rule; a function for each rule that was given more than premises or has binders of its own |
 //! | `premises` | the premises of a step, with the symbols of their declarations; whether the first of `proveHyp` proves nothing |
-//! | `own` | the environment of a step's own parameters, also under one binder more |
-//! | `making` | `module`: the module of a run, item by item |
+//! | `own` | a step in the environment of its own binders, and that environment, also under one binder more |
+//! | `builder` | `module`: the module of a run, item by item |
+//! | `run` | a run: its proof with its assumptions and exports |
 //! | `items` | an item of what was made, and its declaration |
 //! | `parts` | the declarations of a type definition's operator and constants, by the theorem from which it is made |
 //! | `generics` | types and definitions of constants, over the type variables of their types |
@@ -28,17 +29,18 @@
 //! | `lemmas` | the two lemmas with which each module begins, by the nodes of their trees |
 #![tactic(auto)]
 
+mod builder;
 mod declaration;
 mod generics;
 mod items;
 mod lemmas;
-mod making;
 mod own;
 mod parts;
 mod premises;
-mod row;
+mod proof_term;
+mod run;
 mod statement;
 mod symbol_names;
 
+pub use builder::module;
 pub use declaration::step;
-pub use making::module;

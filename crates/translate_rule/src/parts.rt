@@ -1,27 +1,19 @@
 //! The declarations of a type definition's operator and constants: what each stands for is a symbol of the signature at the theorem from
 //! which the definition is made.
-ghost use Rattle.std.specs.Prelude.{◌≡◌, ◌<◌, length, replicate, IfOk};
+ghost use Rattle.std.specs.Prelude.{◌≡◌, ◌<◌, length, IfOk};
 ghost use Rattle.hol_defs.specs.Symbols.{IsKnownSymbol};
 ghost use Rattle.hol_defs.specs.Views.{operator_of_view};
-ghost use Rattle.hol_spec.specs.Proofs.{sequent_at};
-ghost use Rattle.hol_spec.specs.TypeDefinitions.{IsTypeDefinition};
 ghost use Rattle.hol_spec.specs.Types.{type_variables};
-ghost use Rattle.hol_term.specs.Tables.{term_at, type_at};
+ghost use Rattle.hol_term.specs.Tables.{type_at};
 ghost use Rattle.hol_rules.specs.Kept.{step_count};
-ghost use Rattle.holide_sig.specs.Modules.{declaration_in, declarations_of, IsHeld, IsKnown};
-ghost use Rattle.lp_spec.specs.Modules.{abstractions, types as simple_types};
-ghost use Rattle.lp_term.specs.Tables.{Holds};
-ghost use Rattle.module_spec.specs.Items.{declaration_of, part_definition_tree};
-ghost use Rattle.module_spec.specs.ProofTrees.{part_tree};
-ghost use Rattle.module_spec.specs.Scopes.{Symbols};
+ghost use Rattle.holide_sig.specs.Modules.{IsHeld, IsKnown};
 ghost use Rattle.rule_proofs.specs.Environments.{Given, Stands};
-ghost use Rattle.rule_proofs.specs.Parts.{part_symbol, whole_type, IsDefiningStep, TellsWhole};
-ghost use Rattle.rule_proofs.specs.Told.{TellsSequent, TellsStep};
-ghost use Rattle.telling_laws.specs.Told.{TellsContent};
-ghost use Rattle.translate_term.specs.Told.{TellsType};
+ghost use Rattle.rule_proofs.specs.Parts.{IsDefiningStep, TellsWhole};
+ghost use Rattle.rule_proofs.specs.Told.{TellsStep};
 ghost use Rattle.translate_term.specs.Walks.{Grows};
+ghost use Rattle.translate_rule.specs.Declaring.{IsDeclared, IsTold};
 ghost use Rattle.translate_rule.specs.ItemViews.{names_of_view, part_name as name_of_part};
-ghost use Rattle.translate_rule.specs.Parts.{part_at, part_type as type_of_part, part_variables};
+ghost use Rattle.translate_rule.specs.Parts.{part_at, IsDefining, IsDefiningTold, IsPartBody, IsPartOver, IsPartType, IsPartUnder};
 
 use crate::generics::{at_types, operator_type};
 use crate::items::constant_type;
@@ -48,12 +40,10 @@ pub(crate) fn part_declaration(
 ) -> Result<Decl, Memory>
     requires known { IsKnownSymbol proof.now.trees (operator_of_view view) }
     requires one { one.id < step_count proof.now }
-    requires defines { IsTypeDefinition (names_of_view view) (type_at proof.now.trees view.whole.0) (term_at proof.now.trees view.predicate.0)
-        (sequent_at proof.now.made one.id) }
+    requires defines { IsDefining proof.now view one.id }
     requires held { IsHeld target.old }
-    requires told { (tables : Symbols) × TellsContent (declarations_of target.old) tables (part_at proof.now part view one) }
-    ensures made { IfOk result (λ decl. (tables : Symbols) → TellsContent (declarations_of target.old) tables (part_at proof.now part view.entry one)
-        → declaration_in target.new.table decl ≡ declaration_of tables (name_of_part part (names_of_view view.entry)) (part_at proof.now part view.entry one)) }
+    requires told { IsTold target.old (part_at proof.now part view one) }
+    ensures made { IfOk result (IsDeclared target.old target.new (name_of_part part (names_of_view view.entry)) (part_at proof.now part view.entry one)) }
     ensures known { IfOk result (IsKnown target.new.table) }
     ensures grows { Grows target.old target.new }
 {
@@ -90,9 +80,8 @@ fn part_type(
 ) -> Result<LpId, Memory>
     requires known { IsKnownSymbol proof.now.trees (operator_of_view view) }
     requires held { IsHeld target.old }
-    requires told { (tables : Symbols) × TellsContent (declarations_of target.old) tables (part_at proof.now part view one) }
-    ensures made { IfOk result (λ r. (tables : Symbols) → TellsContent (declarations_of target.old) tables (part_at proof.now part view.entry one)
-        → Holds target.new.table r.0 (type_of_part tables part (names_of_view view.entry) (type_at proof.now.trees view.entry.whole.0))) }
+    requires told { IsTold target.old (part_at proof.now part view one) }
+    ensures made { IfOk result (IsPartType proof.now part view.entry one target.old target.new) }
     ensures known { IfOk result (λ r. r.0 < length target.new.table) }
     ensures grows { Grows target.old target.new }
 {
@@ -115,14 +104,10 @@ fn part_body(
 ) -> Result<LpId, Memory>
     requires known { IsKnownSymbol proof.now.trees (operator_of_view view) }
     requires one { one.id < step_count proof.now }
-    requires defines { IsTypeDefinition (names_of_view view) (type_at proof.now.trees view.whole.0) (term_at proof.now.trees view.predicate.0)
-        (sequent_at proof.now.made one.id) }
+    requires defines { IsDefining proof.now view one.id }
     requires held { IsHeld target.old }
-    requires told { (tables : Symbols) × TellsContent (declarations_of target.old) tables (part_at proof.now part view one) }
-    ensures made { IfOk result (λ r. (tables : Symbols) → TellsContent (declarations_of target.old) tables (part_at proof.now part view.entry one)
-        → Holds target.new.table r.0
-        (part_definition_tree tables (part_variables part (names_of_view view.entry) (type_at proof.now.trees view.entry.whole.0)) (part_symbol part)
-        (type_at proof.now.trees view.entry.whole.0) one.symbol (sequent_at proof.now.made one.id))) }
+    requires told { IsTold target.old (part_at proof.now part view one) }
+    ensures made { IfOk result (IsPartBody proof.now part view.entry one target.old target.new) }
     ensures known { IfOk result (λ r. r.0 < length target.new.table) }
     ensures grows { Grows target.old target.new }
 {
@@ -146,13 +131,8 @@ fn over_type(
     requires one { one.id < step_count proof.now }
     requires defines { IsDefiningStep proof.now one.id }
     requires held { IsHeld target.old }
-    requires told { (tables : Symbols) × TellsType (declarations_of target.old) tables (whole_type proof.now one.id)
-        × TellsSequent (declarations_of target.old) tables (sequent_at proof.now.made one.id) }
-    ensures made { IfOk result (λ r. (tables : Symbols) → TellsType (declarations_of target.old) tables (whole_type proof.now one.id)
-        → TellsSequent (declarations_of target.old) tables (sequent_at proof.now.made one.id)
-        → Holds target.new.table r.0
-        (part_definition_tree tables (type_variables (type_at proof.now.trees id.0)) (part_symbol part) (whole_type proof.now one.id) one.symbol
-        (sequent_at proof.now.made one.id))) }
+    requires told { IsDefiningTold proof.now one.id target.old }
+    ensures made { IfOk result (IsPartOver proof.now part (type_variables (type_at proof.now.trees id.0)) one target.old target.new) }
     ensures known { IfOk result (λ r. r.0 < length target.new.table) }
     ensures grows { Grows target.old target.new }
 {
@@ -172,12 +152,8 @@ fn over_types(
     requires one { one.id < step_count proof.now }
     requires defines { IsDefiningStep proof.now one.id }
     requires held { IsHeld target.old }
-    requires told { (tables : Symbols) × TellsType (declarations_of target.old) tables (whole_type proof.now one.id)
-        × TellsSequent (declarations_of target.old) tables (sequent_at proof.now.made one.id) }
-    ensures made { IfOk result (λ r. (tables : Symbols) → TellsType (declarations_of target.old) tables (whole_type proof.now one.id)
-        → TellsSequent (declarations_of target.old) tables (sequent_at proof.now.made one.id)
-        → Holds target.new.table r.0
-        (part_definition_tree tables names.now (part_symbol part) (whole_type proof.now one.id) one.symbol (sequent_at proof.now.made one.id))) }
+    requires told { IsDefiningTold proof.now one.id target.old }
+    ensures made { IfOk result (IsPartOver proof.now part names.now one target.old target.new) }
     ensures known { IfOk result (λ r. r.0 < length target.new.table) }
     ensures grows { Grows target.old target.new }
 {
@@ -199,11 +175,7 @@ fn under_types(
     requires one { one.id < step_count proof.now }
     requires defines { IsDefiningStep proof.now one.id }
     requires told { (given : Given) × Stands given target.old proof.now.trees env.now × TellsWhole given proof.now one.id × TellsStep given proof.now one.id }
-    ensures made { IfOk result (λ r. (given : Given) → Stands given target.old proof.now.trees env.now → TellsWhole given proof.now one.id
-        → TellsStep given proof.now one.id
-        → Holds target.new.table r.0
-        (abstractions (replicate count simple_types)
-        (part_tree given.symbols given.scope (part_symbol part) (whole_type proof.now one.id) (one.symbol, sequent_at proof.now.made one.id)))) }
+    ensures made { IfOk result (IsPartUnder proof.now env.now part count one target.old target.new) }
     ensures known { IfOk result (λ r. r.0 < length target.new.table) }
     ensures grows { Grows target.old target.new }
 {

@@ -95,6 +95,14 @@ module _ (m : List Declaration) (symbol : ℕ) (symbols : Symbols) (scope : Type
       ∙ sym (map-twice (type_tree symbols scope) (wants symbols generic t h.instance) (below (length (type_variables generic))))
       ∙ ap (map (type_tree symbols scope)) (wants-arguments symbols generic t h.instance)
 
+  -- of no variables, none
+  pub arguments-none : count ≡ 0 → [] ≡ map (type_tree symbols scope) (type_arguments generic t)
+  arguments-none e = ap (λ k. map wanted_in (below k)) (sym e) ∙ arguments-are
+
+  -- of one, what is wanted for it
+  pub argument-sole : count ≡ 1 → (x : Tree) → x ≡ wanted_in 0 → x ∷ [] ≡ map (type_tree symbols scope) (type_arguments generic t)
+  argument-sole e x h = ap (λ y. y ∷ []) h ∙ ap (λ k. map wanted_in (below k)) (sym e) ∙ arguments-are
+
 -- one argument more
 pub arguments_step : (trees : List Tree) (want : ℕ → Tree) (items : List LpId) (id : LpId) (left after : ℕ) (goal : List Tree) → tree_at trees id.0 ≡ want after → left ≡ suc after
     → trees_at trees items ++ map want (below left) ≡ goal → trees_at trees (items ++ id ∷ []) ++ map want (below after) ≡ goal

@@ -7,7 +7,7 @@ use Rattle.lp_term.specs.Tables.{tree_at, Holds}
 use Rattle.lp_term.specs.TableLaws.{Holds-tree_at}
 use Rattle.translate_term.specs.declared.generic.Meeting.{Meeting}
 use Rattle.translate_term.specs.Tasks.{IsNoted, IsDone}
-use Rattle.translate_term.specs.Patterns.{Mentions, IsLeft, IsMatching, work}
+use Rattle.translate_term.specs.Patterns.{Fits, Mentions, IsLeft, IsMatching, work}
 
 -- a matching at its beginning
 pub matching_begins : (want : ℕ → Tree) (trees : List Tree) (pattern instance : LpId) (found : List (ℕ × LpId)) → pattern.0 < length trees → instance.0 < length trees
@@ -18,6 +18,21 @@ matching_begins want trees pattern instance found p i f empty = record {
   noted = λ k id n. absurd (empty k id n);
   all = λ k m. inr (inl m);
 }
+
+-- the parts of an application meet the parts of its instance
+same-parts : (f x g y : Tree) → App f x ≡ App g y → (f ≡ g) × (x ≡ y)
+same-parts f x g y e = (let head : f ≡ g = cc in head, let argument : x ≡ y = cc in argument)
+
+pub Fits-parts : (want : ℕ → Tree) (trees : List Tree) (pattern instance f x g y : LpId) → Holds trees pattern.0 (App (tree_at trees f.0) (tree_at trees x.0))
+    → Holds trees instance.0 (App (tree_at trees g.0) (tree_at trees y.0)) → Fits want trees pattern instance → Fits want trees f g × Fits want trees x y
+Fits-parts want trees pattern instance f x g y h k fits =
+    same-parts (tree_at trees g.0) (tree_at trees y.0) (sub want (tree_at trees f.0)) (sub want (tree_at trees x.0))
+    (sym (Holds-tree_at trees instance.0 _ k) ∙ fits ∙ ap (sub want) (Holds-tree_at trees pattern.0 _ h))
+
+-- and a variable meets what is wanted for it
+pub Fits-variable : (want : ℕ → Tree) (trees : List Tree) (pattern instance : LpId) (number : ℕ) → Holds trees pattern.0 (Var number) → Fits want trees pattern instance
+    → tree_at trees instance.0 ≡ want number
+Fits-variable want trees pattern instance number h fits = fits ∙ ap (sub want) (Holds-tree_at trees pattern.0 _ h)
 
 -- what is no application
 abbrev pub is_application : Tree → Bool

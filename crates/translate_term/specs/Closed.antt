@@ -70,15 +70,18 @@ OfLastTwo P = OfLast (λ x. OfLast (P x))
 abbrev pub MakesTypes : Numbered → ℕ → Tree → List TypeWork → List form.ClosedType → List Tree → Type 0
 MakesTypes given depth root [] ts made = made ≡ root ∷ []
 MakesTypes given depth root (type_work.Next ∷ works) ts made =
-    (t : HolType) × IsTypeOf given (first no_type ts) t × MakesTypes given depth root works (others ts) (type_tree given.symbols (types_under given depth) t ∷ made)
+    (t : HolType) × IsTypeOf given (first no_type ts) t
+    × MakesTypes given depth root works (others ts) (type_tree given.symbols (types_under given depth) t ∷ made)
 MakesTypes given depth root (type_work.Apply ∷ works) ts made = OfLastTwo (λ x f rest. MakesTypes given depth root works ts (App f x ∷ rest)) made
 MakesTypes given depth root (type_work.ApplyTo k ∷ works) ts made =
-    OfLast (λ f rest. (us : List HolType) × Pairwise (IsTypeOf given) (firsts no_type k ts) us × MakesTypes given depth root works (behind k ts) (applied f (map (type_tree given.symbols (types_under given depth)) us) ∷ rest)) made
+    OfLast (λ f rest. (us : List HolType) × Pairwise (IsTypeOf given) (firsts no_type k ts) us
+    × MakesTypes given depth root works (behind k ts) (applied f (map (type_tree given.symbols (types_under given depth)) us) ∷ rest)) made
 
 abbrev pub MakesTerms : Numbered → Tree → List TermWork → List form.ClosedTerm → List Tree → Type 0
 MakesTerms given root [] ts made = made ≡ root ∷ []
 MakesTerms given root (term_work.Next depth ∷ works) ts made =
-    (t : Term) × IsTermOf given (first no_term ts) t × IsInside given depth × MakesTerms given root works (others ts) (term_tree given.symbols (scope_under given depth) t ∷ made)
+    (t : Term) × IsTermOf given (first no_term ts) t × IsInside given depth
+    × MakesTerms given root works (others ts) (term_tree given.symbols (scope_under given depth) t ∷ made)
 MakesTerms given root (term_work.Apply ∷ works) ts made = OfLastTwo (λ x f rest. MakesTerms given root works ts (App f x ∷ rest)) made
 MakesTerms given root (term_work.Bind ∷ works) ts made = OfLastTwo (λ b a rest. MakesTerms given root works ts (Lam (term_of a) b ∷ rest)) made
 
@@ -89,12 +92,14 @@ pub record IsNumbered (given : Numbered) (m : Module) (type_vars : ℕ) : Type 0
   pub count : length given.names ≡ type_vars
 
 -- walks on their way
-pub record IsTypeWalk (given : Numbered) (root : Tree) (m : Module) (depth : ℕ) (works : List TypeWork) (ts : List form.ClosedType) (made : List LpId) : Type 0 where
+pub record IsTypeWalk (given : Numbered) (root : Tree) (m : Module) (depth : ℕ)
+    (works : List TypeWork) (ts : List form.ClosedType) (made : List LpId) : Type 0 where
   pub numbered : IsNumbered given m (length given.names)
   pub known : AreKnown m.table made
   pub makes : MakesTypes given depth root works ts (trees_at m.table made)
 
-pub record IsTermWalk (given : Numbered) (root : Tree) (m : Module) (type_vars : ℕ) (works : List TermWork) (ts : List form.ClosedTerm) (made : List LpId) : Type 0 where
+pub record IsTermWalk (given : Numbered) (root : Tree) (m : Module) (type_vars : ℕ)
+    (works : List TermWork) (ts : List form.ClosedTerm) (made : List LpId) : Type 0 where
   pub numbered : IsNumbered given m type_vars
   pub known : AreKnown m.table made
   pub makes : MakesTerms given root works ts (trees_at m.table made)
@@ -128,7 +133,8 @@ nodes_work (TypeNode.Parameter n ∷ nodes) = nodes_work nodes
 nodes_work (TypeNode.Operator n k ∷ nodes) = 1 + 3 * k + nodes_work nodes
 
 -- the hypotheses with these closed forms, the first under so many binders, and what is to stand under them
-pub record AreHypotheses (given : Numbered) (hs : List Term) (m : Module) (type_vars : ℕ) (outside : ℕ) (closed : List form.ClosedTerm) (inside : LpId) : Type 0 where
+pub record AreHypotheses (given : Numbered) (hs : List Term) (m : Module) (type_vars : ℕ) (outside : ℕ)
+    (closed : List form.ClosedTerm) (inside : LpId) : Type 0 where
   pub numbered : IsNumbered given m type_vars
   pub are : Pairwise (IsTermOf given) closed hs
   pub within : IsInside given outside
@@ -156,4 +162,5 @@ numbered_of declarations symbols s = record { declarations = declarations; symbo
 abbrev pub statement_under : Numbered → Sequent → Tree
 statement_under given s =
     let outside = length given.names + length given.variables in
-    products (hypothesis_domains given outside s.hypotheses) (proof_of (term_tree given.symbols (scope_under given (outside + length s.hypotheses)) s.conclusion))
+    products (hypothesis_domains given outside s.hypotheses)
+    (proof_of (term_tree given.symbols (scope_under given (outside + length s.hypotheses)) s.conclusion))

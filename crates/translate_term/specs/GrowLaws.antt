@@ -47,13 +47,17 @@ pub types_in-Keeps : {old new : List Tree} → Keeps old new → (es : List (Nam
 types_in-Keeps k [] h = refl
 types_in-Keeps k (e ∷ es) h = ap₂ (λ t l. (e.0, t) ∷ l) (sym (tree_at-Stays k.stays e.1.0 h.0)) (types_in-Keeps k es h.1)
 
-pub AreTermsKnown-Keeps : {old new : List Tree} → Keeps old new → (types : List HolType) (es : List (Variable × LpId)) → AreTermsKnown types old es → AreTermsKnown types new es
+pub AreTermsKnown-Keeps : {old new : List Tree} → Keeps old new → (types : List HolType) (es : List (Variable × LpId)) → AreTermsKnown types old es
+    → AreTermsKnown types new es
 AreTermsKnown-Keeps k types [] h = tt
 AreTermsKnown-Keeps k types (e ∷ es) h = (h.0, omega (arith, k.longer, h.1), AreTermsKnown-Keeps k types es h.2)
 
-pub terms_in-Keeps : {old new : List Tree} → Keeps old new → (types : List HolType) (es : List (Variable × LpId)) → AreTermsKnown types old es → terms_in types new es ≡ terms_in types old es
+pub terms_in-Keeps : {old new : List Tree} → Keeps old new → (types : List HolType) (es : List (Variable × LpId)) → AreTermsKnown types old es
+    → terms_in types new es ≡ terms_in types old es
 terms_in-Keeps k types [] h = refl
-terms_in-Keeps k types (e ∷ es) h = ap₂ (λ t l. ((e.0.name, type.tree_at types e.0.ty.0), t) ∷ l) (sym (tree_at-Stays k.stays e.1.0 h.1)) (terms_in-Keeps k types es h.2)
+terms_in-Keeps k types (e ∷ es) h =
+    ap₂ (λ t l. ((e.0.name, type.tree_at types e.0.ty.0), t) ∷ l)
+    (sym (tree_at-Stays k.stays e.1.0 h.1)) (terms_in-Keeps k types es h.2)
 
 pub IsGiven-Grows : {m n : Module} → Grows m n → (given : Given) (names : List (Name × LpId)) → IsGiven given m names → IsGiven given n names
 IsGiven-Grows {m = m} {n = n} g given names h = record {
@@ -63,14 +67,17 @@ IsGiven-Grows {m = m} {n = n} g given names h = record {
   told = types_in-Keeps g.table names h.known ∙ h.told;
 }
 
-pub AreGiven-Grows : {m n : Module} → Grows m n → (given : Given) (types : List HolType) (variables : List (Variable × LpId)) → AreGiven given m types variables → AreGiven given n types variables
+pub AreGiven-Grows : {m n : Module} → Grows m n → (given : Given) (types : List HolType) (variables : List (Variable × LpId)) → AreGiven given m types variables
+    → AreGiven given n types variables
 AreGiven-Grows g given types variables h = record {
   known = AreTermsKnown-Keeps g.table types variables h.known;
   told = terms_in-Keeps g.table types variables h.known ∙ h.told;
 }
 
-pub IsTypeMemo-Keeps : {old new : List Tree} → Keeps old new → (given : Given) (types : List HolType) (made : List (TypeId × LpId)) → IsTypeMemo given types old made → IsTypeMemo given types new made
+pub IsTypeMemo-Keeps : {old new : List Tree} → Keeps old new → (given : Given) (types : List HolType) (made : List (TypeId × LpId))
+    → IsTypeMemo given types old made → IsTypeMemo given types new made
 IsTypeMemo-Keeps k given types made h id r n = k.stays.each r.0 _ (h id r n)
 
-pub IsTermMemo-Keeps : {old new : List Tree} → Keeps old new → (given : Given) (trees : Trees) (made : List (Place × LpId)) → IsTermMemo given trees old made → IsTermMemo given trees new made
+pub IsTermMemo-Keeps : {old new : List Tree} → Keeps old new → (given : Given) (trees : Trees) (made : List (Place × LpId)) → IsTermMemo given trees old made
+    → IsTermMemo given trees new made
 IsTermMemo-Keeps k given trees made h place r n = k.stays.each r.0 _ (h place r n)

@@ -1,6 +1,9 @@
 pub mod Told
+pub mod Keys
 pub mod Tasks
 pub mod Walks
+pub mod Sources
 pub mod Patterns
 pub mod Closed
+pub mod ClosedWalks
 pub mod GrowLaws

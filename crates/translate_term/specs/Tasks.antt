@@ -1,13 +1,10 @@
 -- Walks that make each part of something once, as a stack of tasks beside a memo of what was made.
-use Rattle.std.specs.Prelude.{◌≡◌, ◌⊎◌, ℕ, ◌+◌, ◌*◌, List, [], ◌∷◌, slice_get, Some}
+use Rattle.std.specs.Prelude.{◌≡◌, ◌⊎◌, ℕ, ◌+◌, ◌*◌, List, [], ◌∷◌}
+pub use Rattle.tree_map.specs.Noted.{IsNoted}
 use Rattle.translate_term.specs.declared.tasks.Task.{Task}
 use Rattle.translate_term.specs.declared.tasks.Task.TheVariants.{Visit, Join}
 
 module _ {K V : Type 0} where
-  -- the memo has this for the key
-  abbrev pub IsNoted : List (K × V) → K → V → Type 0
-  IsNoted entries key made = (i : ℕ) × (slice_get entries i ≡ Some (key, made))
-
   -- something was made for the key
   abbrev pub IsDone : List (K × V) → K → Type 0
   IsDone entries key = (made : V) × IsNoted entries key made

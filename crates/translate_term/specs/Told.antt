@@ -46,7 +46,8 @@ told_constant declarations n =
 abbrev mutual
   pub TellsType : List Declaration → Symbols → HolType → Type 0
   TellsType declarations symbols (variable n) = Unit {0}
-  TellsType declarations symbols (operator n ts) = (told_operator declarations n (count ts) ≡ Some (operator_symbol symbols n (count ts))) × TellsTypes declarations symbols ts
+  TellsType declarations symbols (operator n ts) =
+      (told_operator declarations n (count ts) ≡ Some (operator_symbol symbols n (count ts))) × TellsTypes declarations symbols ts
 
   pub TellsTypes : List Declaration → Symbols → HolTypes → Type 0
   TellsTypes declarations symbols none = Unit {0}

@@ -82,13 +82,15 @@ pub record HasArguments (types : List HolType) (id : TypeId) (args : List TypeId
   pub is : type.Holds types id.0 (operator name (types_of (types_at types args)))
 
 -- a walk over the types of a table
-pub record IsTypeWalk (given : Given) (root : TypeId) (m : Module) (types : List HolType) (names : List (Name × LpId)) (tasks : List (Task TypeId)) (made : List (TypeId × LpId)) : Type 0 where
+pub record IsTypeWalk (given : Given) (root : TypeId) (m : Module) (types : List HolType) (names : List (Name × LpId))
+    (tasks : List (Task TypeId)) (made : List (TypeId × LpId)) : Type 0 where
   pub reads : IsGiven given m names
   pub noted : IsTypeMemo given types m.table made
   pub ends : Ends (IsTypeKnown given types) (HasArguments types) root tasks (IsDone made)
 
 -- what a walk from this type begins with
-pub record IsTypeStart (given : Given) (root : TypeId) (m : Module) (types : List HolType) (names : List (Name × LpId)) (made : List (TypeId × LpId)) : Type 0 where
+pub record IsTypeStart (given : Given) (root : TypeId) (m : Module) (types : List HolType)
+    (names : List (Name × LpId)) (made : List (TypeId × LpId)) : Type 0 where
   pub reads : IsGiven given m names
   pub noted : IsTypeMemo given types m.table made
   pub known : IsTypeKnown given types root
@@ -101,7 +103,8 @@ pub record IsTermKnown (given : Given) (trees : Trees) (place : Place) : Type 0 
 
 -- the term at each place of the memo has the tree that is wanted
 abbrev pub IsTermMemo : Given → Trees → List Tree → List (Place × LpId) → Type 0
-IsTermMemo given trees lps made = (place : Place) (r : LpId) → IsNoted made place r → lp.Holds lps r.0 (term_wanted given place.depth (term_at trees place.id.0))
+IsTermMemo given trees lps made =
+    (place : Place) (r : LpId) → IsNoted made place r → lp.Holds lps r.0 (term_wanted given place.depth (term_at trees place.id.0))
 
 -- a tree was made of the term at a place, and noted in the memo
 pub record IsMadeAt (place : Place) (old new : List (Place × LpId)) (trees : List Tree) (tree : Tree) : Type 0 where
@@ -135,13 +138,16 @@ abbrev pub place_size : Trees → Place → ℕ
 place_size trees place = term_size (term_at trees place.id.0)
 
 -- what a walk from this term begins with
-pub record IsTermStart (given : Given) (root : Place) (m : Module) (trees : Trees) (names : List (Name × LpId)) (variables : List (AVariable × LpId)) : Type 0 where
+pub record IsTermStart (given : Given) (root : Place) (m : Module) (trees : Trees)
+    (names : List (Name × LpId)) (variables : List (AVariable × LpId)) : Type 0 where
   pub reads : IsGiven given m names
   pub variables_told : AreGiven given m trees.types variables
   pub known : IsTermKnown given trees root
 
 -- a walk over the terms of a table
-pub record IsTermWalk (given : Given) (root : Place) (m : Module) (trees : Trees) (names : List (Name × LpId)) (variables : List (AVariable × LpId)) (tasks : List (Task Place)) (made : List (Place × LpId)) (types : List (TypeId × LpId)) : Type 0 where
+pub record IsTermWalk (given : Given) (root : Place) (m : Module) (trees : Trees)
+    (names : List (Name × LpId)) (variables : List (AVariable × LpId)) (tasks : List (Task Place))
+    (made : List (Place × LpId)) (types : List (TypeId × LpId)) : Type 0 where
   pub reads : IsGiven given m names
   pub variables_told : AreGiven given m trees.types variables
   pub types_noted : IsTypeMemo given trees.types m.table types

@@ -1,18 +1,18 @@
 //! The walks over the nodes of a closed sequent, and the products over its parameters.
-ghost use Rattle.std.specs.Prelude.{◌≡◌, ◌+◌, ◌*◌, ◌-◌, ◌<◌, ◌≤◌, ◌^◌, [], ◌∷◌, ℕ, List, length, map, replicate, Some, IsSome, IfOk, OnOk};
-ghost use Rattle.hol_spec.specs.ClosedForm.{ClosedTerm as AClosedTerm, ClosedType as AClosedType};
+ghost use Rattle.std.specs.Prelude.{◌≡◌, ◌+◌, ◌-◌, ◌<◌, ◌≤◌, ◌^◌, [], ◌∷◌, List, length, map, replicate, IsSome, IfOk, OnOk};
 ghost use Rattle.hol_spec.specs.Sequents.{Sequent};
 ghost use Rattle.hol_spec.specs.Terms.{Term as ATerm};
 ghost use Rattle.hol_spec.specs.Types.{HolType};
 ghost use Rattle.lp_spec.specs.Modules.{products, term_of, types as sorts};
-ghost use Rattle.lp_spec.specs.Trees.{Tree, App, Lam, Pi, Sym, Var};
+ghost use Rattle.lp_spec.specs.Trees.{App, Lam, Pi, Sym, Var};
 ghost use Rattle.lp_term.specs.Tables.{tree_at, tree_of_node, Holds, PartsBelow};
 ghost use Rattle.holide_sig.specs.Modules.{declarations_of, IsHeld};
-ghost use Rattle.module_spec.specs.Scopes.{Symbols, TypeScope, constant_tree, sequent_tree, term_tree, type_tree};
-ghost use Rattle.sequent.specs.Closed.{closed_term_view, closed_type_view, closed_view, spelled_terms, spelled_types, term_step, type_step};
+ghost use Rattle.module_spec.specs.Scopes.{Symbols, TypeScope};
+ghost use Rattle.sequent.specs.Closed.{closed_term_view, closed_type_view, closed_view};
 ghost use Rattle.translate_term.specs.declared.closed.TermWork.TheVariants as term_work;
 ghost use Rattle.translate_term.specs.declared.closed.TypeWork.TheVariants as type_work;
-ghost use Rattle.translate_term.specs.Closed.{AreHypotheses, AreVariables, IsPut, IsTermToMake, IsTermWalk, IsTypeToMake, IsTypeWalk, MakesTypes, Numbered, hypothesis_domains, nodes_work, numbered_of, scope_under, statement_under, types_under, variable_domains, works_of};
+ghost use Rattle.translate_term.specs.Closed.{AreHypotheses, AreVariables, IsPut, IsTermToMake, IsTypeToMake, Numbered, nodes_work, works_of};
+ghost use Rattle.translate_term.specs.ClosedWalks.{terms_work, with_term_work, with_type_work, IsOverTerms, IsOverTypes, IsTermVisit, IsTypeVisit, MakesHypotheses, MakesSequent, MakesStatement, MakesTermOf, MakesTermRoot, MakesTypeOf, MakesTypeRoot, MakesVariables, PutsConstant, PutsOperator, TermsGoOn, TermsVisit, TypesGoOn, TypesVisit, WorksGoOn};
 ghost use Rattle.translate_term.specs.Patterns.{IsTypeTree};
 ghost use Rattle.translate_term.specs.Told.{TellsClosed, told_operator};
 ghost use Rattle.translate_term.specs.Walks.{Grows};
@@ -49,6 +49,22 @@ pub(crate) enum TermWork {
     Bind,
 }
 
+/// A walk over the nodes of a type: what it is still to do, the trees that it made and did not take up yet, and a text to spell names into.
+#[derive(Drop)]
+pub(crate) struct TypeWalk {
+    works: Stack<TypeWork>,
+    made: Stack<LpId>,
+    text: Vec<u8>,
+}
+
+/// Such a walk over the nodes of a term.
+#[derive(Drop)]
+pub(crate) struct TermWalk {
+    works: Stack<TermWork>,
+    made: Stack<LpId>,
+    text: Vec<u8>,
+}
+
 // The type of the theorems of a closed sequent: the product over its parameters.
 pub(crate) fn closed_type(
     alloc: Global,
@@ -57,8 +73,7 @@ pub(crate) fn closed_type(
 ) -> Result<LpId, Memory>
     requires held { IsHeld target.old }
     requires told { (symbols : Symbols) × (s : Sequent) × TellsClosed (declarations_of target.old) symbols s (closed_view closed.now) }
-    ensures made { IfOk result (λ r. (symbols : Symbols) (s : Sequent) → TellsClosed (declarations_of target.old) symbols s (closed_view closed.now)
-        → Holds target.new.table r.0 (sequent_tree symbols s)) }
+    ensures made { IfOk result (MakesSequent target.old (closed_view closed.now) target.new) }
     ensures grows { Grows target.old target.new }
 {
     let under_terms = statement(alloc, target, closed)?;
@@ -76,8 +91,7 @@ pub(crate) fn closed_type(
 fn statement(alloc: Global, target: &mut Module, closed: &Closed) -> Result<LpId, Memory>
     requires held { IsHeld target.old }
     requires told { (symbols : Symbols) × (s : Sequent) × TellsClosed (declarations_of target.old) symbols s (closed_view closed.now) }
-    ensures made { IfOk result (λ r. (symbols : Symbols) (s : Sequent) → TellsClosed (declarations_of target.old) symbols s (closed_view closed.now)
-        → Holds target.new.table r.0 (statement_under (numbered_of (declarations_of target.old) symbols s) s)) }
+    ensures made { IfOk result (MakesStatement target.old (closed_view closed.now) target.new) }
     ensures grows { Grows target.old target.new }
 {
     let terms = closed.type_vars as u128 + closed.free_vars.len() as u128;
@@ -98,9 +112,7 @@ fn over_hypotheses(
 ) -> Result<LpId, Memory>
     requires are { (given : Numbered) × (hs : List ATerm) × AreHypotheses given hs target.old type_vars outside (map closed_term_view hyps.now) inside }
     requires small { outside < 2 ^ 65 }
-    ensures made { IfOk result (λ r. (given : Numbered) (hs : List ATerm)
-        → AreHypotheses given hs target.old type_vars outside (map closed_term_view hyps.now) inside
-        → Holds target.new.table r.0 (products (hypothesis_domains given outside hs) (tree_at target.old.table inside.0))) }
+    ensures made { IfOk result (MakesHypotheses target.old type_vars outside (map closed_term_view hyps.now) inside target.new) }
     ensures grows { Grows target.old target.new }
 {
     let mut product = inside;
@@ -123,9 +135,7 @@ fn over_variables(
     inside: LpId,
 ) -> Result<LpId, Memory>
     requires { (given : Numbered) × (ts : List HolType) × AreVariables given ts target.old type_vars (map closed_type_view types.now) inside }
-    ensures made { IfOk result (λ r. (given : Numbered) (ts : List HolType)
-        → AreVariables given ts target.old type_vars (map closed_type_view types.now) inside
-        → Holds target.new.table r.0 (products (variable_domains given type_vars ts) (tree_at target.old.table inside.0))) }
+    ensures made { IfOk result (MakesVariables target.old type_vars (map closed_type_view types.now) inside target.new) }
     ensures grows { Grows target.old target.new }
 {
     let mut product = inside;
@@ -178,66 +188,60 @@ fn tree_of_type(
     depth: u128,
 ) -> Result<LpId, Memory>
     requires { (given : Numbered) × (t : HolType) × IsTypeToMake given t target.old (closed_type_view ty.now) }
-    ensures made { IfOk result (λ r. (given : Numbered) (t : HolType) → IsTypeToMake given t target.old (closed_type_view ty.now)
-        → Holds target.new.table r.0 (type_tree given.symbols (types_under given depth) t)) }
+    ensures made { IfOk result (MakesTypeOf target.old (closed_type_view ty.now) depth target.new) }
     ensures grows { Grows target.old target.new }
 {
-    let mut works = Stack::new(alloc);
-    let mut made = Stack::new(alloc);
-    let tree = type_made(alloc, target, &ty.nodes, depth, &mut works, &mut made);
-    drop(made);
-    drop(works);
+    let mut walk = TypeWalk {
+        works: Stack::new(alloc),
+        made: Stack::new(alloc),
+        text: Vec::new(alloc),
+    };
+    let tree = type_made(target, &ty.nodes, depth, &mut walk);
+    drop(walk);
     tree
 }
 
 // The tree of the type that nodes spell, by a walk that has nothing else to do.
 fn type_made(
-    alloc: Global,
     target: &mut Module,
     nodes: &[TypeNode],
     depth: u128,
-    works: &mut Stack<TypeWork>,
-    made: &mut Stack<LpId>,
+    walk: &mut TypeWalk,
 ) -> Result<LpId, Memory>
-    requires { (given : Numbered) × (root : Tree) × IsTypeWalk given root target.old depth (type_work.Next ∷ works.old) (spelled_types nodes.now) made.old }
-    ensures made { IfOk result (λ r. (given : Numbered) (root : Tree)
-        → IsTypeWalk given root target.old depth (type_work.Next ∷ works.old) (spelled_types nodes.now) made.old → Holds target.new.table r.0 root) }
+    requires { IsOverTypes target.old depth nodes.now (with_type_work type_work.Next walk.old) }
+    ensures made { IfOk result (MakesTypeRoot target.old depth nodes.now (with_type_work type_work.Next walk.old) target.new) }
     ensures grows { Grows target.old target.new }
 {
-    works.push(TypeWork::Next)?;
+    walk.works.push(TypeWork::Next)?;
     let mut left = nodes;
-    while let Some(work) = works.pop() {
-        left = turn_type(alloc, target, left, depth, work, works, made)?;
+    while let Some(work) = walk.works.pop() {
+        left = turn_type(target, left, depth, work, walk)?;
     }
-    Ok(one(made))
+    Ok(one(&mut walk.made))
 }
 
 // One turn of the walk over the nodes of a type: those that are left.
 fn turn_type<'a>(
-    alloc: Global,
     target: &mut Module,
     nodes: &'a [TypeNode],
     depth: u128,
     work: TypeWork,
-    works: &mut Stack<TypeWork>,
-    made: &mut Stack<LpId>,
+    walk: &mut TypeWalk,
 ) -> Result<&'a [TypeNode], Memory>
-    requires { (given : Numbered) × (root : Tree) × IsTypeWalk given root target.old depth (work ∷ works.old) (spelled_types nodes.now) made.old }
+    requires { IsOverTypes target.old depth nodes.now (with_type_work work walk.old) }
     ensures grows { Grows target.old target.new }
-    ensures walk { IfOk result (λ left. (given : Numbered) (root : Tree)
-        → IsTypeWalk given root target.old depth (work ∷ works.old) (spelled_types nodes.now) made.old
-        → IsTypeWalk given root target.new depth works.new (spelled_types left.now) made.new) }
-    ensures less { IfOk result (λ left. works_of works.new + nodes_work left.now < works_of (work ∷ works.old) + nodes_work nodes.now) }
+    ensures walk { IfOk result (λ left. TypesGoOn target.old depth nodes.now (with_type_work work walk.old) target.new left.now walk.new) }
+    ensures less { IfOk result (λ left. works_of walk.new.works + nodes_work left.now < works_of (work ∷ walk.old.works) + nodes_work nodes.now) }
 {
     match work {
-        TypeWork::Next => begin_type(alloc, target, nodes, depth, works, made),
+        TypeWork::Next => begin_type(target, nodes, depth, walk),
         TypeWork::Apply => {
-            let (function, argument) = two(made);
-            put_node(target, LpNode::App(function, argument), made)?;
+            let (function, argument) = two(&mut walk.made);
+            put_node(target, LpNode::App(function, argument), &mut walk.made)?;
             Ok(nodes)
         }
         TypeWork::ApplyTo(count) => {
-            set_out_to_apply(count, works)?;
+            set_out_to_apply(count, &mut walk.works)?;
             Ok(nodes)
         }
     }
@@ -245,27 +249,23 @@ fn turn_type<'a>(
 
 // The next type as far as its arguments. What nodes lack is the first type variable.
 fn begin_type<'a>(
-    alloc: Global,
     target: &mut Module,
     nodes: &'a [TypeNode],
     depth: u128,
-    works: &mut Stack<TypeWork>,
-    made: &mut Stack<LpId>,
+    walk: &mut TypeWalk,
 ) -> Result<&'a [TypeNode], Memory>
-    requires { (given : Numbered) × (root : Tree) × IsTypeWalk given root target.old depth (type_work.Next ∷ works.old) (spelled_types nodes.now) made.old }
+    requires { IsOverTypes target.old depth nodes.now (with_type_work type_work.Next walk.old) }
     ensures grows { Grows target.old target.new }
-    ensures walk { IfOk result (λ left. (given : Numbered) (root : Tree)
-        → IsTypeWalk given root target.old depth (type_work.Next ∷ works.old) (spelled_types nodes.now) made.old
-        → IsTypeWalk given root target.new depth works.new (spelled_types left.now) made.new) }
-    ensures less { IfOk result (λ left. works_of works.new + nodes_work left.now ≤ works_of works.old + nodes_work nodes.now) }
+    ensures walk { IfOk result (λ left. TypesGoOn target.old depth nodes.now (with_type_work type_work.Next walk.old) target.new left.now walk.new) }
+    ensures less { IfOk result (λ left. works_of walk.new.works + nodes_work left.now ≤ works_of walk.old.works + nodes_work nodes.now) }
 {
     match nodes {
         [] => {
-            put_type_variable(target, 0, depth, made)?;
+            put_type_variable(target, 0, depth, &mut walk.made)?;
             Ok(nodes)
         }
         [node, left @ ..] => {
-            visit_type(alloc, target, node, depth, works, made)?;
+            visit_type(target, node, depth, walk)?;
             Ok(left)
         }
     }
@@ -273,34 +273,28 @@ fn begin_type<'a>(
 
 // Makes the binder of a type variable, or an operator's symbol, which is to be applied to its arguments.
 fn visit_type(
-    alloc: Global,
     target: &mut Module,
     node: &TypeNode,
     depth: u128,
-    works: &mut Stack<TypeWork>,
-    made: &mut Stack<LpId>,
+    walk: &mut TypeWalk,
 ) -> Result<(), Memory>
-    requires { (given : Numbered) × (root : Tree) × (ts : List AClosedType)
-        × IsTypeWalk given root target.old depth (type_work.Next ∷ works.old) (type_step node.now ts) made.old }
+    requires { IsTypeVisit target.old depth node.now walk.old }
     ensures grows { Grows target.old target.new }
-    ensures walk { OnOk result ((given : Numbered) (root : Tree) (ts : List AClosedType)
-        → IsTypeWalk given root target.old depth (type_work.Next ∷ works.old) (type_step node.now ts) made.old
-        → IsTypeWalk given root target.new depth works.new ts made.new) }
-    ensures less { OnOk result (works_of works.new ≤ works_of works.old + nodes_work (node.now ∷ [])) }
+    ensures walk { OnOk result (TypesVisit target.old depth node.now walk.old target.new walk.new) }
+    ensures less { OnOk result (works_of walk.new.works ≤ works_of walk.old.works + nodes_work (node.now ∷ [])) }
 {
     match node {
-        TypeNode::Parameter(place) => put_type_variable(target, *place, depth, made),
+        TypeNode::Parameter(place) => put_type_variable(target, *place, depth, &mut walk.made),
         TypeNode::Operator(name, arity) => {
-            put_operator(alloc, target, name, *arity, made)?;
-            works.push(TypeWork::ApplyTo(*arity))
+            put_operator(target, name, *arity, &mut walk.text, &mut walk.made)?;
+            walk.works.push(TypeWork::ApplyTo(*arity))
         }
     }
 }
 
 // Sets out to apply what was made to so many types, the first innermost.
 fn set_out_to_apply(count: usize, works: &mut Stack<TypeWork>) -> Result<(), Memory>
-    ensures makes { OnOk result ((given : Numbered) (depth : ℕ) (root : Tree) (ts : List AClosedType) (made : List Tree)
-        → MakesTypes given depth root (type_work.ApplyTo count ∷ works.old) ts made → MakesTypes given depth root works.new ts made) }
+    ensures makes { OnOk result (WorksGoOn (type_work.ApplyTo count ∷ works.old) works.new) }
     ensures less { OnOk result (works_of works.new < works_of (type_work.ApplyTo count ∷ works.old)) }
 {
     let Some(others) = count.checked_sub(1) else {
@@ -320,23 +314,16 @@ fn tree_of_term(
     depth: u128,
 ) -> Result<LpId, Memory>
     requires { (given : Numbered) × (t : ATerm) × IsTermToMake given t target.old type_vars (closed_term_view term.now) depth }
-    ensures made { IfOk result (λ r. (given : Numbered) (t : ATerm) → IsTermToMake given t target.old type_vars (closed_term_view term.now) depth
-        → Holds target.new.table r.0 (term_tree given.symbols (scope_under given depth) t)) }
+    ensures made { IfOk result (MakesTermOf target.old type_vars (closed_term_view term.now) depth target.new) }
     ensures grows { Grows target.old target.new }
 {
-    let mut works = Stack::new(alloc);
-    let mut made = Stack::new(alloc);
-    let tree = term_made(
-        alloc,
-        target,
-        type_vars,
-        &term.nodes,
-        depth,
-        &mut works,
-        &mut made,
-    );
-    drop(made);
-    drop(works);
+    let mut walk = TermWalk {
+        works: Stack::new(alloc),
+        made: Stack::new(alloc),
+        text: Vec::new(alloc),
+    };
+    let tree = term_made(alloc, target, type_vars, &term.nodes, depth, &mut walk);
+    drop(walk);
     tree
 }
 
@@ -347,21 +334,18 @@ fn term_made(
     type_vars: usize,
     nodes: &[TermNode],
     depth: u128,
-    works: &mut Stack<TermWork>,
-    made: &mut Stack<LpId>,
+    walk: &mut TermWalk,
 ) -> Result<LpId, Memory>
-    requires { (given : Numbered) × (root : Tree)
-        × IsTermWalk given root target.old type_vars (term_work.Next depth ∷ works.old) (spelled_terms nodes.now) made.old }
-    ensures made { IfOk result (λ r. (given : Numbered) (root : Tree)
-        → IsTermWalk given root target.old type_vars (term_work.Next depth ∷ works.old) (spelled_terms nodes.now) made.old → Holds target.new.table r.0 root) }
+    requires { IsOverTerms target.old type_vars nodes.now (with_term_work (term_work.Next depth) walk.old) }
+    ensures made { IfOk result (MakesTermRoot target.old type_vars nodes.now (with_term_work (term_work.Next depth) walk.old) target.new) }
     ensures grows { Grows target.old target.new }
 {
-    works.push(TermWork::Next(depth))?;
+    walk.works.push(TermWork::Next(depth))?;
     let mut left = nodes;
-    while let Some(work) = works.pop() {
-        left = turn_term(alloc, target, type_vars, left, work, works, made)?;
+    while let Some(work) = walk.works.pop() {
+        left = turn_term(alloc, target, type_vars, left, work, walk)?;
     }
-    Ok(one(made))
+    Ok(one(&mut walk.made))
 }
 
 // One turn of the walk over the nodes of a term: those that are left.
@@ -371,26 +355,23 @@ fn turn_term<'a>(
     type_vars: usize,
     nodes: &'a [TermNode],
     work: TermWork,
-    works: &mut Stack<TermWork>,
-    made: &mut Stack<LpId>,
+    walk: &mut TermWalk,
 ) -> Result<&'a [TermNode], Memory>
-    requires { (given : Numbered) × (root : Tree) × IsTermWalk given root target.old type_vars (work ∷ works.old) (spelled_terms nodes.now) made.old }
+    requires { IsOverTerms target.old type_vars nodes.now (with_term_work work walk.old) }
     ensures grows { Grows target.old target.new }
-    ensures walk { IfOk result (λ left. (given : Numbered) (root : Tree)
-        → IsTermWalk given root target.old type_vars (work ∷ works.old) (spelled_terms nodes.now) made.old
-        → IsTermWalk given root target.new type_vars works.new (spelled_terms left.now) made.new) }
-    ensures less { IfOk result (λ left. length works.new + 3 * length left.now < length (work ∷ works.old) + 3 * length nodes.now) }
+    ensures walk { IfOk result (λ left. TermsGoOn target.old type_vars nodes.now (with_term_work work walk.old) target.new left.now walk.new) }
+    ensures less { IfOk result (λ left. terms_work walk.new.works left.now < terms_work (work ∷ walk.old.works) nodes.now) }
 {
     match work {
-        TermWork::Next(depth) => begin_term(alloc, target, type_vars, nodes, depth, works, made),
+        TermWork::Next(depth) => begin_term(alloc, target, type_vars, nodes, depth, walk),
         TermWork::Apply => {
-            let (function, argument) = two(made);
-            put_node(target, LpNode::App(function, argument), made)?;
+            let (function, argument) = two(&mut walk.made);
+            put_node(target, LpNode::App(function, argument), &mut walk.made)?;
             Ok(nodes)
         }
         TermWork::Bind => {
-            let (ty, body) = two(made);
-            put_abstraction(target, ty, body, made)?;
+            let (ty, body) = two(&mut walk.made);
+            put_abstraction(target, ty, body, &mut walk.made)?;
             Ok(nodes)
         }
     }
@@ -403,24 +384,21 @@ fn begin_term<'a>(
     type_vars: usize,
     nodes: &'a [TermNode],
     depth: u128,
-    works: &mut Stack<TermWork>,
-    made: &mut Stack<LpId>,
+    walk: &mut TermWalk,
 ) -> Result<&'a [TermNode], Memory>
-    requires { (given : Numbered) × (root : Tree)
-        × IsTermWalk given root target.old type_vars (term_work.Next depth ∷ works.old) (spelled_terms nodes.now) made.old }
+    requires { IsOverTerms target.old type_vars nodes.now (with_term_work (term_work.Next depth) walk.old) }
     ensures grows { Grows target.old target.new }
-    ensures walk { IfOk result (λ left. (given : Numbered) (root : Tree)
-        → IsTermWalk given root target.old type_vars (term_work.Next depth ∷ works.old) (spelled_terms nodes.now) made.old
-        → IsTermWalk given root target.new type_vars works.new (spelled_terms left.now) made.new) }
-    ensures less { IfOk result (λ left. length works.new + 3 * length left.now ≤ length works.old + 3 * length nodes.now) }
+    ensures walk { IfOk result (λ left. TermsGoOn target.old type_vars nodes.now (with_term_work (term_work.Next depth) walk.old)
+        target.new left.now walk.new) }
+    ensures less { IfOk result (λ left. terms_work walk.new.works left.now ≤ terms_work walk.old.works nodes.now) }
 {
     match nodes {
         [] => {
-            put_variable(target, type_vars, 0, depth, made)?;
+            put_variable(target, type_vars, 0, depth, &mut walk.made)?;
             Ok(nodes)
         }
         [node, left @ ..] => {
-            visit_term(alloc, target, type_vars, node, depth, works, made)?;
+            visit_term(alloc, target, type_vars, node, depth, walk)?;
             Ok(left)
         }
     }
@@ -433,28 +411,26 @@ fn visit_term(
     type_vars: usize,
     node: &TermNode,
     depth: u128,
-    works: &mut Stack<TermWork>,
-    made: &mut Stack<LpId>,
+    walk: &mut TermWalk,
 ) -> Result<(), Memory>
-    requires { (given : Numbered) × (root : Tree) × (ts : List AClosedTerm)
-        × IsTermWalk given root target.old type_vars (term_work.Next depth ∷ works.old) (term_step node.now ts) made.old }
+    requires { IsTermVisit target.old type_vars depth node.now walk.old }
     ensures grows { Grows target.old target.new }
-    ensures walk { OnOk result ((given : Numbered) (root : Tree) (ts : List AClosedTerm)
-        → IsTermWalk given root target.old type_vars (term_work.Next depth ∷ works.old) (term_step node.now ts) made.old
-        → IsTermWalk given root target.new type_vars works.new ts made.new) }
-    ensures less { OnOk result (length works.new ≤ length works.old + 3) }
+    ensures walk { OnOk result (TermsVisit target.old type_vars depth node.now walk.old target.new walk.new) }
+    ensures less { OnOk result (length walk.new.works ≤ length walk.old.works + 3) }
 {
     match node {
-        TermNode::Parameter(place) => put_variable(target, type_vars, *place, depth, made),
-        TermNode::Bound(number) => put_node(target, LpNode::Var(*number), made),
+        TermNode::Parameter(place) => {
+            put_variable(target, type_vars, *place, depth, &mut walk.made)
+        }
+        TermNode::Bound(number) => put_node(target, LpNode::Var(*number), &mut walk.made),
         TermNode::Constant(name, ty) => {
             let ty = tree_of_type(alloc, target, ty, depth)?;
-            put_constant(alloc, target, name, ty, made)
+            put_constant(alloc, target, name, ty, &mut walk.text, &mut walk.made)
         }
         TermNode::App => {
-            works.push(TermWork::Apply)?;
-            works.push(TermWork::Next(depth))?;
-            works.push(TermWork::Next(depth))
+            walk.works.push(TermWork::Apply)?;
+            walk.works.push(TermWork::Next(depth))?;
+            walk.works.push(TermWork::Next(depth))
         }
         TermNode::Lam(ty) => {
             // No memory holds so many binders.
@@ -462,9 +438,9 @@ fn visit_term(
                 return Err(Memory);
             };
             let ty = tree_of_type(alloc, target, ty, depth)?;
-            made.push(ty)?;
-            works.push(TermWork::Bind)?;
-            works.push(TermWork::Next(inside))
+            walk.made.push(ty)?;
+            walk.works.push(TermWork::Bind)?;
+            walk.works.push(TermWork::Next(inside))
         }
     }
 }
@@ -535,18 +511,17 @@ fn put_node(target: &mut Module, node: LpNode, made: &mut Stack<LpId>) -> Result
 
 // Makes the symbol of an operator, and puts it on what was made.
 fn put_operator(
-    alloc: Global,
     target: &mut Module,
     name: &Name,
     arity: usize,
+    text: &mut Vec<u8>,
     made: &mut Stack<LpId>,
 ) -> Result<(), Memory>
     requires { IsSome (told_operator (declarations_of target.old) name.now arity) }
-    ensures made { OnOk result ((symbol : ℕ) → told_operator (declarations_of target.old) name.now arity ≡ Some symbol
-        → IsPut made.old made.new target.new.table (Sym symbol)) }
+    ensures made { OnOk result (PutsOperator target.old name.now arity made.old target.new made.new) }
     ensures grows { Grows target.old target.new }
 {
-    let symbol = operator(alloc, target, name, arity)?.unwrap();
+    let symbol = operator(target, name, arity, text)?.unwrap();
     put_node(target, LpNode::Sym(symbol), made)
 }
 
@@ -556,14 +531,14 @@ fn put_constant(
     target: &mut Module,
     name: &Name,
     ty: LpId,
+    text: &mut Vec<u8>,
     made: &mut Stack<LpId>,
 ) -> Result<(), Memory>
     requires { (symbols : Symbols) × (scope : TypeScope) × (t : HolType) × IsTypeTree symbols scope t target.old name.now ty }
-    ensures made { OnOk result ((symbols : Symbols) (scope : TypeScope) (t : HolType) → IsTypeTree symbols scope t target.old name.now ty
-        → IsPut made.old made.new target.new.table (constant_tree symbols scope name.now t)) }
+    ensures made { OnOk result (PutsConstant target.old name.now ty made.old target.new made.new) }
     ensures grows { Grows target.old target.new }
 {
-    let tree = constant_of(alloc, target, name, ty)?;
+    let tree = constant_of(alloc, target, name, ty, text)?;
     made.push(tree)
 }
 

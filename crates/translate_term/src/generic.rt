@@ -1,16 +1,14 @@
 //! A constant of the tree of its type: its symbol at what the variables of its generic type have there. The generic type is read
 //! back from the declared type of the symbol, which is a product over its variables.
-ghost use Rattle.std.specs.Prelude.{◌≡◌, ◌⊎◌, ◌<◌, [], ◌∷◌, ◌++◌, ℕ, List, length, map, replicate, Some, IfOk, IfSome, IfNone, OnOk};
-ghost use Rattle.hol_spec.specs.Substitution.{type_arguments as arguments_of};
+ghost use Rattle.std.specs.Prelude.{◌≡◌, ◌⊎◌, ◌<◌, [], ◌∷◌, ◌++◌, ℕ, length, IfOk, IfSome, IfNone, OnOk};
 ghost use Rattle.hol_spec.specs.Types.{HolType};
 ghost use Rattle.lp_spec.specs.Trees.{Tree};
-ghost use Rattle.lp_spec.specs.Substitution.{sub};
-ghost use Rattle.lp_spec.specs.Modules.{products, signature, symbol_type, term_of, types};
+ghost use Rattle.lp_spec.specs.Modules.{signature};
 ghost use Rattle.lp_term.specs.declared.LpId.{LpId as AnId};
-ghost use Rattle.lp_term.specs.Tables.{tree_at, trees_at, AreKnown, Holds};
+ghost use Rattle.lp_term.specs.Tables.{tree_at, AreKnown};
 ghost use Rattle.holide_sig.specs.Modules.{declarations_of, IsHeld};
-ghost use Rattle.module_spec.specs.Scopes.{Symbols, TypeScope, constant_tree, type_tree};
-ghost use Rattle.translate_term.specs.Patterns.{IsGeneric, IsMatching, IsTypeTree, Mentions, work};
+ghost use Rattle.module_spec.specs.Scopes.{Symbols, TypeScope};
+ghost use Rattle.translate_term.specs.Patterns.{AreArguments, FindsWanted, Fits, IsGenericType, IsInstance, IsMatching, IsPart, IsTypeTree, IsWanted, MakesInstance, MatchingGoesOn, Mentions, work};
 ghost use Rattle.translate_term.specs.Tasks.{IsDone, IsNoted};
 ghost use Rattle.translate_term.specs.Walks.{Grows};
 
@@ -77,13 +75,13 @@ pub(crate) fn constant_of(
     target: &mut Module,
     name: &Name,
     ty: LpId,
+    text: &mut Vec<u8>,
 ) -> Result<LpId, Memory>
     requires { (symbols : Symbols) × (scope : TypeScope) × (t : HolType) × IsTypeTree symbols scope t target.old name.now ty }
-    ensures made { IfOk result (λ r. (symbols : Symbols) (scope : TypeScope) (t : HolType) → IsTypeTree symbols scope t target.old name.now ty
-        → Holds target.new.table r.0 (constant_tree symbols scope name.now t)) }
+    ensures made { IfOk result (MakesInstance target.old name.now ty target.new) }
     ensures grows { Grows target.old target.new }
 {
-    let symbol = symbols::constant(alloc, target, name)?.unwrap();
+    let symbol = symbols::constant(target, name, text)?.unwrap();
     let args = type_arguments(alloc, target, symbol, ty)?;
     call(&mut target.table, symbol, &args)
 }
@@ -96,14 +94,19 @@ fn type_arguments(
     ty: LpId,
 ) -> Result<Vec<LpId>, Memory>
     requires held { IsHeld source.now }
-    requires instance { (symbols : Symbols) × (scope : TypeScope) × (generic : HolType) × (t : HolType)
-        × IsGeneric (declarations_of source.now) symbol symbols scope generic t source.now.table ty }
-    ensures arguments { IfOk result (λ args. (symbols : Symbols) (scope : TypeScope) (generic t : HolType)
-        → IsGeneric (declarations_of source.now) symbol symbols scope generic t source.now.table ty
-        → trees_at source.now.table args.items ≡ map (type_tree symbols scope) (arguments_of generic t)) }
+    requires instance { IsInstance source.now symbol ty }
+    ensures arguments { IfOk result (λ args. AreArguments source.now symbol ty args.items) }
     ensures known { IfOk result (λ args. AreKnown source.now.table args.items) }
 {
     let (count, pattern) = generic_type(source, symbol);
+    if count == 0 {
+        return Ok(Vec::new(alloc));
+    }
+    if count == 1
+        && let Some(tree) = sole(&source.table, pattern, ty)
+    {
+        return Ok(Vec::from_slice(alloc, &[tree])?);
+    }
     let found = matched(alloc, &source.table, pattern, ty)?;
     let mut args = Vec::new(alloc);
     let mut left = count;
@@ -114,12 +117,55 @@ fn type_arguments(
     Ok(args)
 }
 
+// The tree that the first variable of a pattern has in its instance, sought on one way down: beside a head without variables it is
+// in the argument.
+fn sole(trees: &LpTable, pattern: LpId, instance: LpId) -> Option<LpId>
+    requires pattern { pattern.0 < length trees.now }
+    requires instance { instance.0 < length trees.now }
+    ensures wanted { IfSome result (IsWanted trees.now 0 pattern instance) }
+    ensures known { IfSome result (λ id. id.0 < length trees.now) }
+{
+    let mut at = meet(pattern, instance);
+    while let Some(next) = part_of(trees, at) {
+        at = next;
+    }
+    match trees.view(at.pattern) {
+        LpNode::Var(number) if number == 0 => Some(at.instance),
+        LpNode::Var(_)
+        | LpNode::App(..)
+        | LpNode::SortType
+        | LpNode::SortKind
+        | LpNode::Sym(_)
+        | LpNode::Lam(..)
+        | LpNode::Pi(..) => None,
+    }
+}
+
+// A part of an application that meets one, with a variable in it if there is one.
+fn part_of(trees: &LpTable, task: Meeting) -> Option<Meeting>
+    requires pattern { task.pattern.0 < length trees.now }
+    requires instance { task.instance.0 < length trees.now }
+    ensures part { IfSome result (IsPart trees.now task) }
+    ensures less { IfSome result (λ part. part.pattern.0 < task.pattern.0) }
+{
+    let LpNode::App(head, argument) = trees.view(task.pattern) else {
+        return None;
+    };
+    let LpNode::App(function, part) = trees.view(task.instance) else {
+        return None;
+    };
+    if trees.is_closed_under(head, 0) {
+        Some(meet(argument, part))
+    } else {
+        Some(meet(head, function))
+    }
+}
+
 // How many variables the generic type of a symbol has, and its tree under them.
 fn generic_type(source: &Module, symbol: usize) -> (u128, LpId)
     requires held { IsHeld source.now }
     requires declared { symbol < length (signature ++ declarations_of source.now) }
-    ensures is { (k : ℕ) (pattern : Tree) → symbol_type (declarations_of source.now) symbol ≡ Some (products (replicate k types) (term_of pattern))
-        → (result.0 ≡ k) × (tree_at source.now.table result.1.0 ≡ pattern) }
+    ensures is { IsGenericType source.now symbol result.0 result.1 }
     ensures known { result.1.0 < length source.now.table }
 {
     let mut count = 0;
@@ -144,9 +190,8 @@ fn generic_type(source: &Module, symbol: usize) -> (u128, LpId)
 fn matched(alloc: Global, trees: &LpTable, pattern: LpId, instance: LpId) -> Result<Found, Memory>
     requires pattern { pattern.0 < length trees.now }
     requires instance { instance.0 < length trees.now }
-    requires fits { (want : ℕ → Tree) × (tree_at trees.now instance.0 ≡ sub want (tree_at trees.now pattern.0)) }
-    ensures noted { IfOk result (λ found. (want : ℕ → Tree) → tree_at trees.now instance.0 ≡ sub want (tree_at trees.now pattern.0) → (k : ℕ) (id : AnId)
-        → IsNoted found k id → (id.0 < length trees.now) × (tree_at trees.now id.0 ≡ want k)) }
+    requires fits { (want : ℕ → Tree) × Fits want trees.now pattern instance }
+    ensures noted { IfOk result (FindsWanted trees.now pattern instance) }
     ensures all { IfOk result (λ found. (k : ℕ) → Mentions k (tree_at trees.now pattern.0) → IsDone found k) }
 {
     let mut found = Found::new(alloc);
@@ -170,8 +215,7 @@ fn met(
     found: &mut Found,
 ) -> Result<(), Memory>
     requires { (want : ℕ → Tree) × (root : Tree) × IsMatching want root trees.now (task ∷ tasks.old) found.old }
-    ensures { OnOk result ((want : ℕ → Tree) (root : Tree) → IsMatching want root trees.now (task ∷ tasks.old) found.old
-        → IsMatching want root trees.now [] found.new) }
+    ensures { OnOk result (MatchingGoesOn trees.now (task ∷ tasks.old) found.old [] found.new) }
 {
     tasks.push(task)?;
     while let Some(next) = tasks.pop() {
@@ -203,8 +247,7 @@ fn turn(
     found: &mut Found,
 ) -> Result<(), Memory>
     requires { (want : ℕ → Tree) × (root : Tree) × IsMatching want root trees.now (task ∷ tasks.old) found.old }
-    ensures matching { OnOk result ((want : ℕ → Tree) (root : Tree) → IsMatching want root trees.now (task ∷ tasks.old) found.old
-        → IsMatching want root trees.now tasks.new found.new) }
+    ensures matching { OnOk result (MatchingGoesOn trees.now (task ∷ tasks.old) found.old tasks.new found.new) }
     ensures less { OnOk result (work trees.now tasks.new < work trees.now (task ∷ tasks.old)) }
 {
     match trees.view(task.pattern) {

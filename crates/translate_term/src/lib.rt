@@ -10,6 +10,9 @@
 //! declared type of the symbol, of primitive, input and defined constants alike. That what is made in a shaped scope is shaped is
 //! a law of the clauses `made`: `terms_shaped` of `module_laws`.
 //!
+//! The names of the symbols of operators and constants are spelled here, for those that declare them too: [`input_constant_name`],
+//! [`input_operator_name`], [`constant_name`] and [`operator_name`], with [`push_numeral`] for a number in a name.
+//!
 //! A closed sequent needs no table and no scope: its tree is the product over its parameters, whose places are their numbers. It is
 //! the tree of each sequent of which this is the closed form, and it stands for the closed sequent, where the module's symbols mean
 //! what they are used for.
@@ -41,6 +44,8 @@ mod generic;
 mod memo;
 mod nodes;
 mod scope;
+mod sources;
+mod spelling;
 mod symbols;
 mod tasks;
 mod terms;
@@ -50,6 +55,7 @@ use crate::closed::closed_type;
 use crate::generic::constant_of;
 use crate::memo::TypeMemo;
 use crate::nodes::filling;
+use crate::sources::{Source, TypeSource};
 use crate::terms::term_tree;
 use crate::types::type_of;
 use common::Memory;
@@ -60,6 +66,9 @@ use holide_sig::Module;
 use lp_term::LpId;
 pub use scope::{Scope, ScopeTerms, ScopeTypes};
 use sequent::Closed;
+pub use spelling::{
+    constant_name, input_constant_name, input_operator_name, operator_name, push_numeral,
+};
 use std::alloc::Global;
 
 /// The tree of a type.
@@ -83,7 +92,12 @@ pub fn ty(
     ensures declared { declarations_of target.new ≡ declarations_of target.old }
 {
     let mut memo = TypeMemo::new(alloc);
-    type_of(alloc, target, table, &scope.types, &mut memo, id)
+    let source = TypeSource {
+        alloc,
+        table,
+        scope: &scope.types,
+    };
+    type_of(source, target, &mut memo, id)
 }
 
 /// The tree of a term.
@@ -111,7 +125,12 @@ pub fn tm(
 {
     // As many terms as the table has can be counted.
     let _count = table.count();
-    term_tree(alloc, target, table, scope, id)
+    let source = Source {
+        alloc,
+        table,
+        scope,
+    };
+    term_tree(source, target, id)
 }
 
 /// A constant at a type: its symbol at what the variables of its generic type have there.
@@ -136,10 +155,18 @@ pub fn constant(
     ensures declared { declarations_of target.new ≡ declarations_of target.old }
 {
     let mut memo = TypeMemo::new(alloc);
-    let made = type_of(alloc, target, table, &scope.types, &mut memo, ty);
+    let source = TypeSource {
+        alloc,
+        table,
+        scope: &scope.types,
+    };
+    let made = type_of(source, target, &mut memo, ty);
     drop(memo);
     let tree = made?;
-    constant_of(alloc, target, name, tree)
+    let mut text = Vec::new(alloc);
+    let instance = constant_of(alloc, target, name, tree, &mut text);
+    drop(text);
+    instance
 }
 
 /// The type that a theorem of this closed sequent is declared at: the product over its type variables, its free variables and

@@ -1,145 +1,112 @@
 //! The walk that makes the tree of a term.
-ghost use Rattle.std.specs.Prelude.{◌≡◌, ◌+◌, ◌<◌, ◌^◌, ◌∷◌, List, length, IfOk, OnOk};
-ghost use Rattle.hol_spec.specs.Names.{Name as AName};
-ghost use Rattle.hol_spec.specs.Terms.{constant as a_constant, free};
-ghost use Rattle.hol_type.specs.Tables as type;
-ghost use Rattle.hol_term.specs.Tables.{term_at};
-ghost use Rattle.hol_term.specs.declared.Variable.{Variable as AVariable};
-ghost use Rattle.hol_term.specs.Tables as hol;
-ghost use Rattle.lp_spec.specs.Modules.{term_of as terms_of};
+ghost use Rattle.std.specs.Prelude.{◌≡◌, ◌+◌, ◌<◌, ◌^◌, ◌∷◌, length, IfOk, OnOk};
 ghost use Rattle.lp_spec.specs.Trees.{lift};
-ghost use Rattle.lp_term.specs.declared.LpId.{LpId as AnId};
 ghost use Rattle.lp_term.specs.Tables as lp;
-ghost use Rattle.module_spec.specs.Scopes.{filler};
-ghost use Rattle.translate_term.specs.declared.memo.Place.{Place as APlace};
-ghost use Rattle.translate_term.specs.declared.tasks.Task.{Task as ATask};
 ghost use Rattle.translate_term.specs.declared.tasks.Task.TheVariants as task;
-ghost use Rattle.translate_term.specs.Tasks.{work};
-ghost use Rattle.translate_term.specs.Told.{TellsConstant, TellsType};
-ghost use Rattle.translate_term.specs.Walks.{AreGiven, Given, Grows, IsGiven, IsMadeAt, IsTermKnown, IsTermStart, IsTermWalk, IsTypeMemo, IsTypeStart, place_size, term_wanted, type_wanted};
+ghost use Rattle.translate_term.specs.Sources.{at_root, part_at, with_task, works_left, Begins, HoldsTerm, IsConstantTold, IsOnTerms, IsOver, IsStart, MakesConstant, MakesDomain, MakesFiller, MakesFree, MakesTerm, MakesType, MayBegin, NotesTypes, TermsGoOn};
+ghost use Rattle.translate_term.specs.Walks.{AreGiven, Given, Grows, IsMadeAt};
 
 use crate::generic::constant_of;
 use crate::memo::{Place, TermMemo, TypeMemo};
 use crate::nodes::filling;
-use crate::scope::Scope;
+use crate::sources::{Source, TypeSource};
 use crate::tasks::Task;
 use crate::types::type_of;
 use common::{Memory, Stack};
 use hol_name::Name;
-use hol_term::{TermId, TermTable, TermView, Variable};
-use hol_type::{TypeId, TypeTable};
+use hol_term::{TermId, TermView, Variable};
+use hol_type::TypeId;
 use holide_sig::symbols::TERM;
 use holide_sig::{Module, call};
 use lp_term::{LpId, LpNode};
-use std::alloc::Global;
 
-/// A walk on its way: what it is still to do, and what it has made of terms and of types.
+/// A walk on its way: what it is still to do, what it has made of terms and of types, and a text to spell names into.
 #[derive(Drop)]
 pub(crate) struct Walk {
     tasks: Stack<Task<Place>>,
     made: TermMemo,
     types: TypeMemo,
+    text: Vec<u8>,
 }
 
 // The tree of a term under no binder.
-pub(crate) fn term_tree(
-    alloc: Global,
-    target: &mut Module,
-    table: &TermTable,
-    scope: &Scope,
-    id: TermId,
-) -> Result<LpId, Memory>
-    requires { (given : Given) × IsTermStart given (record { id = id; depth = 0 }) target.old table.now scope.now.types scope.now.terms }
-    ensures made { IfOk result (λ r. (given : Given) → IsTermStart given (record { id = id; depth = 0 }) target.old table.now scope.now.types scope.now.terms
-        → lp.Holds target.new.table r.0 (term_wanted given 0 (term_at table.now id.0))) }
+pub(crate) fn term_tree(source: Source<'_>, target: &mut Module, id: TermId) -> Result<LpId, Memory>
+    requires { (given : Given) × IsStart given id source target.old }
+    ensures made { IfOk result (λ r. (given : Given) → IsStart given id source.entry target.old → HoldsTerm given (at_root id) source.entry target.new r) }
     ensures grows { Grows target.old target.new }
 {
     let root = Place { id, depth: 0 };
     let mut walk = Walk {
-        tasks: Stack::new(alloc),
-        made: TermMemo::new(alloc),
-        types: TypeMemo::new(alloc),
+        tasks: Stack::new(source.alloc),
+        made: TermMemo::new(source.alloc),
+        types: TypeMemo::new(source.alloc),
+        text: Vec::new(source.alloc),
     };
-    let tree = walked(alloc, target, table, scope, root, &mut walk);
+    let tree = walked(source, target, root, &mut walk);
     drop(walk);
     tree
 }
 
 // The tree of the term at a place that a walk is to visit next.
 fn walked(
-    alloc: Global,
+    source: Source<'_>,
     target: &mut Module,
-    table: &TermTable,
-    scope: &Scope,
     root: Place,
     walk: &mut Walk,
 ) -> Result<LpId, Memory>
-    requires { (given : Given)
-        × IsTermWalk given root target.old table.now scope.now.types scope.now.terms (task.Visit root ∷ walk.old.tasks) walk.old.made walk.old.types }
-    ensures made { IfOk result (λ r. (given : Given)
-        → IsTermWalk given root target.old table.now scope.now.types scope.now.terms (task.Visit root ∷ walk.old.tasks) walk.old.made walk.old.types
-        → lp.Holds target.new.table r.0 (term_wanted given root.depth (term_at table.now root.id.0))) }
+    requires { (given : Given) × IsOver given root source target.old (with_task (task.Visit root) walk.old) }
+    ensures made { IfOk result (MakesTerm root source.entry target.old (with_task (task.Visit root) walk.old) target.new) }
     ensures grows { Grows target.old target.new }
 {
     walk.tasks.push(Task::Visit(root))?;
     while let Some(task) = walk.tasks.pop() {
-        turn(alloc, target, table, scope, task, walk)?;
+        turn(source, target, task, walk)?;
     }
     Ok(walk.made.find(root).unwrap())
 }
 
 // One turn of the walk.
 fn turn(
-    alloc: Global,
+    source: Source<'_>,
     target: &mut Module,
-    table: &TermTable,
-    scope: &Scope,
     task: Task<Place>,
     walk: &mut Walk,
 ) -> Result<(), Memory>
-    requires { (given : Given) × (root : APlace)
-        × IsTermWalk given root target.old table.now scope.now.types scope.now.terms (task ∷ walk.old.tasks) walk.old.made walk.old.types }
+    requires { IsOnTerms source target.old (with_task task walk.old) }
     ensures grows { Grows target.old target.new }
-    ensures walk { OnOk result ((given : Given) (root : APlace)
-        → IsTermWalk given root target.old table.now scope.now.types scope.now.terms (task ∷ walk.old.tasks) walk.old.made walk.old.types
-        → IsTermWalk given root target.new table.now scope.now.types scope.now.terms walk.new.tasks walk.new.made walk.new.types) }
-    ensures less { OnOk result (work (place_size table.now) walk.new.tasks < work (place_size table.now) (task ∷ walk.old.tasks)) }
+    ensures walk { OnOk result (TermsGoOn source.entry target.old (with_task task walk.old) target.new walk.new) }
+    ensures less { OnOk result (works_left source.entry walk.new < works_left source.entry (with_task task walk.old)) }
 {
     match task {
-        Task::Visit(place) => visit(alloc, target, table, scope, place, walk),
-        Task::Join(place) => join(alloc, target, table, scope, place, walk),
+        Task::Visit(place) => visit(source, target, place, walk),
+        Task::Join(place) => join(source, target, place, walk),
     }
 }
 
 // Makes a term without parts, or sets out to make the parts.
 fn visit(
-    alloc: Global,
+    source: Source<'_>,
     target: &mut Module,
-    table: &TermTable,
-    scope: &Scope,
     place: Place,
     walk: &mut Walk,
 ) -> Result<(), Memory>
-    requires { (given : Given) × (root : APlace)
-        × IsTermWalk given root target.old table.now scope.now.types scope.now.terms (task.Visit place ∷ walk.old.tasks) walk.old.made walk.old.types }
+    requires { IsOnTerms source target.old (with_task (task.Visit place) walk.old) }
     ensures grows { Grows target.old target.new }
-    ensures walk { OnOk result ((given : Given) (root : APlace)
-        → IsTermWalk given root target.old table.now scope.now.types scope.now.terms (task.Visit place ∷ walk.old.tasks) walk.old.made walk.old.types
-        → IsTermWalk given root target.new table.now scope.now.types scope.now.terms walk.new.tasks walk.new.made walk.new.types) }
-    ensures less { OnOk result (work (place_size table.now) walk.new.tasks < work (place_size table.now) (task.Visit place ∷ walk.old.tasks)) }
+    ensures walk { OnOk result (TermsGoOn source.entry target.old (with_task (task.Visit place) walk.old) target.new walk.new) }
+    ensures less { OnOk result (works_left source.entry walk.new < works_left source.entry (with_task (task.Visit place) walk.old)) }
 {
     match walk.made.find(place) {
         Some(_) => Ok(()),
-        None => match table.view(place.id) {
+        None => match source.table.view(place.id) {
             TermView::App(f, x) => set_out_two(walk, place, f, x),
             TermView::Lam(_, body) => set_out_one(walk, place, body),
             TermView::Bound(k) => note_node(target, LpNode::Var(k), place, &mut walk.made),
             TermView::Free(name, ty) => {
-                let tree = variable(alloc, target, table, scope, &mut walk.types, name, ty)?;
+                let tree = variable(source, target, &mut walk.types, name, ty)?;
                 note_lifted(target, tree, place, &mut walk.made)
             }
             TermView::Const(name, ty) => {
-                let tree = constant(alloc, target, table, scope, &mut walk.types, name, ty)?;
+                let tree = constant(source, target, &mut walk.types, &mut walk.text, name, ty)?;
                 note_lifted(target, tree, place, &mut walk.made)
             }
         },
@@ -178,8 +145,7 @@ fn note_lifted(
 
 // Sets out to make both parts of an application, and then to come back to it.
 fn set_out_two(walk: &mut Walk, place: Place, f: TermId, x: TermId) -> Result<(), Memory>
-    ensures tasks { OnOk result (walk.new.tasks ≡ task.Visit (record { id = f; depth = place.depth }) ∷ task.Visit
-        (record { id = x; depth = place.depth }) ∷ task.Join place ∷ walk.old.tasks) }
+    ensures tasks { OnOk result (walk.new.tasks ≡ task.Visit (part_at place f) ∷ task.Visit (part_at place x) ∷ task.Join place ∷ walk.old.tasks) }
     ensures made { walk.new.made ≡ walk.old.made }
     ensures types { walk.new.types ≡ walk.old.types }
 {
@@ -209,98 +175,98 @@ fn at(id: TermId, depth: u128) -> Place
 
 // What stands for a free variable under no binder: some term of its type where nothing is told.
 fn variable(
-    alloc: Global,
+    source: Source<'_>,
     target: &mut Module,
-    table: &TermTable,
-    scope: &Scope,
     memo: &mut TypeMemo,
     name: &Name,
     ty: TypeId,
 ) -> Result<LpId, Memory>
-    requires { (given : Given) × IsTypeStart given ty target.old table.now.types scope.now.types memo.old
-        × AreGiven given target.old table.now.types scope.now.terms }
-    ensures made { IfOk result (λ r. (given : Given) → IsTypeStart given ty target.old table.now.types scope.now.types memo.old
-        → AreGiven given target.old table.now.types scope.now.terms
-        → lp.Holds target.new.table r.0 (term_wanted given 0 (free name.now (hol.type_at table.now ty.0)))) }
-    ensures noted { OnOk result ((given : Given) → IsTypeStart given ty target.old table.now.types scope.now.types memo.old
-        → IsTypeMemo given table.now.types target.new.table memo.new) }
+    requires { (given : Given) × Begins given ty source target.old memo.old × AreGiven given target.old source.table.now.types source.scope.now.terms }
+    ensures made { IfOk result (MakesFree name.now source.entry ty target.old memo.old target.new) }
+    ensures noted { OnOk result (NotesTypes source.entry.table.now.types source.entry.scope.now.types ty target.old memo.old target.new memo.new) }
     ensures grows { Grows target.old target.new }
 {
     // No type has two numbers, so a number tells the type.
-    let _count = table.types().count();
+    let _count = source.table.types().count();
     let wanted = Variable {
         name: name.clone()?,
         ty,
     };
-    let told = scope.terms.find(&wanted);
+    let told = source.scope.terms.find(&wanted);
     drop(wanted);
     match told {
         Some(tree) => Ok(tree),
-        None => some_term(alloc, target, table, scope, memo, ty),
+        None => some_term(source, target, memo, ty),
     }
 }
 
 // Some term of a type, under no binder.
 fn some_term(
-    alloc: Global,
+    source: Source<'_>,
     target: &mut Module,
-    table: &TermTable,
-    scope: &Scope,
     memo: &mut TypeMemo,
     ty: TypeId,
 ) -> Result<LpId, Memory>
-    requires { (given : Given) × IsTypeStart given ty target.old table.now.types scope.now.types memo.old }
-    ensures made { IfOk result (λ r. (given : Given) → IsTypeStart given ty target.old table.now.types scope.now.types memo.old
-        → lp.Holds target.new.table r.0 (filler (type_wanted given (hol.type_at table.now ty.0)))) }
-    ensures noted { OnOk result ((given : Given) → IsTypeStart given ty target.old table.now.types scope.now.types memo.old
-        → IsTypeMemo given table.now.types target.new.table memo.new) }
+    requires { (given : Given) × Begins given ty source target.old memo.old }
+    ensures made { IfOk result (MakesFiller source.entry ty target.old memo.old target.new) }
+    ensures noted { OnOk result (NotesTypes source.entry.table.now.types source.entry.scope.now.types ty target.old memo.old target.new memo.new) }
     ensures grows { Grows target.old target.new }
 {
-    let filled = type_of(alloc, target, table.types(), &scope.types, memo, ty)?;
+    let filled = type_in(source, target, memo, ty)?;
     filling(&mut target.table, filled)
 }
 
 // A constant under no binder: its symbol at what the variables of its generic type have in its type.
 fn constant(
-    alloc: Global,
+    source: Source<'_>,
     target: &mut Module,
-    table: &TermTable,
-    scope: &Scope,
     memo: &mut TypeMemo,
+    text: &mut Vec<u8>,
     name: &Name,
     ty: TypeId,
 ) -> Result<LpId, Memory>
-    requires { (given : Given) × IsTypeStart given ty target.old table.now.types scope.now.types memo.old
-        × TellsConstant given.declarations given.symbols name.now (hol.type_at table.now ty.0) }
-    ensures made { IfOk result (λ r. (given : Given) → IsTypeStart given ty target.old table.now.types scope.now.types memo.old
-        → TellsConstant given.declarations given.symbols name.now (hol.type_at table.now ty.0)
-        → lp.Holds target.new.table r.0 (term_wanted given 0 (a_constant name.now (hol.type_at table.now ty.0)))) }
-    ensures noted { OnOk result ((given : Given) → IsTypeStart given ty target.old table.now.types scope.now.types memo.old
-        → TellsConstant given.declarations given.symbols name.now (hol.type_at table.now ty.0) → IsTypeMemo given table.now.types target.new.table memo.new) }
+    requires { (given : Given) × Begins given ty source target.old memo.old × IsConstantTold given name.now ty source }
+    ensures made { IfOk result (MakesConstant name.now source.entry ty target.old memo.old target.new) }
+    ensures noted { OnOk result (NotesTypes source.entry.table.now.types source.entry.scope.now.types ty target.old memo.old target.new memo.new) }
     ensures grows { Grows target.old target.new }
 {
-    let tree = type_of(alloc, target, table.types(), &scope.types, memo, ty)?;
-    constant_of(alloc, target, name, tree)
+    let tree = type_in(source, target, memo, ty)?;
+    constant_of(source.alloc, target, name, tree, text)
+}
+
+// The tree of a type of a source of terms.
+fn type_in(
+    source: Source<'_>,
+    target: &mut Module,
+    memo: &mut TypeMemo,
+    ty: TypeId,
+) -> Result<LpId, Memory>
+    requires { MayBegin source.table.now.types source.scope.now.types ty target.old memo.old }
+    ensures made { IfOk result (MakesType source.entry.table.now.types source.entry.scope.now.types ty target.old memo.old target.new) }
+    ensures noted { OnOk result (NotesTypes source.entry.table.now.types source.entry.scope.now.types ty target.old memo.old target.new memo.new) }
+    ensures grows { Grows target.old target.new }
+{
+    let types = TypeSource {
+        alloc: source.alloc,
+        table: source.table.types(),
+        scope: &source.scope.types,
+    };
+    type_of(types, target, memo, ty)
 }
 
 // Makes a term of what was made of its parts.
 fn join(
-    alloc: Global,
+    source: Source<'_>,
     target: &mut Module,
-    table: &TermTable,
-    scope: &Scope,
     place: Place,
     walk: &mut Walk,
 ) -> Result<(), Memory>
-    requires { (given : Given) × (root : APlace)
-        × IsTermWalk given root target.old table.now scope.now.types scope.now.terms (task.Join place ∷ walk.old.tasks) walk.old.made walk.old.types }
+    requires { IsOnTerms source target.old (with_task (task.Join place) walk.old) }
     ensures grows { Grows target.old target.new }
-    ensures walk { OnOk result ((given : Given) (root : APlace)
-        → IsTermWalk given root target.old table.now scope.now.types scope.now.terms (task.Join place ∷ walk.old.tasks) walk.old.made walk.old.types
-        → IsTermWalk given root target.new table.now scope.now.types scope.now.terms walk.new.tasks walk.new.made walk.new.types) }
-    ensures less { OnOk result (work (place_size table.now) walk.new.tasks < work (place_size table.now) (task.Join place ∷ walk.old.tasks)) }
+    ensures walk { OnOk result (TermsGoOn source.entry target.old (with_task (task.Join place) walk.old) target.new walk.new) }
+    ensures less { OnOk result (works_left source.entry walk.new < works_left source.entry (with_task (task.Join place) walk.old)) }
 {
-    match table.view(place.id) {
+    match source.table.view(place.id) {
         TermView::App(f, x) => {
             let function = walk.made.find(at(f, place.depth)).unwrap();
             let argument = walk.made.find(at(x, place.depth)).unwrap();
@@ -313,15 +279,7 @@ fn join(
         }
         TermView::Lam(ty, body) => {
             let inside = walk.made.find(at(body, place.depth + 1)).unwrap();
-            let domain = domain(
-                alloc,
-                target,
-                table,
-                scope,
-                &mut walk.types,
-                ty,
-                place.depth,
-            )?;
+            let domain = domain(source, target, &mut walk.types, ty, place.depth)?;
             note_node(target, LpNode::Lam(domain, inside), place, &mut walk.made)
         }
         TermView::Free(..) | TermView::Bound(_) | TermView::Const(..) => Ok(()),
@@ -330,22 +288,18 @@ fn join(
 
 // The terms of a type, under so many binders.
 fn domain(
-    alloc: Global,
+    source: Source<'_>,
     target: &mut Module,
-    table: &TermTable,
-    scope: &Scope,
     memo: &mut TypeMemo,
     ty: TypeId,
     depth: u128,
 ) -> Result<LpId, Memory>
-    requires { (given : Given) × IsTypeStart given ty target.old table.now.types scope.now.types memo.old }
-    ensures made { IfOk result (λ r. (given : Given) → IsTypeStart given ty target.old table.now.types scope.now.types memo.old
-        → lp.Holds target.new.table r.0 (terms_of (lift depth (type_wanted given (hol.type_at table.now ty.0))))) }
-    ensures noted { OnOk result ((given : Given) → IsTypeStart given ty target.old table.now.types scope.now.types memo.old
-        → IsTypeMemo given table.now.types target.new.table memo.new) }
+    requires { (given : Given) × Begins given ty source target.old memo.old }
+    ensures made { IfOk result (MakesDomain depth source.entry ty target.old memo.old target.new) }
+    ensures noted { OnOk result (NotesTypes source.entry.table.now.types source.entry.scope.now.types ty target.old memo.old target.new memo.new) }
     ensures grows { Grows target.old target.new }
 {
-    let tree = type_of(alloc, target, table.types(), &scope.types, memo, ty)?;
+    let tree = type_in(source, target, memo, ty)?;
     let lifted = target.table.lift(depth, tree)?;
     call(&mut target.table, TERM, &[lifted])
 }

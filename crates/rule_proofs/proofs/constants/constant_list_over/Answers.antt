@@ -20,36 +20,36 @@ use Rattle.rule_proofs.specs.EnvironmentLaws.{Stands-Grows}
 use Rattle.rule_proofs.proofs.constants.constant_list_over.Goals as goal
 
 pub add_constants-requires-clause-variables : goal.add_constants-requires-clause-variables
-add_constants-requires-clause-variables c = subst (HaveTypes c.args.proof.now.trees) (sym c.variables.ensures) c.requires.params.known
+add_constants-requires-clause-variables c = subst (HaveTypes c.args.ground.proof.now.trees) (sym c.variables-variables.ensures) c.requires.params.known
 
 pub add_constants-requires-clause-told : goal.add_constants-requires-clause-told
 add_constants-requires-clause-told c =
-    let trees = c.args.proof.now.trees in
-    let s = sequent_at c.args.proof.now.made c.args.one.id in
+    let trees = c.args.ground.proof.now.trees in
+    let s = sequent_at c.args.ground.proof.now.made c.args.one.id in
     let given = c.requires.told.0 in
-    let variables = ap (variables_of trees) c.variables.ensures ∙ c.requires.params.free_vars in (
+    let variables = ap (variables_of trees) c.variables-variables.ensures ∙ c.requires.params.free_vars in (
       given,
-      Stands-Grows c.add_type_variables.ensures.grows given trees c.args.env.now c.requires.told.1,
+      Stands-Grows c.add_type_variables.ensures.grows given trees c.args.ground.env.now c.requires.told.1,
       c.requires.told.2,
       subst (AllByRecursion (λ (v : Variable). TellsType given.declarations given.symbols v.1)) (sym variables) (variables-told given.declarations given.symbols s c.requires.told.3),
     )
 
 pub add_self_proofs-requires-clause-hyps : goal.add_self_proofs-requires-clause-hyps
-add_self_proofs-requires-clause-hyps c = subst (AreTermsOf c.args.proof.now.trees) (sym c.ids.ensures.numbers) c.sequent-sequent.ensures.known.0
+add_self_proofs-requires-clause-hyps c = subst (AreTermsOf c.args.ground.proof.now.trees) (sym c.ids.ensures.numbers) c.sequent-sequent.ensures.known.0
 
 pub add_self_proofs-requires-clause-equations : goal.add_self_proofs-requires-clause-equations
 add_self_proofs-requires-clause-equations c =
-    let k = c.args.proof.now in
+    let k = c.args.ground.proof.now in
     let hyps = ap (terms_at k.trees) c.ids.ensures.numbers ∙ ap (λ s. s.hypotheses) c.sequent-sequent.ensures.is in
     subst (AllByRecursion IsEquationFormula) (sym hyps) (definition_list-equations (pairs_view k.trees c.args.pairs.now) (sequent_at k.made c.args.one.id) (step-IsSequent k.made c.is_proof.ensures c.args.one.id c.requires.one) c.requires.list)
 
 pub add_self_proofs-requires-clause-told : goal.add_self_proofs-requires-clause-told
 add_self_proofs-requires-clause-told c =
-    let trees = c.args.proof.now.trees in
+    let trees = c.args.ground.proof.now.trees in
     let given = c.requires.told.0 in
     let hyps = ap (terms_at trees) c.ids.ensures.numbers ∙ ap (λ s. s.hypotheses) c.sequent-sequent.ensures.is in (
       given,
-      Stands-Grows (Grows-trans c.add_type_variables.ensures.grows c.add_constants.ensures.grows) given trees c.args.env.now c.requires.told.1,
+      Stands-Grows (Grows-trans c.add_type_variables.ensures.grows c.add_constants.ensures.grows) given trees c.args.ground.env.now c.requires.told.1,
       subst (AllByRecursion (TellsTerm given.declarations given.symbols)) (sym hyps) c.requires.told.3.hypotheses,
     )
 
@@ -61,12 +61,12 @@ returns-in_err-add_self_proofs-clause-grows c = Grows-trans c.add_type_variables
 
 pub call-requires : goal.call-requires
 call-requires c =
-    let trees = c.args.proof.now.trees in
-    let s = sequent_at c.args.proof.now.made c.args.one.id in
+    let trees = c.args.ground.proof.now.trees in
+    let s = sequent_at c.args.ground.proof.now.made c.args.one.id in
     let given = c.requires.told.0 in
-    let variables = ap (variables_of trees) c.variables.ensures ∙ c.requires.params.free_vars in
+    let variables = ap (variables_of trees) c.variables-variables.ensures ∙ c.requires.params.free_vars in
     let hyps = ap (terms_at trees) c.ids.ensures.numbers ∙ ap (λ s. s.hypotheses) c.sequent-sequent.ensures.is in
-    let first = c.in_ok-add_type_variables.ensures.ready given trees [] (Ready-start given c.args.target.now trees c.args.env.now _ c.requires.none c.requires.told.1) in
+    let first = c.in_ok-add_type_variables.ensures.ready given trees [] (Ready-start given c.args.target.now trees c.args.ground.env.now _ c.requires.none c.requires.told.1) in
     let second = c.in_ok-add_constants.ensures.ready given _ first c.requires.told.2
     (subst (AllByRecursion (λ (v : Variable). TellsType given.declarations given.symbols v.1)) (sym variables) (variables-told given.declarations given.symbols s c.requires.told.3)) in
     let third = c.in_ok-add_self_proofs.ensures.ready given _ second (subst (AllByRecursion (TellsTerm given.declarations given.symbols)) (sym hyps) c.requires.told.3.hypotheses) in
@@ -74,14 +74,14 @@ call-requires c =
 
 pub returns-clause-made : goal.returns-clause-made
 returns-clause-made c =
-    let trees = c.args.proof.now.trees in
-    let s = sequent_at c.args.proof.now.made c.args.one.id in
+    let trees = c.args.ground.proof.now.trees in
+    let s = sequent_at c.args.ground.proof.now.made c.args.one.id in
     let names = c.names.ensures ∙ c.requires.params.type_vars in
-    let variables = ap (variables_of trees) c.variables.ensures ∙ c.requires.params.free_vars in
+    let variables = ap (variables_of trees) c.variables-variables.ensures ∙ c.requires.params.free_vars in
     let hyps = ap (terms_at trees) c.ids.ensures.numbers ∙ ap (λ s. s.hypotheses) c.sequent-sequent.ensures.is in
     IfOk-weaker c.call.result _ _
     (λ r h given stands constants told.
-    let first = c.in_ok-add_type_variables.ensures.ready given trees [] (Ready-start given c.args.target.now trees c.args.env.now _ c.requires.none stands) in
+    let first = c.in_ok-add_type_variables.ensures.ready given trees [] (Ready-start given c.args.target.now trees c.args.ground.env.now _ c.requires.none stands) in
     let second = c.in_ok-add_constants.ensures.ready given _ first constants
     (subst (AllByRecursion (λ (v : Variable). TellsType given.declarations given.symbols v.1)) (sym variables) (variables-told given.declarations given.symbols s told)) in
     let third = c.in_ok-add_self_proofs.ensures.ready given _ second (subst (AllByRecursion (TellsTerm given.declarations given.symbols)) (sym hyps) told.hypotheses) in

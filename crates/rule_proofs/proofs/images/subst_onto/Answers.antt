@@ -24,48 +24,48 @@ use Rattle.rule_proofs.proofs.images.subst_onto.Goals as goal
 
 pub add_type_images-requires-clause-told : goal.add_type_images-requires-clause-told
 add_type_images-requires-clause-told c =
-    let k = c.args.proof.now in
+    let k = c.args.ground.proof.now in
     let given = c.requires.told.0 in
     let names = c.names.ensures ∙ c.requires.params.type_vars in
-    (given, c.requires.told.1, subst (AllByRecursion (λ (n : Name). TellsType given.declarations given.symbols (image (type_pairs k.trees c.args.put.now) n))) (sym names) (names-told k c.args.put.now c.args.id c.args.one.id c.requires.substituted given c.requires.told.2))
+    (given, c.requires.told.1, subst (AllByRecursion (λ (n : Name). TellsType given.declarations given.symbols (image (type_pairs k.trees c.args.step.put.now) n))) (sym names) (names-told k c.args.step.put.now c.args.step.id c.args.step.one.id c.requires.substituted given c.requires.told.2))
 
 pub add_term_images-requires-clause-own : goal.add_term_images-requires-clause-own
-add_term_images-requires-clause-own c = subst (HaveTypes c.args.proof.now.trees) (sym c.variables-variables.ensures) c.requires.own_params.known
+add_term_images-requires-clause-own c = subst (HaveTypes c.args.ground.proof.now.trees) (sym c.variables-variables.ensures) c.requires.own_params.known
 
 pub add_term_images-requires-clause-variables : goal.add_term_images-requires-clause-variables
-add_term_images-requires-clause-variables c = subst (HaveTypes c.args.proof.now.trees) (sym c.variables.ensures) c.requires.params.known
+add_term_images-requires-clause-variables c = subst (HaveTypes c.args.ground.proof.now.trees) (sym c.variables-general.ensures) c.requires.params.known
 
 pub add_term_images-requires-clause-there : goal.add_term_images-requires-clause-there
 add_term_images-requires-clause-there c =
-    let k = c.args.proof.now in
+    let k = c.args.ground.proof.now in
     let own = ap (variables_of k.trees) c.variables-variables.ensures ∙ c.requires.own_params.free_vars in
-    let variables = ap (variables_of k.trees) c.variables.ensures ∙ c.requires.params.free_vars in
-    subst (AllByRecursion (HasOwnVariable k.trees c.args.put.now _)) (sym variables) (variables-there k c.args.put.now c.args.id c.args.one.id c.requires.substituted c.variables-variables.result.now own)
+    let variables = ap (variables_of k.trees) c.variables-general.ensures ∙ c.requires.params.free_vars in
+    subst (AllByRecursion (HasOwnVariable k.trees c.args.step.put.now _)) (sym variables) (variables-there k c.args.step.put.now c.args.step.id c.args.step.one.id c.requires.substituted c.variables-variables.result.now own)
 
 pub add_term_images-requires-clause-told : goal.add_term_images-requires-clause-told
 add_term_images-requires-clause-told c =
-    let k = c.args.proof.now in
+    let k = c.args.ground.proof.now in
     let given = c.requires.told.0 in
-    let variables = ap (variables_of k.trees) c.variables.ensures ∙ c.requires.params.free_vars in (
+    let variables = ap (variables_of k.trees) c.variables-general.ensures ∙ c.requires.params.free_vars in (
       given,
-      Stands-Grows c.add_type_images.ensures.grows given k.trees c.args.env.now c.requires.told.1,
-      subst (AllByRecursion (λ (v : Variable). IsTold given (variable_image k.trees c.args.put.now v))) (sym variables) (images-are-told k c.args.put.now c.args.id c.args.one.id c.requires.substituted given c.requires.told.2),
+      Stands-Grows c.add_type_images.ensures.grows given k.trees c.args.ground.env.now c.requires.told.1,
+      subst (AllByRecursion (λ (v : Variable). IsTold given (variable_image k.trees c.args.step.put.now v))) (sym variables) (images-are-told k c.args.step.put.now c.args.step.id c.args.step.one.id c.requires.substituted given c.requires.told.2),
     )
 
 pub add_hypothesis_images-requires-clause-own : goal.add_hypothesis_images-requires-clause-own
-add_hypothesis_images-requires-clause-own c = subst (AreTermsOf c.args.proof.now.trees) (sym c.ids.ensures.numbers) c.sequent-own.ensures.known.0
+add_hypothesis_images-requires-clause-own c = subst (AreTermsOf c.args.ground.proof.now.trees) (sym c.ids.ensures.numbers) c.sequent-own.ensures.known.0
 
 pub add_hypothesis_images-requires-clause-hyps : goal.add_hypothesis_images-requires-clause-hyps
-add_hypothesis_images-requires-clause-hyps c = subst (AreTermsOf c.args.proof.now.trees) (sym c.ids-2.ensures.numbers) c.sequent-sequent.ensures.known.0
+add_hypothesis_images-requires-clause-hyps c = subst (AreTermsOf c.args.ground.proof.now.trees) (sym c.ids-2.ensures.numbers) c.sequent-sequent.ensures.known.0
 
 pub add_hypothesis_images-requires-clause-there : goal.add_hypothesis_images-requires-clause-there
 add_hypothesis_images-requires-clause-there c =
-    let k = c.args.proof.now in
+    let k = c.args.ground.proof.now in
     let own = ap (terms_at k.trees) c.ids.ensures.numbers ∙ ap (λ s. s.hypotheses) c.sequent-own.ensures.is in
     let hyps = ap (terms_at k.trees) c.ids-2.ensures.numbers ∙ ap (λ s. s.hypotheses) c.sequent-sequent.ensures.is in
-    subst (λ l. AllByRecursion (λ (h : Term). IsIn (terms_at k.trees c.ids.result.now) (sub (type_pairs k.trees c.args.put.now) (term_pairs k.trees c.args.put.now) h)) l) (sym hyps)
-    (subst (λ l. AllByRecursion (λ (h : Term). IsIn l (sub (type_pairs k.trees c.args.put.now) (term_pairs k.trees c.args.put.now) h)) (sequent_at k.made c.args.one.id).hypotheses) (sym own)
-    (hypotheses-there k c.args.put.now c.args.id c.args.one.id c.requires.substituted))
+    subst (λ l. AllByRecursion (λ (h : Term). IsIn (terms_at k.trees c.ids.result.now) (sub (type_pairs k.trees c.args.step.put.now) (term_pairs k.trees c.args.step.put.now) h)) l) (sym hyps)
+    (subst (λ l. AllByRecursion (λ (h : Term). IsIn l (sub (type_pairs k.trees c.args.step.put.now) (term_pairs k.trees c.args.step.put.now) h)) (sequent_at k.made c.args.step.one.id).hypotheses) (sym own)
+    (hypotheses-there k c.args.step.put.now c.args.step.id c.args.step.one.id c.requires.substituted))
 
 pub returns-in_err-add_term_images-clause-grows : goal.returns-in_err-add_term_images-clause-grows
 returns-in_err-add_term_images-clause-grows c = Grows-trans c.add_type_images.ensures.grows c.add_term_images.ensures.grows
@@ -75,33 +75,33 @@ returns-in_err-add_hypothesis_images-clause-grows c = Grows-trans c.add_type_ima
 
 pub call-requires : goal.call-requires
 call-requires c =
-    let k = c.args.proof.now in
+    let k = c.args.ground.proof.now in
     let given = c.requires.told.0 in
     let names = c.names.ensures ∙ c.requires.params.type_vars in
-    let variables = ap (variables_of k.trees) c.variables.ensures ∙ c.requires.params.free_vars in
-    let first = c.in_ok-add_type_images.ensures.ready given [] (Ready-start given c.args.target.now k.trees c.args.env.now _ c.requires.none c.requires.told.1)
-    (subst (AllByRecursion (λ (n : Name). TellsType given.declarations given.symbols (image (type_pairs k.trees c.args.put.now) n))) (sym names) (names-told k c.args.put.now c.args.id c.args.one.id c.requires.substituted given c.requires.told.2)) in
+    let variables = ap (variables_of k.trees) c.variables-general.ensures ∙ c.requires.params.free_vars in
+    let first = c.in_ok-add_type_images.ensures.ready given [] (Ready-start given c.args.target.now k.trees c.args.ground.env.now _ c.requires.none c.requires.told.1)
+    (subst (AllByRecursion (λ (n : Name). TellsType given.declarations given.symbols (image (type_pairs k.trees c.args.step.put.now) n))) (sym names) (names-told k c.args.step.put.now c.args.step.id c.args.step.one.id c.requires.substituted given c.requires.told.2)) in
     let second = c.in_ok-add_term_images.ensures.ready given _ first
-    (subst (AllByRecursion (λ (v : Variable). IsTold given (variable_image k.trees c.args.put.now v))) (sym variables) (images-are-told k c.args.put.now c.args.id c.args.one.id c.requires.substituted given c.requires.told.2)) in
+    (subst (AllByRecursion (λ (v : Variable). IsTold given (variable_image k.trees c.args.step.put.now v))) (sym variables) (images-are-told k c.args.step.put.now c.args.step.id c.args.step.one.id c.requires.substituted given c.requires.told.2)) in
     subst (AreKnown c.add_hypothesis_images.new.target.table) (sym c.deref.ensures.value) (c.in_ok-add_hypothesis_images.ensures.ready given _ second).known
 
 pub returns-clause-made : goal.returns-clause-made
 returns-clause-made c =
-    let k = c.args.proof.now in
-    let s = sequent_at k.made c.args.one.id in
+    let k = c.args.ground.proof.now in
+    let s = sequent_at k.made c.args.step.one.id in
     let names = c.names.ensures ∙ c.requires.params.type_vars in
-    let variables = ap (variables_of k.trees) c.variables.ensures ∙ c.requires.params.free_vars in
+    let variables = ap (variables_of k.trees) c.variables-general.ensures ∙ c.requires.params.free_vars in
     let hyps = ap (terms_at k.trees) c.ids-2.ensures.numbers ∙ ap (λ s. s.hypotheses) c.sequent-sequent.ensures.is in
     IfOk-weaker c.call.result _ _
     (λ r h given stands told.
-    let first = c.in_ok-add_type_images.ensures.ready given [] (Ready-start given c.args.target.now k.trees c.args.env.now _ c.requires.none stands)
-    (subst (AllByRecursion (λ (n : Name). TellsType given.declarations given.symbols (image (type_pairs k.trees c.args.put.now) n))) (sym names) (names-told k c.args.put.now c.args.id c.args.one.id c.requires.substituted given told)) in
+    let first = c.in_ok-add_type_images.ensures.ready given [] (Ready-start given c.args.target.now k.trees c.args.ground.env.now _ c.requires.none stands)
+    (subst (AllByRecursion (λ (n : Name). TellsType given.declarations given.symbols (image (type_pairs k.trees c.args.step.put.now) n))) (sym names) (names-told k c.args.step.put.now c.args.step.id c.args.step.one.id c.requires.substituted given told)) in
     let second = c.in_ok-add_term_images.ensures.ready given _ first
-    (subst (AllByRecursion (λ (v : Variable). IsTold given (variable_image k.trees c.args.put.now v))) (sym variables) (images-are-told k c.args.put.now c.args.id c.args.one.id c.requires.substituted given told)) in
+    (subst (AllByRecursion (λ (v : Variable). IsTold given (variable_image k.trees c.args.step.put.now v))) (sym variables) (images-are-told k c.args.step.put.now c.args.step.id c.args.step.one.id c.requires.substituted given told)) in
     let third = c.in_ok-add_hypothesis_images.ensures.ready given _ second in
-    h ∙ ap (λ l. Some (applied (Sym c.args.one.symbol) l))
+    h ∙ ap (λ l. Some (applied (Sym c.args.step.one.symbol) l))
     (ap (trees_at c.add_hypothesis_images.new.target.table) c.deref.ensures.value ∙ third.are
-    ∙ theorem-args (images given.symbols (type_pairs k.trees c.args.put.now) (term_pairs k.trees c.args.put.now) given.scope) s c.names.result.now _ _ names variables hyps))
+    ∙ theorem-args (images given.symbols (type_pairs k.trees c.args.step.put.now) (term_pairs k.trees c.args.step.put.now) given.scope) s c.names.result.now _ _ names variables hyps))
     c.call.ensures.made
 
 pub returns-clause-grows : goal.returns-clause-grows

@@ -34,5 +34,5 @@ returns-clause-ready c = λ given made h whole told.
     let before = Grows-trans c.part_call.ensures.grows (Grows-table _ _ c.at_variable.ensures.keeps) in
     let part = Holds-tree_at _ c.in_ok-part.part.0 _ (c.in_ok-part.ensures.made given h.stands whole told) in
     let body = Holds-tree_at _ c.in_ok-body.body.0 _ c.in_ok-body.ensures.made in
-    Ready-more grows given c.args.proof.now.trees c.args.env.now c.args.args.now.items _ made c.in_ok-tree.tree _
+    Ready-more grows given c.args.ground.proof.now.trees c.args.ground.env.now c.args.args.now.items _ made c.in_ok-tree.tree _
     (c.in_ok-tree.ensures.made ∙ ap₂ (λ a b. Some (Lam (term_of a) b)) (sym (tree_at-Stays before.table.stays c.args.domain.0 c.requires.domain)) (body ∙ (λ i. App (part i) (Var 0)))) c.in_ok-push.ensures.items h

@@ -12,24 +12,24 @@ use Rattle.rule_proofs.proofs.SequentLaws.{equated-right, right-told}
 use Rattle.rule_proofs.proofs.parts.first_law_free.Goals as goal
 
 pub sides-own-requires-clause-equation : goal.sides-own-requires-clause-equation
-sides-own-requires-clause-equation c = record { ty = _; left = _; right = _; is = first-equation c.args.proof.now c.args.id c.args.one.id c.requires.law.0 c.requires.law.1 }
+sides-own-requires-clause-equation c = record { ty = _; left = _; right = _; is = first-equation c.args.ground.proof.now c.args.id c.args.one.id c.requires.law.0 c.requires.law.1 }
 
 pub part_at-requires-clause-id : goal.part_at-requires-clause-id
 part_at-requires-clause-id c = c.sides-own.ensures.right
 
 pub part_at-requires-clause-defines : goal.part_at-requires-clause-defines
-part_at-requires-clause-defines c = first-defining c.args.proof.now c.args.id c.args.one.id c.requires.law.0 c.requires.law.1
+part_at-requires-clause-defines c = first-defining c.args.ground.proof.now c.args.id c.args.one.id c.requires.law.0 c.requires.law.1
 
 pub part_at-requires-clause-told : goal.part_at-requires-clause-told
 part_at-requires-clause-told c =
-    let k = c.args.proof.now in
+    let k = c.args.ground.proof.now in
     let q = c.requires.told in
     let own = c.sides-own in
     (q.0, q.1, q.2, first_free-told k c.args.id c.args.one.id c.requires.law.0 q.0 q.3 c.requires.law.1, q.4, right-told k c.args.id own.result own.ensures q.0 q.3)
 
 pub returns-clause-made : goal.returns-clause-made
 returns-clause-made c =
-    let k = c.args.proof.now in
+    let k = c.args.ground.proof.now in
     let own = c.sides-own in
     IfOk-weaker c.part_at.result _ _
     (λ r h given names is stands outer told one.

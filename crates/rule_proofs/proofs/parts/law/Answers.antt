@@ -21,39 +21,39 @@ use Rattle.rule_proofs.proofs.parts.law.Goals as goal
 pub ty-requires-clause-told : goal.ty-requires-clause-told
 ty-requires-clause-told c =
     let given = c.requires.told.0 in
-    let k = c.args.proof.now in
+    let k = c.args.ground.proof.now in
     let f = c.function_sides-own in
     (given, c.requires.told.1, from-told k c.args.id f.result f.ensures given c.requires.told.3)
 
 pub add_type-requires-clause-told : goal.add_type-requires-clause-told
 add_type-requires-clause-told c =
     let given = c.requires.told.0 in
-    let k = c.args.proof.now in
+    let k = c.args.ground.proof.now in
     let f = c.function_sides-own in
-    let start = Ready-start given c.args.target.now k.trees c.args.env.now _ c.new-args.ensures.items c.requires.told.1 in
+    let start = Ready-start given c.args.target.now k.trees c.args.ground.env.now _ c.new-args.ensures.items c.requires.told.1 in
     let from = c.in_ok-domain.ensures.made given c.requires.told.1 (from-told k c.args.id f.result f.ensures given c.requires.told.3) in
-    let first = Ready-more c.ty.ensures.grows given k.trees c.args.env.now _ _ _ c.in_ok-domain.domain _ from c.in_ok-push.ensures.items start in
+    let first = Ready-more c.ty.ensures.grows given k.trees c.args.ground.env.now _ _ _ c.in_ok-domain.domain _ from c.in_ok-push.ensures.items start in
     (given, first.stands, to-told k c.args.id f.result f.ensures given c.requires.told.3)
 
 pub add_term-requires-clause-told : goal.add_term-requires-clause-told
 add_term-requires-clause-told c =
     let given = c.requires.told.0 in
-    let k = c.args.proof.now in
+    let k = c.args.ground.proof.now in
     let f = c.function_sides-own in
-    let start = Ready-start given c.args.target.now k.trees c.args.env.now _ c.new-args.ensures.items c.requires.told.1 in
+    let start = Ready-start given c.args.target.now k.trees c.args.ground.env.now _ c.new-args.ensures.items c.requires.told.1 in
     let from = c.in_ok-domain.ensures.made given c.requires.told.1 (from-told k c.args.id f.result f.ensures given c.requires.told.3) in
-    let first = Ready-more c.ty.ensures.grows given k.trees c.args.env.now _ _ _ c.in_ok-domain.domain _ from c.in_ok-push.ensures.items start in
+    let first = Ready-more c.ty.ensures.grows given k.trees c.args.ground.env.now _ _ _ c.in_ok-domain.domain _ from c.in_ok-push.ensures.items start in
     let second = c.in_ok-add_type.ensures.ready given _ first (to-told k c.args.id f.result f.ensures given c.requires.told.3) in
     (given, second.stands, left-told k c.args.id f.result.sides f.ensures.sides given c.requires.told.3)
 
 pub add_term-requires-2-clause-told : goal.add_term-requires-2-clause-told
 add_term-requires-2-clause-told c =
     let given = c.requires.told.0 in
-    let k = c.args.proof.now in
+    let k = c.args.ground.proof.now in
     let f = c.function_sides-own in
-    let start = Ready-start given c.args.target.now k.trees c.args.env.now _ c.new-args.ensures.items c.requires.told.1 in
+    let start = Ready-start given c.args.target.now k.trees c.args.ground.env.now _ c.new-args.ensures.items c.requires.told.1 in
     let from = c.in_ok-domain.ensures.made given c.requires.told.1 (from-told k c.args.id f.result f.ensures given c.requires.told.3) in
-    let first = Ready-more c.ty.ensures.grows given k.trees c.args.env.now _ _ _ c.in_ok-domain.domain _ from c.in_ok-push.ensures.items start in
+    let first = Ready-more c.ty.ensures.grows given k.trees c.args.ground.env.now _ _ _ c.in_ok-domain.domain _ from c.in_ok-push.ensures.items start in
     let second = c.in_ok-add_type.ensures.ready given _ first (to-told k c.args.id f.result f.ensures given c.requires.told.3) in
     let third = c.in_ok-add_term.ensures.ready given _ second (left-told k c.args.id f.result.sides f.ensures.sides given c.requires.told.3) in
     (given, third.stands, right-told k c.args.id f.result.sides f.ensures.sides given c.requires.told.3)
@@ -61,7 +61,7 @@ add_term-requires-2-clause-told c =
 pub add_part-requires-clause-domain : goal.add_part-requires-clause-domain
 add_part-requires-clause-domain c =
     let given = c.requires.told.0 in
-    let k = c.args.proof.now in
+    let k = c.args.ground.proof.now in
     let f = c.function_sides-own in
     let from = c.in_ok-domain.ensures.made given c.requires.told.1 (from-told k c.args.id f.result f.ensures given c.requires.told.3) in
     let grows = Grows-trans c.ty.ensures.grows (Grows-trans c.add_type.ensures.grows (Grows-trans c.add_term.ensures.grows c.add_term-2.ensures.grows)) in
@@ -71,33 +71,33 @@ add_part-requires-clause-domain c =
 pub add_part-requires-clause-told : goal.add_part-requires-clause-told
 add_part-requires-clause-told c =
     let given = c.requires.told.0 in
-    let k = c.args.proof.now in
+    let k = c.args.ground.proof.now in
     let f = c.function_sides-own in
-    let start = Ready-start given c.args.target.now k.trees c.args.env.now _ c.new-args.ensures.items c.requires.told.1 in
+    let start = Ready-start given c.args.target.now k.trees c.args.ground.env.now _ c.new-args.ensures.items c.requires.told.1 in
     let from = c.in_ok-domain.ensures.made given c.requires.told.1 (from-told k c.args.id f.result f.ensures given c.requires.told.3) in
-    let first = Ready-more c.ty.ensures.grows given k.trees c.args.env.now _ _ _ c.in_ok-domain.domain _ from c.in_ok-push.ensures.items start in
+    let first = Ready-more c.ty.ensures.grows given k.trees c.args.ground.env.now _ _ _ c.in_ok-domain.domain _ from c.in_ok-push.ensures.items start in
     let second = c.in_ok-add_type.ensures.ready given _ first (to-told k c.args.id f.result f.ensures given c.requires.told.3) in
     let third = c.in_ok-add_term.ensures.ready given _ second (left-told k c.args.id f.result.sides f.ensures.sides given c.requires.told.3) in
     let fourth = c.in_ok-add_term-2.ensures.ready given _ third (right-told k c.args.id f.result.sides f.ensures.sides given c.requires.told.3) in
     let inner = with_scope given (lifted given.scope) in
     let grows = Grows-trans c.ty.ensures.grows (Grows-trans c.add_type.ensures.grows (Grows-trans c.add_term.ensures.grows c.add_term-2.ensures.grows)) in
-    let under = Ready-other (Grows-refl c.add_term-2.new.target) given inner k.trees c.args.env.now c.args.inner.now _ _ fourth (Stands-Grows grows inner k.trees c.args.inner.now c.requires.told.2) in
+    let under = Ready-other (Grows-refl c.add_term-2.new.target) given inner k.trees c.args.ground.env.now c.args.inner.now _ _ fourth (Stands-Grows grows inner k.trees c.args.inner.now c.requires.told.2) in
     (inner, under.stands, c.requires.told.4, c.requires.told.5)
 
 pub call-requires : goal.call-requires
 call-requires c =
     let given = c.requires.told.0 in
-    let k = c.args.proof.now in
+    let k = c.args.ground.proof.now in
     let f = c.function_sides-own in
-    let start = Ready-start given c.args.target.now k.trees c.args.env.now _ c.new-args.ensures.items c.requires.told.1 in
+    let start = Ready-start given c.args.target.now k.trees c.args.ground.env.now _ c.new-args.ensures.items c.requires.told.1 in
     let from = c.in_ok-domain.ensures.made given c.requires.told.1 (from-told k c.args.id f.result f.ensures given c.requires.told.3) in
-    let first = Ready-more c.ty.ensures.grows given k.trees c.args.env.now _ _ _ c.in_ok-domain.domain _ from c.in_ok-push.ensures.items start in
+    let first = Ready-more c.ty.ensures.grows given k.trees c.args.ground.env.now _ _ _ c.in_ok-domain.domain _ from c.in_ok-push.ensures.items start in
     let second = c.in_ok-add_type.ensures.ready given _ first (to-told k c.args.id f.result f.ensures given c.requires.told.3) in
     let third = c.in_ok-add_term.ensures.ready given _ second (left-told k c.args.id f.result.sides f.ensures.sides given c.requires.told.3) in
     let fourth = c.in_ok-add_term-2.ensures.ready given _ third (right-told k c.args.id f.result.sides f.ensures.sides given c.requires.told.3) in
     let inner = with_scope given (lifted given.scope) in
     let grows = Grows-trans c.ty.ensures.grows (Grows-trans c.add_type.ensures.grows (Grows-trans c.add_term.ensures.grows c.add_term-2.ensures.grows)) in
-    let under = Ready-other (Grows-refl c.add_term-2.new.target) given inner k.trees c.args.env.now c.args.inner.now _ _ fourth (Stands-Grows grows inner k.trees c.args.inner.now c.requires.told.2) in
+    let under = Ready-other (Grows-refl c.add_term-2.new.target) given inner k.trees c.args.ground.env.now c.args.inner.now _ _ fourth (Stands-Grows grows inner k.trees c.args.inner.now c.requires.told.2) in
     let last = c.in_ok-add_part.ensures.ready inner _ under c.requires.told.4 c.requires.told.5 in
     subst (AreKnown _) (sym c.deref.ensures.value) last.known
 
@@ -105,17 +105,17 @@ pub returns-clause-made : goal.returns-clause-made
 returns-clause-made c =
     IfOk-weaker c.call.result _ _
     (λ r h given a b t u e stands inside own whole one.
-    let k = c.args.proof.now in
+    let k = c.args.ground.proof.now in
     let f = c.function_sides-own in
-    let start = Ready-start given c.args.target.now k.trees c.args.env.now _ c.new-args.ensures.items stands in
+    let start = Ready-start given c.args.target.now k.trees c.args.ground.env.now _ c.new-args.ensures.items stands in
     let from = c.in_ok-domain.ensures.made given stands (from-told k c.args.id f.result f.ensures given own) in
-    let first = Ready-more c.ty.ensures.grows given k.trees c.args.env.now _ _ _ c.in_ok-domain.domain _ from c.in_ok-push.ensures.items start in
+    let first = Ready-more c.ty.ensures.grows given k.trees c.args.ground.env.now _ _ _ c.in_ok-domain.domain _ from c.in_ok-push.ensures.items start in
     let second = c.in_ok-add_type.ensures.ready given _ first (to-told k c.args.id f.result f.ensures given own) in
     let third = c.in_ok-add_term.ensures.ready given _ second (left-told k c.args.id f.result.sides f.ensures.sides given own) in
     let fourth = c.in_ok-add_term-2.ensures.ready given _ third (right-told k c.args.id f.result.sides f.ensures.sides given own) in
     let inner = with_scope given (lifted given.scope) in
     let grows = Grows-trans c.ty.ensures.grows (Grows-trans c.add_type.ensures.grows (Grows-trans c.add_term.ensures.grows c.add_term-2.ensures.grows)) in
-    let under = Ready-other (Grows-refl c.add_term-2.new.target) given inner k.trees c.args.env.now c.args.inner.now _ _ fourth (Stands-Grows grows inner k.trees c.args.inner.now inside) in
+    let under = Ready-other (Grows-refl c.add_term-2.new.target) given inner k.trees c.args.ground.env.now c.args.inner.now _ _ fourth (Stands-Grows grows inner k.trees c.args.inner.now inside) in
     let last = c.in_ok-add_part.ensures.ready inner _ under whole one in
     let later = Grows-trans c.add_type.ensures.grows (Grows-trans c.add_term.ensures.grows c.add_term-2.ensures.grows) in
     let domain = sym (tree_at-Stays later.table.stays c.in_ok-domain.domain.0 (Holds-within _ c.in_ok-domain.domain.0 _ from)) ∙ Holds-tree_at _ c.in_ok-domain.domain.0 _ from in

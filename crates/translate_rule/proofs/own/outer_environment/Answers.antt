@@ -9,12 +9,12 @@ use Rattle.translate_rule.proofs.own.outer_environment.Goals as goal
 
 pub returns-clause-made : goal.returns-clause-made
 returns-clause-made c =
-    let k = c.args.proof.now in
+    let k = c.args.step.ground.proof.now in
     let hyps = c.ids-hyps.ensures.numbers in
     let count = ap length c.variables-variables.ensures in
     IfOk-weaker c.of_types.result _ _
-    (λ env h d symbols declared. h (over_types (given_at d symbols (sequent_at k.made c.args.id))) k.trees
+    (λ env h d symbols declared. h (over_types (given_at d symbols (sequent_at k.made c.args.step.id))) k.trees
     (rw c.names.ensures
-    (placed-outer k c.args.id d symbols c.args.target.now c.requires.held declared _ _ c.requires.params _ (subst (AreKnown k.trees) (sym hyps) c.sequent.ensures.known.0) (ap (terms_at k.trees) hyps ∙ ap (λ s. s.hypotheses) c.sequent.ensures.is) _
+    (placed-outer k c.args.step.id d symbols c.args.target.now c.requires.step.held declared _ _ c.requires.step.params _ (subst (AreKnown k.trees) (sym hyps) c.sequent.ensures.known.0) (ap (terms_at k.trees) hyps ∙ ap (λ s. s.hypotheses) c.sequent.ensures.is) _
     (omega (arith, count)))))
     c.of_types.ensures.made

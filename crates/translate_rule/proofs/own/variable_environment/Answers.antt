@@ -8,8 +8,8 @@ use Rattle.translate_rule.proofs.own.variable_environment.Goals as goal
 
 pub returns-clause-made : goal.returns-clause-made
 returns-clause-made c =
-    let k = c.args.proof.now in
-    let s = sequent_at k.made c.args.id in
+    let k = c.args.step.ground.proof.now in
+    let s = sequent_at k.made c.args.step.id in
     IfOk-weaker c.of.result _ _
-    (λ env h d symbols declared. h (with_scope (given_at d symbols s) (scope_of_terms symbols s)) k.trees (placed-variables k c.args.id d symbols c.args.target.now c.requires.held declared _ _ c.requires.params))
+    (λ env h d symbols declared. h (with_scope (given_at d symbols s) (scope_of_terms symbols s)) k.trees (placed-variables k c.args.step.id d symbols c.args.target.now c.requires.step.held declared _ _ c.requires.step.params))
     c.of.ensures.made

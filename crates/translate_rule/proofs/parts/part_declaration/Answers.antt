@@ -4,7 +4,7 @@ use Rattle.hol_term.specs.Tables.{term_at, type_at}
 use Rattle.telling_laws.specs.Told.{TellsContent}
 use Rattle.translate_rule.specs.ItemViews.{names_of_view}
 use Rattle.translate_rule.specs.Parts.{part_at}
-use Rattle.translate_rule.proofs.GrowLaws.{Grows-trans, IsHeld-Grows, declarations_of-Grows}
+use Rattle.translate_term.specs.GrowLaws.{Grows-trans, IsHeld-Grows, declarations_of-Grows}
 use Rattle.translate_rule.proofs.ItemLaws.{defined-declared}
 use Rattle.translate_rule.proofs.PartLaws.{part-declared}
 use Rattle.translate_rule.proofs.parts.part_declaration.Goals as goal

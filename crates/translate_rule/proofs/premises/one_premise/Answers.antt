@@ -1,7 +1,7 @@
 use Rattle.std.proofs.Common.{◌∙◌, ◌∷◌, [], ◌<◌, sym, ap, subst, arith}
 use Rattle.hol_rules.specs.Kept.{step_count}
 use Rattle.translate_rule.specs.Steps.{symbol_in}
-use Rattle.translate_rule.proofs.StepRows.{one-below}
+use Rattle.translate_rule.proofs.StepRules.{one-below}
 use Rattle.translate_rule.proofs.premises.one_premise.Goals as goal
 
 pub with_symbol-requires : goal.with_symbol-requires

@@ -1,6 +1,6 @@
 use Rattle.std.proofs.Common.{◌∙◌, sym, ap, arith, length}
 use Rattle.hol_spec.specs.declared.StepKind.TheVariants as kinds
-use Rattle.translate_rule.proofs.StepRows.{kind-count, two-below}
+use Rattle.translate_rule.proofs.StepRules.{kind-count, two-below}
 use Rattle.translate_rule.proofs.premises.proves_nothing.Goals as goal
 
 pub pair-one-requires : goal.pair-one-requires

@@ -1,4 +1,4 @@
-use Rattle.std.proofs.Common.{◌∙◌, ap, subst, sym, Some}
+use Rattle.std.proofs.Common.{◌∙◌, ap, refl, subst, sym, Some}
 use Rattle.std.proofs.lemmas.Result.{IfOk-weaker}
 use Rattle.hol_spec.specs.Proofs.{sequent_at}
 use Rattle.hol_spec.specs.Sequents.{Sequent}
@@ -15,30 +15,30 @@ use Rattle.translate_rule.proofs.statement.conclusion.Goals as goal
 
 pub term-requires-clause-told : goal.term-requires-clause-told
 term-requires-clause-told c =
-    let k = c.args.proof.now in
-    let s = sequent_at k.made c.args.id in
+    let k = c.args.step.ground.proof.now in
+    let s = sequent_at k.made c.args.step.id in
     let given = given_at (declarations_of c.args.target.now) c.requires.told.0 s in
-    (given, c.requires.told.1, subst (IsTold given) (sym (ap (λ (t : Sequent). t.conclusion) c.sequent.ensures.is)) (conclusion-told given s (step-IsSequent k.made c.is_proof.ensures c.args.id c.requires.id) c.requires.told.2))
+    (given, c.requires.step.stands given.declarations c.requires.told.0 refl, subst (IsTold given) (sym (ap (λ (t : Sequent). t.conclusion) c.sequent.ensures.is)) (conclusion-told given s (step-IsSequent k.made c.is_proof.ensures c.args.step.id c.requires.step.id) c.requires.told.1))
 
 pub family-requires : goal.family-requires
 family-requires c =
-    let k = c.args.proof.now in
-    let s = sequent_at k.made c.args.id in
+    let k = c.args.step.ground.proof.now in
+    let s = sequent_at k.made c.args.step.id in
     let given = given_at (declarations_of c.args.target.now) c.requires.told.0 s in
     Holds-within _ c.in_ok-formula.formula.0 _
-    (c.in_ok-formula.ensures.made given c.requires.told.1 (subst (IsTold given) (sym (ap (λ (t : Sequent). t.conclusion) c.sequent.ensures.is)) (conclusion-told given s (step-IsSequent k.made c.is_proof.ensures c.args.id c.requires.id) c.requires.told.2)))
+    (c.in_ok-formula.ensures.made given (c.requires.step.stands given.declarations c.requires.told.0 refl) (subst (IsTold given) (sym (ap (λ (t : Sequent). t.conclusion) c.sequent.ensures.is)) (conclusion-told given s (step-IsSequent k.made c.is_proof.ensures c.args.step.id c.requires.step.id) c.requires.told.1)))
 
 pub returns-clause-made : goal.returns-clause-made
 returns-clause-made c =
-    let k = c.args.proof.now in
-    let s = sequent_at k.made c.args.id in
+    let k = c.args.step.ground.proof.now in
+    let s = sequent_at k.made c.args.step.id in
     let same = ap (λ (t : Sequent). t.conclusion) c.sequent.ensures.is in
     IfOk-weaker c.family.result _ _
-    (λ r h tables stands told.
+    (λ r h tables told.
     let given = given_at (declarations_of c.args.target.now) tables s in
     h
     ∙ ap (λ t. Some (proof_of t))
-    (Holds-tree_at _ c.in_ok-formula.formula.0 _ (c.in_ok-formula.ensures.made given stands (subst (IsTold given) (sym same) (conclusion-told given s (step-IsSequent k.made c.is_proof.ensures c.args.id c.requires.id) told)))
+    (Holds-tree_at _ c.in_ok-formula.formula.0 _ (c.in_ok-formula.ensures.made given (c.requires.step.stands given.declarations tables refl) (subst (IsTold given) (sym same) (conclusion-told given s (step-IsSequent k.made c.is_proof.ensures c.args.step.id c.requires.step.id) told)))
     ∙ ap (term_tree tables (scope_of tables s)) same))
     c.family.ensures.made
 

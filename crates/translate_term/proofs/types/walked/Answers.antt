@@ -1,29 +1,30 @@
 use Rattle.translate_term.specs.GrowLaws.{Grows-refl, Grows-trans}
 use Rattle.translate_term.proofs.MadeLaws.{is_some-unless, if_some}
+use Rattle.translate_term.proofs.TypeTurns.{type_begins}
 use Rattle.translate_term.proofs.types.walked.Goals as goal
 
 pub loop-task-init : goal.loop-task-init
-loop-task-init c = (Grows-refl _, λ given w. rw c.in_ok-push.ensures.pushed w)
+loop-task-init c = (Grows-refl _, λ given s. rw (c.in_ok-push.ensures.pushed, c.requires.nothing_else) (type_begins given _ _ _ _ _ s))
 
 pub turn-requires : goal.turn-requires
-turn-requires c = (c.requires.0, _, rw c.in-Some.ensures.popped at c.loop-task.invariant.1 c.requires.0 c.requires.1)
+turn-requires c = (c.requires.begins.0, _, rw c.in-Some.ensures.popped at c.loop-task.invariant.1 c.requires.begins.0 c.requires.begins.1)
 
 pub loop-task-preserved : goal.loop-task-preserved
 loop-task-preserved c = (
   Grows-trans c.loop-task.invariant.0 c.in_ok-turn.ensures.grows,
-  λ given w. c.in_ok-turn.ensures.walk given _ (rw c.in-Some.ensures.popped at c.loop-task.invariant.1 given w),
+  λ given s. c.in_ok-turn.ensures.walk given _ (rw c.in-Some.ensures.popped at c.loop-task.invariant.1 given s),
 )
 
 pub unwrap-requires : goal.unwrap-requires
 unwrap-requires c =
-    let w = rw c.in_default.ensures.popped at c.loop-task.invariant.1 c.requires.0 c.requires.1 in
+    let w = rw c.in_default.ensures.popped at c.loop-task.invariant.1 c.requires.begins.0 c.requires.begins.1 in
     is_some-unless c.find.result c.find.ensures.absent (λ absent. absent w.ends.0 w.ends.1)
 
 pub returns-clause-made : goal.returns-clause-made
-returns-clause-made c = λ given w. (c.loop-task.invariant.1 given w).noted _ _ (if_some _ c.find.result c.unwrap.result c.unwrap.ensures c.find.ensures.noted)
+returns-clause-made c = λ given s. (c.loop-task.invariant.1 given s).noted _ _ (if_some _ c.find.result c.unwrap.result c.unwrap.ensures c.find.ensures.noted)
 
 pub returns-clause-noted : goal.returns-clause-noted
-returns-clause-noted c = λ given w. (c.loop-task.invariant.1 given w).noted
+returns-clause-noted c = λ given s. (c.loop-task.invariant.1 given s).noted
 
 pub loop-task-smaller : goal.loop-task-smaller
 loop-task-smaller c = rw c.in-Some.ensures.popped c.in_ok-turn.ensures.less

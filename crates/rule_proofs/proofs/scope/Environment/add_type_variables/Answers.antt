@@ -1,8 +1,9 @@
 use Rattle.std.proofs.Common.{arith}
+use Rattle.std.proofs.lemmas.List.{drop_all}
 use Rattle.rule_proofs.specs.Environments.{Ready}
 use Rattle.rule_proofs.proofs.AddLaws.{adds-begin, adds-next, adds-end}
 use Rattle.translate_term.specs.GrowLaws.{Grows-refl, Grows-trans}
-use Rattle.rule_proofs.proofs.ListSteps.{drop-item, drop-all}
+use Rattle.rule_proofs.proofs.ListSteps.{drop-item}
 use Rattle.rule_proofs.proofs.scope.Environment.add_type_variables.Goals as goal
 
 pub loop-name-init : goal.loop-name-init
@@ -21,4 +22,4 @@ returns-in_err-add_type_variable-clause-grows c = Grows-trans c.loop-name.invari
 
 pub returns-clause-ready : goal.returns-clause-ready
 returns-clause-ready c = λ given trees made h.
-    adds-end given.scope.types _ (Ready given c.loop-name.target trees c.args.self.now c.loop-name.args.items) _ _ (drop-all c.args.names.now c.loop-name.name-index (omega (arith, c.loop-name-test.false))) (c.loop-name.invariant.adds given trees) made h
+    adds-end given.scope.types _ (Ready given c.loop-name.target trees c.args.self.now c.loop-name.args.items) _ _ (drop_all c.loop-name.name-index c.args.names.now (omega (arith, c.loop-name-test.false))) (c.loop-name.invariant.adds given trees) made h

@@ -1,9 +1,8 @@
 use Rattle.std.proofs.Common.{ap, subst, arith}
-use Rattle.std.proofs.lemmas.List.{drop_more}
+use Rattle.std.proofs.lemmas.List.{drop_all, drop_more}
 use Rattle.hol_spec.specs.Terms.{term_eq}
 use Rattle.hol_term.specs.Tables.{terms_at, AreKnown}
 use Rattle.rule_proofs.specs.Environments.{TellProofs}
-use Rattle.rule_proofs.proofs.ListSteps.{drop-all}
 use Rattle.translate_term.specs.GrowLaws.{Grows-refl, Grows-trans, Grows-table}
 use Rattle.rule_proofs.proofs.PlaceLaws.{ProofsAlone-refl, ProofsAlone-trans, places-begin, places-next, places-end, AreKnown-drop}
 use Rattle.rule_proofs.proofs.TellLaws.{TellProofs-set}
@@ -37,4 +36,4 @@ returns-in_err-set_proof-clause-grows c = Grows-trans c.loop-id.invariant.grows 
 
 pub returns-clause-proofs : goal.returns-clause-proofs
 returns-clause-proofs c = λ trees other scope one have h.
-    places-end term_eq (λ ts es f. TellProofs trees ts es other f) _ _ _ _ _ _ _ _ (ap (terms_at trees) (drop-all c.args.hyps.now c.loop-id.id-index (omega (arith, c.loop-id-test.false)))) (c.loop-id.invariant.places trees other one have) scope h
+    places-end term_eq (λ ts es f. TellProofs trees ts es other f) _ _ _ _ _ _ _ _ (ap (terms_at trees) (drop_all c.loop-id.id-index c.args.hyps.now (omega (arith, c.loop-id-test.false)))) (c.loop-id.invariant.places trees other one have) scope h

@@ -1,8 +1,9 @@
 use Rattle.std.proofs.Common.{ap, subst, arith}
+use Rattle.std.proofs.lemmas.List.{drop_all}
 use Rattle.hol_spec.specs.Terms.{variable_eq}
 use Rattle.hol_term.specs.Subterms.{HaveTypes, variables_of}
 use Rattle.rule_proofs.specs.Environments.{TellTerms}
-use Rattle.rule_proofs.proofs.ListSteps.{drop-item, drop-all}
+use Rattle.rule_proofs.proofs.ListSteps.{drop-item}
 use Rattle.translate_term.specs.GrowLaws.{Grows-refl, Grows-trans, Grows-table}
 use Rattle.rule_proofs.proofs.PlaceLaws.{TermsAlone-refl, TermsAlone-trans, places-begin, places-next, places-end, HaveTypes-drop}
 use Rattle.rule_proofs.proofs.TellLaws.{TellTerms-set}
@@ -36,4 +37,4 @@ returns-in_err-set_term-clause-grows c = Grows-trans c.loop-variable.invariant.g
 
 pub returns-clause-terms : goal.returns-clause-terms
 returns-clause-terms c = λ trees other scope one have h.
-    places-end variable_eq (λ ts es f. TellTerms trees.types ts es other f) _ _ _ _ _ _ _ _ (ap (variables_of trees) (drop-all c.args.variables.now c.loop-variable.variable-index (omega (arith, c.loop-variable-test.false)))) (c.loop-variable.invariant.places trees other one have) scope h
+    places-end variable_eq (λ ts es f. TellTerms trees.types ts es other f) _ _ _ _ _ _ _ _ (ap (variables_of trees) (drop_all c.loop-variable.variable-index c.args.variables.now (omega (arith, c.loop-variable-test.false)))) (c.loop-variable.invariant.places trees other one have) scope h

@@ -1,7 +1,8 @@
 use Rattle.std.proofs.Common.{arith}
+use Rattle.std.proofs.lemmas.List.{drop_all}
 use Rattle.hol_spec.specs.NameEquality.{name_eq}
 use Rattle.rule_proofs.specs.Environments.{TellTypes}
-use Rattle.rule_proofs.proofs.ListSteps.{drop-item, drop-all}
+use Rattle.rule_proofs.proofs.ListSteps.{drop-item}
 use Rattle.translate_term.specs.GrowLaws.{Grows-refl, Grows-trans, Grows-table}
 use Rattle.rule_proofs.proofs.PlaceLaws.{TypesAlone-refl, TypesAlone-trans, places-begin, places-next, places-end}
 use Rattle.rule_proofs.proofs.TellLaws.{TellTypes-set}
@@ -30,4 +31,4 @@ returns-in_err-set_type-clause-grows c = Grows-trans c.loop-name.invariant.grows
 
 pub returns-clause-types : goal.returns-clause-types
 returns-clause-types c = λ scope h.
-    places-end name_eq TellTypes _ _ _ _ _ _ _ _ (drop-all c.args.names.now c.loop-name.name-index (omega (arith, c.loop-name-test.false))) c.loop-name.invariant.places scope h
+    places-end name_eq TellTypes _ _ _ _ _ _ _ _ (drop_all c.loop-name.name-index c.args.names.now (omega (arith, c.loop-name-test.false))) c.loop-name.invariant.places scope h

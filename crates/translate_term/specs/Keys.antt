@@ -1,0 +1,13 @@
+-- Places are told apart by `==`.
+use Rattle.std.proofs.Common.{◌≡◌, true}
+use Rattle.std.proofs.lemmas.Bool.{eqb-true, and_parts}
+use Rattle.std.specs.Prelude.{nat_eq, ◌&&◌}
+use Rattle.translate_term.specs.declared.memo.Place.{Place}
+
+-- places that are equal by their test are one
+pub place_exact : (p q : Place) → (nat_eq p.id.0 q.id.0 && nat_eq p.depth q.depth) ≡ true → p ≡ q
+place_exact p q h =
+    let a = and_parts (nat_eq p.id.0 q.id.0) (nat_eq p.depth q.depth) h in
+    let x = eqb-true p.id.0 q.id.0 a.0 in
+    let y = eqb-true p.depth q.depth a.1 in
+    λ i. record { id = record { 0 = x i }; depth = y i }
