@@ -1,5 +1,4 @@
 mod EachCounted
-mod EarlierPremises
 mod GivenWalks
 mod NotedPlaces
 mod SparedKeys

@@ -1,12 +1,18 @@
 -- An article as far as it is counted, by the numbers of a proof.
-use Rattle.std.specs.Prelude.{◌≡◌, ℕ, ◌+◌, length, Option, None, Some}
+use Rattle.std.specs.Prelude.{◌≡◌, ℕ, ◌+◌, length, unwrap_or, Option, None, Some}
 use Rattle.std.specs.List.{AllByRecursion}
-use Rattle.hol_term.specs.Tables.{Trees}
-use Rattle.writing_spec.specs.Lengths.{Tally, told_length, capped}
+use Rattle.hol_spec.specs.Names.{Name}
+use Rattle.hol_spec.specs.Types.{HolType}
+use Rattle.hol_type.specs.declared.table.TypeId.{TypeId}
+use Rattle.hol_term.specs.Tables.{Trees, type_at}
+use Rattle.article_spec.specs.declared.commands.Word.TheVariants as word
+use Rattle.writing_spec.specs.Lengths.{Tally, add, name_length, word_length, told_length, capped}
+use Rattle.writing_spec.specs.TermLengths.{count_type, count_variable}
 use Rattle.article_count.specs.declared.tally.Count.{Count}
 use Rattle.article_lines.specs.declared.keys.Thing.{Thing}
+use Rattle.article_lines.specs.declared.keys.Thing.TheVariants as thing
 use Rattle.article_lines.specs.Greatest.{greatest_length}
-use Rattle.article_lines.specs.Things.{with_thing}
+use Rattle.article_lines.specs.Things.{thing_key, with_thing}
 use Rattle.article_lines.specs.KeptThings.{all_kept_at, IsThing, AreDistinct}
 
 -- so much is added
@@ -40,3 +46,16 @@ CanCount trees c = (steps : ℕ) × (m : Tally) × IsTally trees steps c m
 -- this was counted
 abbrev pub Counts : Trees → Count → Count → (Tally → Tally) → Type 0
 Counts trees c d f = (steps : ℕ) (m : Tally) → IsTally trees steps c m → IsTally trees steps d (f m)
+
+-- a variable of this type was counted, with a name of this length
+abbrev pub CountsVariable : Trees → Count → Count → ℕ → TypeId → Type 0
+CountsVariable trees c d length ty =
+    (n : Name) → capped greatest_length length ≡ capped greatest_length (name_length n) → Counts trees c d (count_variable n (type_at trees ty.0))
+
+-- a constant that has no key
+abbrev pub count_new_constant : Name → HolType → Tally → Tally
+count_new_constant n a m = add (word_length word.ConstTerm) (count_type a (add (name_length n + word_length word.Const) m))
+
+-- how long what tells a type by its key is
+abbrev pub type_told : Count → TypeId → ℕ
+type_told c ty = told_length (unwrap_or (thing_key c.keys (thing.Type ty)) 0)

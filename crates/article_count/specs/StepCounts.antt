@@ -1,6 +1,5 @@
 -- Steps that are counted one after another, by flags.
 use Rattle.std.specs.Prelude.{◌≡◌, ◌≢◌, ℕ, ◌<◌, Bool, List, [], drop, length, None}
-use Rattle.std.specs.List.{AllByRecursion}
 use Rattle.hol_spec.specs.Proofs.{Step}
 use Rattle.hol_spec.specs.declared.StepKind.{StepKind}
 use Rattle.hol_spec.specs.declared.StepKind.TheVariants.{FirstLaw, SecondLaw}
@@ -8,12 +7,13 @@ use Rattle.hol_spec.specs.declared.Version.{Version}
 use Rattle.hol_term.specs.Tables.{Trees}
 use Rattle.hol_rules.specs.Views.{step_in}
 use Rattle.writing_spec.specs.Article.{version_items}
-use Rattle.writing_spec.specs.ArticleLength.{count_by}
+use Rattle.writing_spec.specs.ArticleLength.{count_by, count_step}
 use Rattle.writing_spec.specs.Drafts.{Kept}
-use Rattle.writing_spec.specs.Lengths.{items_length, Tally, key_in, count_each}
+use Rattle.writing_spec.specs.Lengths.{capped, items_length, Tally, key_in, count_each}
 use Rattle.writing_spec.specs.ReachedSteps.{Numbered}
 use Rattle.writing_laws.specs.Flags.{selected}
 use Rattle.article_lines.specs.Flagged.{flag}
+use Rattle.article_lines.specs.Greatest.{greatest_length}
 use Rattle.article_lines.specs.NewSteps.{AreNewLaws, IsNew}
 use Rattle.article_lines.specs.Things.{Keyed}
 use Rattle.article_count.specs.declared.terms.TermCount.{TermCount}
@@ -23,14 +23,18 @@ use Rattle.article_count.specs.TermTasks.{IsTermTally}
 abbrev pub tally_begun : Version → Tally
 tally_begun version = record { kept = []; length = items_length (version_items version) }
 
--- the premises are among so many steps
-abbrev pub ArePremisesBelow : ℕ → Step → Type 0
-ArePremisesBelow n x = AllByRecursion (λ i. i < n) x.premises
-
 -- what a command leaves on the stack has no key yet
 abbrev pub IsNewMade : Keyed → StepKind → ℕ → Type 0
 IsNewMade keys FirstLaw i = AreNewLaws keys i
 IsNewMade keys kind i = IsNew keys i
+
+-- a step, which is an export or not
+abbrev pub count_one : ℕ → Bool → ℕ → Step → Tally → Tally
+count_one q is_export i x m = count_by q x.kind is_export i x m
+
+-- how long the article of a version is that tells these steps, by the flags, up to the greatest number
+abbrev pub told_count : Version → ℕ → List ℕ → List Bool → List Step → ℕ
+told_count version q exports told steps = capped greatest_length (count_each (count_step q exports) (selected (flag told) 0 steps) (tally_begun version)).length
 
 -- a step, which is an export if it is flagged
 abbrev pub count_flagged : ℕ → List Bool → Numbered → Tally → Tally

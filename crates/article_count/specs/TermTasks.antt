@@ -4,10 +4,13 @@ use Rattle.hol_spec.specs.Terms.{Term}
 use Rattle.hol_spec.specs.TermBinding.{loose}
 use Rattle.hol_spec.specs.Limits.{term_size}
 use Rattle.article_count.specs.Noted.{IsNoted}
+use Rattle.hol_type.specs.declared.table.TypeId.{TypeId}
+use Rattle.hol_term.specs.declared.TermId.{TermId}
 use Rattle.hol_term.specs.Tables.{Trees, term_at}
 use Rattle.article_spec.specs.declared.commands.Word.TheVariants as word
+use Rattle.writing_spec.specs.BinderNames.{binder_name}
 use Rattle.writing_spec.specs.Drafts.{Kept}
-use Rattle.writing_spec.specs.Lengths.{word_length, Tally, key_in, add, note, capped}
+use Rattle.writing_spec.specs.Lengths.{name_length, word_length, Tally, key_in, add, note, capped}
 use Rattle.writing_spec.specs.TermLengths.{count_binder, count_under, place_length, AreKept}
 use Rattle.article_count.specs.declared.memo.Memo.{Memo}
 use Rattle.article_count.specs.declared.memo.Place.{Place}
@@ -15,7 +18,7 @@ use Rattle.article_count.specs.declared.terms.TermTask.{TermTask}
 use Rattle.article_count.specs.declared.terms.TermTask.TheVariants as task
 use Rattle.article_count.specs.declared.terms.TermCount.{TermCount}
 use Rattle.article_lines.specs.Greatest.{greatest_length}
-use Rattle.article_count.specs.Counts.{IsTally}
+use Rattle.article_count.specs.Counts.{type_told, IsTally}
 use Rattle.article_count.specs.LooseNumbers.{AreLoose}
 use Rattle.article_count.specs.Used.{IsPlace, all_capped}
 
@@ -141,3 +144,11 @@ term_turns trees (task.Made p) = 1
 abbrev pub terms_work : Trees → List TermTask → ℕ
 terms_work trees [] = 0
 terms_work trees (t ∷ ts) = term_turns trees t + terms_work trees ts
+
+-- the parts of an application come first
+abbrev pub visits : Place → TermId → TermId → List TermTask → List TermTask
+visits p f x tasks = task.Visit (record p { id = f }) ∷ task.Visit (record p { id = x }) ∷ tasks
+
+-- how long a binder under so many others is, where its type has a key
+abbrev pub binder_told : TermCount → ℕ → TypeId → ℕ
+binder_told c depth ty = name_length (binder_name c.number depth) + type_told c.count ty + word_length word.Var

@@ -2,6 +2,7 @@
 use Rattle.std.specs.Prelude.{◌≡◌, ℕ, ◌+◌, ◌-◌, ◌*◌, ◌<◌, ◌^◌, List, [], ◌∷◌, map, length}
 use Rattle.hol_spec.specs.Limits.{term_size}
 use Rattle.article_count.specs.Noted.{IsNoted}
+use Rattle.hol_term.specs.declared.TermId.{TermId}
 use Rattle.hol_term.specs.Tables.{Trees, term_at}
 use Rattle.writing_spec.specs.Lengths.{capped}
 use Rattle.writing_spec.specs.TermLengths.{uses}
@@ -57,3 +58,7 @@ uses_turns trees (task.Sum p) = 1
 abbrev pub uses_work : Trees → List UsesTask → ℕ
 uses_work trees [] = 0
 uses_work trees (t ∷ ts) = uses_turns trees t + uses_work trees ts
+
+-- the parts of an application come first
+abbrev pub uses_visits : Place → TermId → TermId → List UsesTask → List UsesTask
+uses_visits p f x tasks = task.Visit (record p { id = f }) ∷ task.Visit (record p { id = x }) ∷ tasks

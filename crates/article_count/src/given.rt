@@ -1,16 +1,15 @@
 //! The count of what a rule was given beside its premises.
 ghost use Rattle.std.specs.Prelude.{◌<◌, ◌+◌, length, OnOk};
-ghost use Rattle.hol_spec.specs.Rules as rule;
 ghost use Rattle.hol_type.specs.Tables as type;
 ghost use Rattle.hol_term.specs.Substitutions.{term_pairs_at, AreKnownPairs, AreTermPairsKnown};
 ghost use Rattle.hol_term.specs.Tables.{Trees, term_at, terms_at, type_at, AreKnown};
-ghost use Rattle.hol_defs.specs.Lists.{pairs_at, ArePairsKnown};
+ghost use Rattle.hol_defs.specs.Lists.{pairs_at, variable_at, ArePairsKnown};
 ghost use Rattle.sequent.specs.Sequents.{sequent_at, IsKnown};
 ghost use Rattle.hol_rules.specs.Views.{parameters_view, AreParametersKnown};
 ghost use Rattle.writing_spec.specs.Lengths.{add, name_length as name_length_of};
 ghost use Rattle.writing_spec.specs.TermLengths.{count_under, count_variable as count_of_variable};
 ghost use Rattle.writing_spec.specs.ArticleLength.{count_given as count_of_given, count_list, count_sequent as count_of_sequent};
-ghost use Rattle.article_count.specs.GivenCounts.{constant_pair, term_pair, type_pair};
+ghost use Rattle.article_count.specs.GivenCounts.{constant_pair, put_at, term_pair, type_pair};
 ghost use Rattle.article_count.specs.TermTasks.{CanCountTerms, CountsTerms};
 
 use crate::terms::TermCount;
@@ -127,9 +126,7 @@ impl TermCount {
     fn count_substitution(&mut self, terms: &TermTable, pairs: &Substitution) -> Result<(), Memory>
         requires count { CanCountTerms terms.now self.old }
         requires known { AreKnownPairs terms.now pairs.now.types.items pairs.now.terms.items }
-        ensures { OnOk result (CountsTerms terms.now self.old self.new
-            (λ q. count_of_given q
-            (rule.Parameters.substitution (type.pairs_at terms.now.types pairs.now.types.items) (term_pairs_at terms.now pairs.now.terms.items)))) }
+        ensures { OnOk result (CountsTerms terms.now self.old self.new (λ q. count_of_given q (put_at terms.now pairs.now))) }
     {
         self.count_type_pairs(terms, &pairs.types)?;
         self.count_term_pairs(terms, &pairs.terms)?;
@@ -193,7 +190,7 @@ impl TermCount {
         requires ty { pair.now.0.ty.0 < length terms.now.types }
         requires term { pair.now.1.0 < length terms.now.terms }
         ensures { OnOk result (CountsTerms terms.now self.old self.new
-            (λ q. term_pair q ((pair.now.0.name, type_at terms.now pair.now.0.ty.0), term_at terms.now pair.now.1.0))) }
+            (λ q. term_pair q (variable_at terms.now pair.now.0, term_at terms.now pair.now.1.0))) }
     {
         self.count_free_variable(terms, &pair.0)?;
         self.count_term(terms, pair.1)?;

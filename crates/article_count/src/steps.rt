@@ -1,5 +1,5 @@
 //! The length of an article, counted step by step.
-ghost use Rattle.std.specs.Prelude.{◌≡◌, ◌<◌, ◌-◌, ◌^◌, List, [], length, IfOk, OnOk, ℕ};
+ghost use Rattle.std.specs.Prelude.{◌≡◌, ◌<◌, ◌-◌, ◌^◌, List, length, IfOk, OnOk, ℕ};
 ghost use Rattle.std.specs.List.{AllByRecursion};
 ghost use Rattle.hol_spec.specs.Proofs.{steps_of};
 ghost use Rattle.hol_term.specs.Tables.{Trees};
@@ -7,31 +7,26 @@ ghost use Rattle.hol_rules.specs.Kept.{step_count};
 ghost use Rattle.hol_rules.specs.Views.{step_at};
 ghost use Rattle.article_spec.specs.declared.commands.Word.TheVariants as word;
 ghost use Rattle.writing_spec.specs.Article.{version_items};
-ghost use Rattle.writing_spec.specs.ArticleLength.{count_assumption as count_of_assumption, count_by, count_export as count_of_export, count_given as count_of_given, count_inferred as count_of_inferred, count_made as count_of_made, count_premise, count_restated as count_of_restated, count_step as count_of_step};
-ghost use Rattle.writing_spec.specs.Lengths.{capped, count_each, items_length, word_length as word_length_of};
-ghost use Rattle.writing_spec.specs.WrittenSteps.{word_of as word_of_kind};
-ghost use Rattle.writing_laws.specs.Flags.{selected};
+ghost use Rattle.writing_spec.specs.ArticleLength.{count_assumption as count_of_assumption, count_export as count_of_export, count_given as count_of_given, count_inferred as count_of_inferred, count_made as count_of_made, count_premise, count_restated as count_of_restated};
+ghost use Rattle.writing_spec.specs.Lengths.{count_each, items_length, word_length as word_length_of};
 ghost use Rattle.article_lines.specs.declared.keys.Thing.TheVariants as thing;
-ghost use Rattle.article_lines.specs.Flagged.{flag, AreExports, ArePairs};
-ghost use Rattle.article_lines.specs.Greatest.{greatest_length};
-ghost use Rattle.article_lines.specs.KeptThings.{AreDistinct};
+ghost use Rattle.article_lines.specs.Flagged.{AreExports, ArePairs};
 ghost use Rattle.article_lines.specs.NewSteps.{IsNew, IsNewStep};
 ghost use Rattle.article_count.specs.Counts.{added, noted, Counts};
-ghost use Rattle.article_count.specs.StepCounts.{tally_begun, IsNewMade};
+ghost use Rattle.article_count.specs.StepCounts.{count_one, tally_begun, told_count, IsNewMade};
 ghost use Rattle.article_count.specs.TermTasks.{CanCountTerms, CountsTerms, IsTermTally};
 
 use crate::loose::loose_numbers;
 use crate::memo::Memo;
 use crate::tally::Count;
 use crate::terms::TermCount;
-use article_lines::keys::{Keys, Thing};
+use article_lines::keys::{Keys, Thing, are_distinct};
 use article_lines::lengths::word_length;
+use article_lines::rules::word_of;
 use article_spec::Word;
 use common::Memory;
 use hol_rules::{Proof, StepId};
 use hol_spec::{StepKind, Version};
-use hol_term::{TermId, TermTable};
-use hol_type::TypeId;
 use std::alloc::Global;
 
 /// The length of the article of the steps that are told, up to the greatest number, with this number in the names of binders.
@@ -47,9 +42,7 @@ pub fn article_length(
     requires exports { length is_export.now ≡ step_count proof.now }
     requires pairs { ArePairs (steps_of proof.now.made) }
     ensures { IfOk result (λ n. (exports : List ℕ) → AreExports is_export.now exports
-        → n ≡ capped greatest_length
-        (count_each (count_of_step number exports) (selected (flag told.now) 0 (steps_of proof.now.made))
-        (record { kept = []; length = items_length (version_items version) })).length) }
+        → n ≡ told_count version number exports told.now (steps_of proof.now.made)) }
 {
     let mut counted = TermCount::begun(alloc, proof, version, number)?;
     for id in 0..proof.len() {
@@ -60,18 +53,6 @@ pub fn article_length(
     Ok(counted.count.length)
 }
 
-// No type and no term has two numbers.
-fn are_distinct(terms: &TermTable)
-    ensures { AreDistinct terms.now }
-{
-    if terms.types().count() != 0 {
-        let _first = terms.types().view(TypeId(0));
-    }
-    if terms.count() != 0 {
-        let _first = terms.view(TermId(0));
-    }
-}
-
 // The length of what an article of a version begins with.
 fn version_length(version: Version) -> u128
     ensures { result ≡ items_length (version_items version) }
@@ -79,31 +60,6 @@ fn version_length(version: Version) -> u128
     match version {
         Version::Five => 0,
         Version::Six => 2 + word_length(Word::Version),
-    }
-}
-
-// The word by which a rule is called.
-fn word_of(kind: StepKind) -> Word
-    ensures { result ≡ word_of_kind kind }
-{
-    match kind {
-        StepKind::Refl => Word::Refl,
-        StepKind::Assume => Word::Assume,
-        StepKind::EqMp => Word::EqMp,
-        StepKind::AbsThm => Word::AbsThm,
-        StepKind::AppThm => Word::AppThm,
-        StepKind::DeductAntisym => Word::DeductAntisym,
-        StepKind::BetaConv => Word::BetaConv,
-        StepKind::Sym => Word::Sym,
-        StepKind::Trans => Word::Trans,
-        StepKind::ProveHyp => Word::ProveHyp,
-        StepKind::Subst => Word::Subst,
-        StepKind::Axiom => Word::Axiom,
-        StepKind::Restate => Word::Thm,
-        StepKind::DefineConst => Word::DefineConst,
-        StepKind::DefineConstList => Word::DefineConstList,
-        StepKind::FirstLaw => Word::DefineTypeOp,
-        StepKind::SecondLaw => Word::DefineTypeOp,
     }
 }
 
@@ -138,7 +94,7 @@ impl TermCount {
         requires id { id < step_count proof.now }
         requires new { IsNewStep self.old.count.keys (step_at proof.now.made id).kind id }
         ensures { OnOk result (CountsTerms proof.now.trees self.old self.new
-            (λ q. count_by q (step_at proof.now.made id).kind is_export id (step_at proof.now.made id))) }
+            (λ q. count_one q is_export id (step_at proof.now.made id))) }
     {
         match proof.kind(id) {
             StepKind::SecondLaw => Ok(()),

@@ -1,21 +1,19 @@
 //! The count of a term.
 ghost use Rattle.std.specs.Prelude.{◌≡◌, ◌≢◌, ◌<◌, ◌+◌, ◌*◌, ◌∷◌, None, length, slice_index_or, unwrap_or, IfOk, IfSome, OnOk};
 ghost use Rattle.std.specs.Option.{option_map};
-ghost use Rattle.hol_spec.specs.Names.{Name as AName};
 ghost use Rattle.hol_spec.specs.TermBinding.{loose as loose_of};
 ghost use Rattle.article_count.specs.Noted.{IsNoted};
 ghost use Rattle.hol_term.specs.Tables.{term_at, type_at};
 ghost use Rattle.hol_term.specs.Walks.{NotEmpty};
 ghost use Rattle.article_spec.specs.declared.commands.Word.TheVariants as word;
-ghost use Rattle.writing_spec.specs.BinderNames.{binder_name};
-ghost use Rattle.writing_spec.specs.Lengths.{add, capped, told_length, name_length as name_length_of, word_length as word_length_of};
-ghost use Rattle.writing_spec.specs.TermLengths.{count_type as count_of_type, count_under, count_variable as count_of_variable, number_length as number_length_of, uses as uses_of};
+ghost use Rattle.writing_spec.specs.Lengths.{add, capped, told_length, word_length as word_length_of};
+ghost use Rattle.writing_spec.specs.TermLengths.{count_under, count_variable as count_of_variable, number_length as number_length_of, uses as uses_of};
 ghost use Rattle.article_lines.specs.declared.keys.Thing.TheVariants as thing;
 ghost use Rattle.article_count.specs.declared.terms.TermTask.TheVariants as the_task;
 ghost use Rattle.article_lines.specs.Greatest.{greatest_length};
-ghost use Rattle.article_count.specs.Counts.{told, CanCount, Counts};
+ghost use Rattle.article_count.specs.Counts.{count_new_constant, told, type_told, CanCount, Counts, CountsVariable};
 ghost use Rattle.article_count.specs.LooseNumbers.{AreLoose};
-ghost use Rattle.article_count.specs.TermTasks.{CanCountTerms, CanFinish, CanWalkTerms, CountsTerms, Finishes, WalksTerms, terms_work};
+ghost use Rattle.article_count.specs.TermTasks.{binder_told, visits, CanCountTerms, CanFinish, CanWalkTerms, CountsTerms, Finishes, WalksTerms, terms_work};
 ghost use Rattle.article_lines.specs.Things.{thing_key, HasRoom};
 
 use crate::memo::{Memo, Place};
@@ -61,8 +59,7 @@ pub(crate) struct TermWalk {
 impl TermWalk {
     // Sets out to count the parts of an application, and then what stands behind them.
     fn set_out(&mut self, place: Place, f: TermId, x: TermId) -> Result<(), Memory>
-        ensures tasks { OnOk result (self.new.tasks ≡ the_task.Visit (record place { id = f }) ∷ the_task.Visit
-            (record place { id = x }) ∷ the_task.Made place ∷ self.old.tasks) }
+        ensures tasks { OnOk result (self.new.tasks ≡ visits place f x (the_task.Made place ∷ self.old.tasks)) }
         ensures lengths { self.new.lengths ≡ self.old.lengths }
     {
         self.tasks.push(TermTask::Made(place))?;
@@ -100,8 +97,7 @@ impl Count {
     ) -> Result<(), Memory>
         requires count { CanCount terms.now self.old }
         requires ty { ty.0 < length terms.now.types }
-        ensures { OnOk result ((n : AName) → capped greatest_length name ≡ capped greatest_length (name_length_of n)
-            → Counts terms.now self.old self.new (count_of_variable n (type_at terms.now ty.0))) }
+        ensures { OnOk result (CountsVariable terms.now self.old self.new name ty) }
     {
         self.add(name);
         self.count_type(alloc, terms, ty)?;
@@ -136,8 +132,7 @@ impl Count {
     ) -> Result<(), Memory>
         requires count { CanCount terms.now self.old }
         requires ty { ty.0 < length terms.now.types }
-        ensures { OnOk result (Counts terms.now self.old self.new
-            (λ m. add (word_length_of word.ConstTerm) (count_of_type (type_at terms.now ty.0) (add (name_length_of name.now + word_length_of word.Const) m)))) }
+        ensures { OnOk result (Counts terms.now self.old self.new (count_new_constant name.now (type_at terms.now ty.0))) }
     {
         self.add(name_length(name));
         self.add(word_length(Word::Const));
@@ -307,7 +302,7 @@ impl TermCount {
         requires room { ty.0 < self.now.count.keys.types }
         requires body { body.0 < length terms.now.terms }
         ensures { IfOk result (λ n. n ≡ capped greatest_length
-            (uses_of 0 (term_at terms.now body.0) * told_length (unwrap_or (thing_key self.now.count.keys (thing.Type ty)) 0) + word_length_of word.AbsTerm)) }
+            (uses_of 0 (term_at terms.now body.0) * type_told self.now.count ty + word_length_of word.AbsTerm)) }
     {
         let times = uses(self.alloc, terms, &self.loose, body)?;
         let key = self.count.key_length(Thing::Type(ty));
@@ -321,9 +316,7 @@ impl TermCount {
     // What an abstraction with loose numbers adds, by what its body adds and what stands behind it.
     fn open_length(&self, place: Place, ty: TypeId, inner: u128, more: u128) -> u128
         requires { ty.0 < self.now.count.keys.types }
-        ensures { result ≡ capped greatest_length
-            (name_length_of (binder_name self.now.number place.depth) + told_length
-            (unwrap_or (thing_key self.now.count.keys (thing.Type ty)) 0) + word_length_of word.Var + inner + more) }
+        ensures { result ≡ capped greatest_length (binder_told self.now place.depth ty + inner + more) }
     {
         binder_name_length(self.number, place.depth)
             .saturating_add(self.count.key_length(Thing::Type(ty)))

@@ -7,7 +7,7 @@ ghost use Rattle.writing_spec.specs.TermLengths.{uses as uses_of};
 ghost use Rattle.article_count.specs.declared.uses.UsesTask.TheVariants as the_task;
 ghost use Rattle.article_lines.specs.Greatest.{greatest_length};
 ghost use Rattle.article_count.specs.LooseNumbers.{AreLoose};
-ghost use Rattle.article_count.specs.Used.{CanSum, Sums, uses_work};
+ghost use Rattle.article_count.specs.Used.{uses_visits, CanSum, Sums, uses_work};
 
 use crate::memo::{Memo, Place};
 use common::{Memory, Stack};
@@ -104,8 +104,7 @@ impl UsesWalk {
 
     // Sets out to sum the uses in two parts.
     fn set_out(&mut self, place: Place, f: TermId, x: TermId) -> Result<(), Memory>
-        ensures tasks { OnOk result (self.new.tasks ≡ the_task.Visit (record place { id = f }) ∷ the_task.Visit
-            (record place { id = x }) ∷ the_task.Sum place ∷ self.old.tasks) }
+        ensures tasks { OnOk result (self.new.tasks ≡ uses_visits place f x (the_task.Sum place ∷ self.old.tasks)) }
         ensures sums { self.new.sums ≡ self.old.sums }
         ensures memo { self.new.memo ≡ self.old.memo }
     {

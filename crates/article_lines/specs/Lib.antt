@@ -1,3 +1,4 @@
+pub mod EarlierPremises
 pub mod Flagged
 pub mod Greatest
 pub mod KeptThings

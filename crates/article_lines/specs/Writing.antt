@@ -14,6 +14,10 @@ pub record Writes {T E : Type 0} (old : Option (List ℕ)) (faults : ℕ) (text 
   pub err : OnErr result (GainsFront old text new)
   pub cause : HasCause faults faults_now result
 
+-- the same of a sink, by what it got and its count of faults
+abbrev pub WritesTo : {S T E : Type 0} → (S → Option (List ℕ)) → (S → ℕ) → List ℕ → S → S → Result T E → Type 0
+WritesTo got faults text sink sink_now result = Writes (got sink) (faults sink) text (got sink_now) (faults sink_now) result
+
 -- the line of a command
 abbrev pub line : Item → List ℕ
 line i = item_text i ++ newline ∷ []

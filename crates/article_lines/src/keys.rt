@@ -1,10 +1,11 @@
 //! The keys of types, terms and theorems.
 ghost use Rattle.std.specs.Prelude.{◌≡◌, ◌^◌, ◌<◌, ◌+◌, None, length, IfOk, IfSome};
+ghost use Rattle.article_lines.specs.KeptThings.{AreDistinct};
 ghost use Rattle.article_lines.specs.Things.{HasRoom, thing_key, none_keyed, with_thing};
 ghost use Rattle.article_lines.specs.Slots.{none_put, put, slot, HasPlace};
 
 use common::Memory;
-use hol_term::TermId;
+use hol_term::{TermId, TermTable};
 use hol_type::TypeId;
 use std::alloc::Global;
 use std::marker::Model;
@@ -136,4 +137,16 @@ fn total(types: usize, terms: usize, theorems: usize) -> Option<usize>
     ensures { IfSome result (λ _. types + terms + theorems < 2 ^ 64) }
 {
     types.checked_add(terms)?.checked_add(theorems)
+}
+
+/// No type and no term of a table has two numbers.
+pub fn are_distinct(terms: &TermTable)
+    ensures { AreDistinct terms.now }
+{
+    if terms.types().count() != 0 {
+        let _first = terms.types().view(TypeId(0));
+    }
+    if terms.count() != 0 {
+        let _first = terms.view(TermId(0));
+    }
 }

@@ -6,6 +6,7 @@
 //! | `lengths` | how long these lines are |
 //! | `binders` | the numbers in the names of binders |
 //! | `keys` | the keys of types, terms and theorems |
+//! | `rules` | the words by which rules are called |
 //!
 //! It stands on the definition of the article of a run (`writing_spec`) and on its laws. What counts an article (`article_count`)
 //! and what writes it (`article_steps`) stand on it.
@@ -15,3 +16,4 @@ pub mod binders;
 pub mod keys;
 pub mod lengths;
 pub mod lines;
+pub mod rules;

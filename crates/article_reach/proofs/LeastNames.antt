@@ -1,46 +1,15 @@
 -- The least number that no name has is the number of the binders.
-use Rattle.std.proofs.Common.{◌≡◌, ℕ, zero, suc, ◌+◌, ◌<◌, ◌≤◌, ◌^◌, ◌==◌, Bool, true, false, ◌||◌, cond, List, [], ◌∷◌, ◌++◌, length, drop, refl, sym, ap, ap₂, ◌∙◌, arith, decimal, append_assoc}
-use Rattle.std.specs.Prelude.{nat_eq}
-use Rattle.std.specs.List.{list_all, list_any, starts_with}
-use Rattle.std.proofs.lemmas.Slice.Eq.{starts_is}
-use Rattle.std.proofs.lemmas.Fmt.{decimal_injective}
-use Rattle.std.proofs.lemmas.Bool.Decides.{nat_tests, Decides-eqb}
-use Rattle.std.proofs.lemmas.Bool.{and_parts}
+use Rattle.std.proofs.Common.{◌≡◌, ℕ, zero, suc, ◌+◌, ◌<◌, ◌≤◌, ◌^◌, ◌==◌, Bool, true, false, ◌||◌, cond, List, [], ◌∷◌, ◌++◌, length, refl, sym, ap, ◌∙◌, arith}
+use Rattle.std.specs.List.{list_any}
+use Rattle.std.proofs.lemmas.Bool.Decides.{nat_tests}
 use Rattle.hol_spec.specs.Lists.{is_in, union, distinct}
 use Rattle.hol_spec.specs.Names.{Name}
 use Rattle.hol_spec.specs.NameEquality.{name_eq}
 use Rattle.hol_laws.specs.NameEqualityLaws.{name_eq-Decides}
-use Rattle.article_spec.specs.Numbers.{is_digit}
-use Rattle.writing_spec.specs.BinderNames.{binder_front, are_digits, is_binder_name, first_free}
-use Rattle.writing_laws.specs.NumberTextLaws.{decimal-HasValue}
+use Rattle.writing_spec.specs.BinderNames.{is_binder_name, first_free}
+use Rattle.writing_laws.specs.FreshNames.{one-number}
 use Rattle.article_reach.specs.Least.{is_among, IsLeast}
 use Rattle.article_reach.proofs.Pigeonhole.{at_least}
-
--- No name is of two numbers
-digits-apart : (ds es r s : List ℕ) → list_all is_digit ds ≡ true → list_all is_digit es ≡ true → ds ++ 95 ∷ r ≡ es ++ 95 ∷ s → ds ≡ es
-digits-apart [] [] r s h k e = refl
-digits-apart [] (b ∷ es) r s h k e = absurd (let d = (and_parts (is_digit b) (list_all is_digit es) k).0 in let same : 95 ≡ b = cc in grind (arith, nat_tests, d, same))
-digits-apart (a ∷ ds) [] r s h k e = absurd (let d = (and_parts (is_digit a) (list_all is_digit ds) h).0 in let same : a ≡ 95 = cc in grind (arith, nat_tests, d, same))
-digits-apart (a ∷ ds) (b ∷ es) r s h k e =
-    let first : a ≡ b = cc in
-    let rest : ds ++ 95 ∷ r ≡ es ++ 95 ∷ s = cc in
-    ap₂ (λ x l. x ∷ l) first (digits-apart ds es r s (and_parts (is_digit a) (list_all is_digit ds) h).1 (and_parts (is_digit b) (list_all is_digit es) k).1 rest)
-
-front-of : (q : ℕ) (bytes : List ℕ) → starts_with nat_eq bytes (binder_front q) ≡ true → bytes ≡ binder_front q ++ drop (length (binder_front q)) bytes
-front-of q bytes e = (starts_is {E = nat_eq} Decides-eqb bytes (binder_front q) (starts_with nat_eq bytes (binder_front q)) refl).0 e
-
-one-number : (p q : ℕ) (n : Name) → p < 2 ^ 64 → q < 2 ^ 64 → is_binder_name p n ≡ true → is_binder_name q n ≡ true → p ≡ q
-one-number p q [] hp hq e f = absurd (cc)
-one-number p q (bytes ∷ b ∷ n) hp hq e f = absurd (cc)
-one-number p q (bytes ∷ []) hp hq e f =
-    let one = and_parts (starts_with nat_eq bytes (binder_front p)) (are_digits (drop (length (binder_front p)) bytes)) e in
-    let two = and_parts (starts_with nat_eq bytes (binder_front q)) (are_digits (drop (length (binder_front q)) bytes)) f in
-    let r = drop (length (binder_front p)) bytes in
-    let s = drop (length (binder_front q)) bytes in
-    let both : 95 ∷ ((decimal p ++ 95 ∷ []) ++ r) ≡ 95 ∷ ((decimal q ++ 95 ∷ []) ++ s) = sym (front-of p bytes one.0) ∙ front-of q bytes two.0 in
-    let rest : (decimal p ++ 95 ∷ []) ++ r ≡ (decimal q ++ 95 ∷ []) ++ s = cc in
-    let plain : decimal p ++ 95 ∷ r ≡ decimal q ++ 95 ∷ s = sym (append_assoc (decimal p) (95 ∷ []) r) ∙ rest ∙ append_assoc (decimal q) (95 ∷ []) s in
-    decimal_injective p q hp hq (digits-apart (decimal p) (decimal q) r s (decimal-HasValue p (omega (arith, hp))).digits (decimal-HasValue q (omega (arith, hq))).digits plain)
 
 -- A test finds something in a list where it finds it in the list without repeats
 any-same : (p : Name → Bool) (y : Name) (xs : List Name) → is_in name_eq y xs ≡ true → p y ≡ true → list_any p xs ≡ true

@@ -7,6 +7,7 @@ pub mod Parts
 pub mod Pigeonhole
 pub mod ServedParts
 pub mod Stacked
+mod StepSequents
 pub mod Stepped
 pub mod Walked
 pub mod Wanted

@@ -1,4 +1,3 @@
-pub mod EarlierSteps
 pub mod Found
 pub mod FoundPairs
 pub mod Least

@@ -1,21 +1,19 @@
--- The steps of a proof: what their rules were given is closed, and their premises are earlier steps.
-use Rattle.std.proofs.Common.{◌≡◌, ℕ, ◌+◌, ◌<◌, ◌≤◌, List, [], ◌∷◌, ◌++◌, length, sym, ap, subst, ◌∙◌, arith}
+-- The steps of a proof: what their rules were given is closed.
+use Rattle.std.proofs.Common.{◌≡◌, ℕ, ◌<◌, List, [], ◌∷◌, ◌++◌, length, sym, ap, subst}
 use Rattle.std.specs.Prelude.{is_some}
 use Rattle.std.specs.List.{AllByRecursion}
 use Rattle.std.proofs.ByRecursion.{All-get_or}
-use Rattle.std.proofs.lemmas.List.{length-append}
 use Rattle.hol_spec.specs.Primitives.{bool}
 use Rattle.hol_spec.specs.Types.{HolType}
 use Rattle.hol_spec.specs.Terms.{Term, Variable, IsTerm, HasType}
 use Rattle.hol_spec.specs.TermSubstitution.{TermPairs, AreFitting}
 use Rattle.hol_spec.specs.Sequents.{Sequent, IsSequent}
 use Rattle.hol_spec.specs.Rules.{Parameters, Rule}
-use Rattle.hol_spec.specs.Proofs.{Made, Step, steps_of, IsStep, IsProof}
+use Rattle.hol_spec.specs.Proofs.{Made, Step, steps_of, IsProof}
 use Rattle.hol_spec.specs.Proofs as made
 use Rattle.hol_spec.specs.declared.StepKind.{StepKind}
 use Rattle.hol_laws.specs.Members.{All-append, All-weaker}
 use Rattle.proof_laws.specs.ProofGrowth.{steps_of-append}
-use Rattle.writing_laws.specs.Prefixes.{premises-below}
 use Rattle.hol_rules.specs.Views.{step_at}
 use Rattle.article_steps.specs.Given.{AreClosed, IsClosed}
 
@@ -67,34 +65,6 @@ proof-given m (made.Each.more {made = before} x p h is) = steps-more (λ (y : St
     last (Made.type_definition names c f i) h = tt
     last (Made.step y) h = (rule-closed y.kind h.premises y.parameters y.sequent h.follows.rule, tt {0})
 
--- the premises of a step are below n
-abbrev ArePremisesBelow : ℕ → Step → Type 0
-ArePremisesBelow n x = AllByRecursion (λ i. i < n) x.premises
-
-lower : (n k : ℕ) (is : List ℕ) → k ≤ n → AllByRecursion (λ i. i < k) is → AllByRecursion (λ i. i < n) is
-lower n k is le h = All-weaker (λ i. i < k) (λ i. i < n) (λ i l. omega (arith, l, le)) is h
-
-steps-longer : (before m : List Made) (x : Made) → m ≡ before ++ x ∷ [] → length (steps_of before) ≤ length (steps_of m)
-steps-longer before m x is =
-    let long : length (steps_of m) ≡ length (steps_of before) + length (steps_of (x ∷ [])) =
-    ap (λ (w : List Made). length (steps_of w)) is ∙ ap length (steps_of-append before (x ∷ [])) ∙ length-append (steps_of before) (steps_of (x ∷ [])) in
-    omega (arith, long)
-
-proof-premises : (n : ℕ) (m : List Made) → IsProof m → length (steps_of m) ≤ n → AllByRecursion (ArePremisesBelow n) (steps_of m)
-proof-premises n m made.Each.empty le = tt
-proof-premises n m (made.Each.more {made = before} x p h is) le =
-    let longer = steps-longer before m x is in
-    let low : length (steps_of before) ≤ n = omega (arith, longer, le) in
-    steps-more (ArePremisesBelow n) before m x is (proof-premises n before p low) (last x h low)
-  where
-    last : (x : Made) → made.IsMade before x → length (steps_of before) ≤ n → AllByRecursion (ArePremisesBelow n) (steps_of (x ∷ []))
-    last (Made.symbol y) h low = tt
-    last (Made.type_definition names c f i) h low = tt
-    last (Made.step y) h low = (lower n (length (steps_of before)) y.premises low (premises-below before y.premises h.premises h.earlier), tt {0})
-
 -- A step at its number
 pub given-closed : (m : List Made) (i : ℕ) → IsProof m → i < length (steps_of m) → AreClosed (step_at m i).parameters
 given-closed m i p low = All-get_or (λ (x : Step). AreClosed x.parameters) (steps_of m) i _ low (proof-given m p)
-
-pub premises-lower : (m : List Made) (i : ℕ) → IsProof m → i < length (steps_of m) → AllByRecursion (λ k. k < length (steps_of m)) (step_at m i).premises
-premises-lower m i p low = All-get_or (ArePremisesBelow (length (steps_of m))) (steps_of m) i _ low (proof-premises (length (steps_of m)) m p (omega arith))

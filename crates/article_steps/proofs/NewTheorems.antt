@@ -1,9 +1,8 @@
 -- What is written of a step gives keys to types, to terms and to the theorems of the step alone: a theorem behind them that had no key has none.
-use Rattle.std.proofs.Common.{◌≡◌, ℕ, zero, suc, ◌+◌, ◌<◌, ◌==◌, Bool, true, false, cond, List, [], ◌∷◌, ◌++◌, length, Option, None, Some, Result, Ok, refl, sym, ap, ◌∙◌, arith, append_assoc}
+use Rattle.std.proofs.Common.{◌≡◌, ℕ, zero, suc, ◌+◌, ◌<◌, ◌==◌, Bool, true, false, cond, List, [], ◌∷◌, ◌++◌, length, Option, None, Some, Result, Ok, refl, sym, ap, ◌∙◌, arith}
 use Rattle.std.specs.List.{position_from}
 use Rattle.std.proofs.lemmas.Bool.Decides.{nat_tests}
-use Rattle.std.proofs.lemmas.List.{append-nil}
-use Rattle.hol_laws.specs.Members.{All-append, All-weaker}
+use Rattle.hol_laws.specs.Members.{All-weaker}
 use Rattle.hol_spec.specs.Names.{Name}
 use Rattle.hol_spec.specs.Types.{HolType}
 use Rattle.hol_spec.specs.Limits.{type_size, term_size}
@@ -19,7 +18,7 @@ use Rattle.writing_spec.specs.Drafts.{Kept, kept_eq, Draft, say_name, say_word, 
 use Rattle.writing_spec.specs.WrittenTypes.{write_type, write_variable}
 use Rattle.writing_spec.specs.WrittenTerms.{write_term}
 use Rattle.writing_spec.specs.WrittenSteps.{write_premise, keep_theorem, keep_made, write_given, write_export, write_assumption, write_inferred, write_by, word_of}
-use Rattle.writing_laws.specs.KeptOnce.{Adds as KeepsMore, still-no-key, IsTypeUpTo, IsTermUpTo, type-adds, term-adds}
+use Rattle.writing_laws.specs.KeptOnce.{Adds as KeepsMore, adds-none, adds-then, kept-conses, still-no-key, IsTypeUpTo, IsTermUpTo, type-adds, term-adds}
 use Rattle.article_lines.specs.declared.keys.Thing.{Thing}
 use Rattle.article_lines.specs.declared.keys.Thing.TheVariants as thing
 use Rattle.article_lines.specs.Things.{Keyed, thing_eq, thing_key, with_thing}
@@ -32,10 +31,6 @@ use Rattle.article_steps.specs.TheoremKeys.{IsBehind}
 use Rattle.article_steps.proofs.AddsLaws.{open-of, count-of, keeps-of}
 
 -- What is kept more
-kept-conses : (k : ℕ) (d : Draft) → (conses k d).kept ≡ d.kept
-kept-conses zero d = refl
-kept-conses (suc k) d = kept-conses k (say_word word.Cons d)
-
 kept-pops : (k : ℕ) (d : Draft) → (pops k d).kept ≡ d.kept
 kept-pops zero d = refl
 kept-pops (suc k) d = kept-pops k (say_word word.Pop d)
@@ -53,13 +48,10 @@ module _ (j : ℕ) where
   KeepsOthers write = (d : Draft) → KeepsMore IsOther d (write d)
 
   others-said : (f : Draft → Draft) → ((d : Draft) → (f d).kept ≡ d.kept) → KeepsOthers f
-  others-said f same d = record { new = []; is = same d ∙ sym (append-nil d.kept); all = tt {0} }
+  others-said f same d = adds-none d (f d) (same d)
 
   others-then : (f g : Draft → Draft) → KeepsOthers f → KeepsOthers g → KeepsOthers (λ d. g (f d))
-  others-then f g a b d =
-      let one = a d in
-      let two = b (f d) in
-      record { new = one.new ++ two.new; is = two.is ∙ ap (λ l. l ++ two.new) one.is ∙ append_assoc d.kept one.new two.new; all = All-append IsOther one.new two.new one.all two.all }
+  others-then f g a b d = adds-then (a d) (b (f d))
 
   others-type : (t : HolType) → KeepsOthers (write_type t)
   others-type t d = let a = type-adds t d in record { new = a.new; is = a.is; all = All-weaker (IsTypeUpTo (type_size t)) IsOther other a.new a.all }

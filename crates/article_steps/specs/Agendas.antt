@@ -36,6 +36,9 @@ unbound a = record a { binders = drop 1 a.binders }
 abbrev pub cleared : Agenda → Agenda
 cleared a = record a { jobs = []; binders = [] }
 
+abbrev pub begun : List Job → Agenda → Agenda
+begun js a = pushed_all js (cleared a)
+
 -- How many jobs come of it, at most
 abbrev mutual
   pub parts_work : HolType → ℕ

@@ -1,9 +1,12 @@
 -- What is left to write, and what a job does.
-use Rattle.std.specs.Prelude.{◌≡◌, ℕ, ◌<◌, List, ◌++◌, length, Option, Result, OnOk, OnErr}
+use Rattle.std.specs.Prelude.{◌≡◌, ℕ, ◌<◌, List, [], ◌∷◌, ◌++◌, length, pos, Option, Result, OnOk, OnErr}
 use Rattle.std.specs.List.{AllByRecursion}
 use Rattle.bridge_base.specs.Outside.{Gains, GainsFront, HasCause}
 use Rattle.hol_term.specs.Tables.{Trees}
 use Rattle.article_spec.specs.declared.commands.Item.{Item}
+use Rattle.article_spec.specs.declared.commands.Item.TheVariants as item
+use Rattle.article_spec.specs.declared.commands.Word.TheVariants as word
+use Rattle.writing_spec.specs.ItemTexts.{text_of}
 use Rattle.writing_spec.specs.Drafts.{Kept, Draft}
 use Rattle.article_steps.specs.Agenda.{Agenda}
 use Rattle.article_lines.specs.Things.{Keyed}
@@ -69,3 +72,36 @@ pub record Adds {T E : Type 0} (trees : Trees) (write : Draft → Draft) (keys :
   pub tells : Tells write (kept_of trees keys) got faults (kept_of trees keys_now) got_now faults_now result
   pub ready : OnOk result (IsOpen trees keys_now room_now)
   pub count : OnOk result (keys_now.theorems ≡ keys.theorems)
+
+-- The two for a sink, by what it got and its count of faults.
+module _ {S T E : Type 0} (got : S → Option (List ℕ)) (faults : S → ℕ) where
+  abbrev pub AddsTo : Trees → (Draft → Draft) → Keyed → S → Keyed → ℕ → S → Result T E → Type 0
+  AddsTo trees write keys sink keys_now room_now sink_now result =
+      Adds trees write keys (got sink) (faults sink) keys_now room_now (got sink_now) (faults sink_now) result
+
+  abbrev pub GoesTo : Trees → ℕ → Agenda → Keyed → S → Agenda → Keyed → S → Result T E → Type 0
+  GoesTo trees q old keys sink new keys_now sink_now result =
+      Goes trees q old keys (got sink) (faults sink) new keys_now (got sink_now) (faults sink_now) result
+
+  -- with room of any size, and of any tables: the call has neither
+  abbrev pub AddsInAny : Trees → (Draft → Draft) → Keyed → S → Keyed → S → Result T E → Type 0
+  AddsInAny trees write keys sink keys_now sink_now result = (room : ℕ) → IsOpen trees keys room → AddsTo trees write keys sink keys_now room sink_now result
+
+  abbrev pub AddsOfAny : (Draft → Draft) → Keyed → S → Keyed → S → Result T E → Type 0
+  AddsOfAny write keys sink keys_now sink_now result = (trees : Trees) → AddsInAny trees write keys sink keys_now sink_now result
+
+  abbrev pub GoesOfAny : Agenda → S → Agenda → S → Result T E → Type 0
+  GoesOfAny old sink new sink_now result =
+      (trees : Trees) (q : ℕ) (keys : Keyed) → IsReady trees q old keys → GoesTo trees q old keys sink new keys sink_now result
+
+-- without a command, whatever has keys
+abbrev pub StepsOfAny : Trees → Agenda → Agenda → Type 0
+StepsOfAny trees old new = (q : ℕ) (keys : Keyed) → IsReady trees q old keys → Steps trees q old keys [] new keys
+
+-- what the jobs of an agenda write
+abbrev pub jobs_writer : Trees → ℕ → Agenda → Draft → Draft
+jobs_writer trees q a = do_jobs trees q a.binders a.jobs
+
+-- the lines that give the next key
+abbrev pub def_text : Keyed → List ℕ
+def_text keys = text_of (item.Number (pos (length keys.things)) ∷ item.Word word.Def ∷ [])

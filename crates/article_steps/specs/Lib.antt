@@ -5,4 +5,5 @@ pub mod Left
 pub mod Parts
 pub mod Said
 pub mod SelectedSteps
+pub mod Sources
 pub mod TheoremKeys

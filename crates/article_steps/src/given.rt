@@ -3,16 +3,15 @@ ghost use Rattle.std.specs.Prelude.{◌<◌, length};
 ghost use Rattle.std.specs.List.{AllByRecursion};
 ghost use Rattle.hol_spec.specs.Terms.{IsTerm};
 ghost use Rattle.hol_type.specs.Tables as type;
-ghost use Rattle.hol_term.specs.Tables.{type_at, term_at, terms_at, AreKnown, IsTermAt};
-ghost use Rattle.hol_term.specs.Substitutions.{term_pairs_at, AreTermPairsKnown};
-ghost use Rattle.hol_defs.specs.Lists.{pairs_at, variable_at, ArePairsKnown};
+ghost use Rattle.hol_term.specs.Tables.{terms_at, AreKnown, IsTermAt};
+ghost use Rattle.hol_term.specs.Substitutions.{term_pairs_at, AreKnownPairs, AreTermPairsKnown};
+ghost use Rattle.hol_defs.specs.Lists.{pair_at, ArePairsKnown};
 ghost use Rattle.sequent.specs.Sequents.{sequent_at, IsKnown};
 ghost use Rattle.hol_rules.specs.Views.{parameters_view, AreParametersKnown};
 ghost use Rattle.writing_spec.specs.Drafts.{say_name, write_list};
-ghost use Rattle.writing_spec.specs.WrittenTerms.{write_term as term_writer};
 ghost use Rattle.writing_spec.specs.WrittenSteps.{write_given as given_writer, write_sequent as sequent_writer};
-ghost use Rattle.article_steps.specs.Given.{AreClosed, IsClosed, substitution_writer, type_pair_writer, term_pair_writer, constant_pair_writer};
-ghost use Rattle.article_steps.specs.Left.{Adds, IsOpen};
+ghost use Rattle.article_steps.specs.Given.{constant_pair_writer, constant_pairs_writer, constant_writer, operator_writer, put_writer, term_pair_at, term_pair_writer, term_pairs_writer, terms_writer, type_pair_at, type_pair_writer, type_pairs_writer, AreClosed, IsClosed};
+ghost use Rattle.article_steps.specs.Left.{AddsTo, IsOpen};
 
 use crate::room::{Job, Room};
 use crate::trees::{end_list, write_jobs, write_term, write_variable};
@@ -21,10 +20,26 @@ use article_lines::lines::write_name;
 use article_spec::Word;
 use bridge_base::{Failed, Sink};
 use hol_name::Name;
-use hol_rules::Parameters;
+use hol_rules::{Parameters, Substitution};
 use hol_term::{TermId, TermTable, Variable};
 use hol_type::TypeId;
 use sequent::Sequent;
+
+// A constant and the term that it stands for.
+#[derive(Clone, Copy)]
+struct Constant<'a> {
+    name: &'a Name,
+    id: TermId,
+}
+
+// The names of a type operator, of its constants and of its type variables.
+#[derive(Clone, Copy)]
+struct Operator<'a> {
+    op: &'a Name,
+    abs: &'a Name,
+    rep: &'a Name,
+    names: &'a [Name],
+}
 
 /// Writes what a rule is given beside its premises.
 pub(crate) fn write_given<S: Sink>(
@@ -38,20 +53,18 @@ pub(crate) fn write_given<S: Sink>(
     requires ready { IsOpen terms.now keys.old room.old.room }
     requires known { AreParametersKnown terms.now given.now }
     requires closed { AreClosed (parameters_view terms.now given.now) }
-    ensures { Adds terms.now (given_writer number (parameters_view terms.now given.now)) keys.old (S.got sink.old) (S.faults sink.old) keys.new room.new.room
-        (S.got sink.new) (S.faults sink.new) result }
+    ensures { AddsTo S.got S.faults terms.now (given_writer number (parameters_view terms.now given.now))
+        keys.old sink.old keys.new room.new.room sink.new result }
 {
     match given {
         Parameters::Nothing => Ok(()),
         Parameters::Term(id) => write_term(terms, number, *id, keys, room, sink),
         Parameters::Variable(variable) => write_variable(terms, variable, keys, room, sink),
-        Parameters::Subst(put) => {
-            let put = put.get();
-            write_substitution(terms, number, &put.types, &put.terms, keys, room, sink)
-        }
+        Parameters::Subst(put) => { write_substitution(terms, number, put.get(), keys, room, sink) }
         Parameters::Sequent(sequent) => { write_sequent(terms, number, sequent, keys, room, sink) }
         Parameters::Const(name, id) => {
-            write_constant(terms, number, name, *id, keys, room, sink)
+            let constant = Constant { name, id: *id };
+            write_constant(terms, number, constant, keys, room, sink)
         }
         Parameters::List(pairs) => write_constant_pairs(terms, pairs, keys, room, sink),
         Parameters::TypeOp {
@@ -60,7 +73,15 @@ pub(crate) fn write_given<S: Sink>(
             rep,
             names,
             ..
-        } => write_operator(terms, op, abs, rep, names, keys, room, sink),
+        } => {
+            let operator = Operator {
+                op,
+                abs,
+                rep,
+                names,
+            };
+            write_operator(terms, operator, keys, room, sink)
+        }
     }
 }
 
@@ -68,62 +89,53 @@ pub(crate) fn write_given<S: Sink>(
 fn write_constant<S: Sink>(
     terms: &TermTable,
     number: u64,
-    name: &Name,
-    id: TermId,
+    constant: Constant<'_>,
     keys: &mut Keys,
     room: &mut Room,
     sink: &mut S,
 ) -> Result<(), Failed>
     requires ready { IsOpen terms.now keys.old room.old.room }
-    requires known { id.0 < length terms.now.terms }
-    requires closed { IsTermAt terms.now id.0 }
-    ensures { Adds terms.now (λ d. term_writer number (term_at terms.now id.0) (say_name name.now d)) keys.old (S.got sink.old)
-        (S.faults sink.old) keys.new room.new.room (S.got sink.new) (S.faults sink.new) result }
+    requires known { constant.id.0 < length terms.now.terms }
+    requires closed { IsTermAt terms.now constant.id.0 }
+    ensures { AddsTo S.got S.faults terms.now (constant_writer terms.now number constant.entry) keys.old sink.old keys.new room.new.room sink.new result }
 {
-    write_name(name, sink)?;
-    write_term(terms, number, id, keys, room, sink)
+    write_name(constant.name, sink)?;
+    write_term(terms, number, constant.id, keys, room, sink)
 }
 
 // Writes the names of a type operator, of its constants and of its type variables.
 fn write_operator<S: Sink>(
     terms: &TermTable,
-    op: &Name,
-    abs: &Name,
-    rep: &Name,
-    names: &[Name],
+    operator: Operator<'_>,
     keys: &mut Keys,
     room: &mut Room,
     sink: &mut S,
 ) -> Result<(), Failed>
     requires { IsOpen terms.now keys.old room.old.room }
-    ensures { Adds terms.now (λ d. write_list say_name names.now (say_name rep.now (say_name abs.now (say_name op.now d)))) keys.old (S.got sink.old)
-        (S.faults sink.old) keys.new room.new.room (S.got sink.new) (S.faults sink.new) result }
+    ensures { AddsTo S.got S.faults terms.now (operator_writer operator.entry) keys.old sink.old keys.new room.new.room sink.new result }
 {
-    write_name(op, sink)?;
-    write_name(abs, sink)?;
-    write_name(rep, sink)?;
-    write_names(terms, names, keys, room, sink)
+    write_name(operator.op, sink)?;
+    write_name(operator.abs, sink)?;
+    write_name(operator.rep, sink)?;
+    write_names(terms, operator.names, keys, room, sink)
 }
 
 // Writes types for type variables, and terms for variables.
 fn write_substitution<S: Sink>(
     terms: &TermTable,
     number: u64,
-    type_pairs: &[(Name, TypeId)],
-    term_pairs: &[(Variable, TermId)],
+    put: &Substitution,
     keys: &mut Keys,
     room: &mut Room,
     sink: &mut S,
 ) -> Result<(), Failed>
     requires ready { IsOpen terms.now keys.old room.old.room }
-    requires types { type.ArePairsKnown terms.now.types type_pairs.now }
-    requires terms { AreTermPairsKnown terms.now term_pairs.now }
-    requires closed { AllByRecursion (λ p. IsTerm p.1) (term_pairs_at terms.now term_pairs.now) }
-    ensures { Adds terms.now (substitution_writer number (type.pairs_at terms.now.types type_pairs.now) (term_pairs_at terms.now term_pairs.now)) keys.old
-        (S.got sink.old) (S.faults sink.old) keys.new room.new.room (S.got sink.new) (S.faults sink.new) result }
+    requires known { AreKnownPairs terms.now put.now.types.items put.now.terms.items }
+    requires closed { AllByRecursion (λ p. IsTerm p.1) (term_pairs_at terms.now put.now.terms.items) }
+    ensures { AddsTo S.got S.faults terms.now (put_writer terms.now number put.now) keys.old sink.old keys.new room.new.room sink.new result }
 {
-    write_type_pairs(terms, type_pairs, keys, room, sink)?;
-    write_term_pairs(terms, number, term_pairs, keys, room, sink)?;
+    write_type_pairs(terms, &put.types, keys, room, sink)?;
+    write_term_pairs(terms, number, &put.terms, keys, room, sink)?;
     end_list(terms, 2, keys, room, sink)
 }
 
@@ -139,8 +151,8 @@ fn write_sequent<S: Sink>(
     requires ready { IsOpen terms.now keys.old room.old.room }
     requires known { IsKnown terms.now sequent.now }
     requires closed { IsClosed (sequent_at terms.now sequent.now) }
-    ensures { Adds terms.now (sequent_writer number (sequent_at terms.now sequent.now)) keys.old (S.got sink.old) (S.faults sink.old) keys.new room.new.room
-        (S.got sink.new) (S.faults sink.new) result }
+    ensures { AddsTo S.got S.faults terms.now (sequent_writer number (sequent_at terms.now sequent.now))
+        keys.old sink.old keys.new room.new.room sink.new result }
 {
     write_terms(terms, number, sequent.hyps.ids(), keys, room, sink)?;
     write_term(terms, number, sequent.concl, keys, room, sink)
@@ -158,8 +170,7 @@ fn write_terms<S: Sink>(
     requires ready { IsOpen terms.now keys.old room.old.room }
     requires known { AreKnown terms.now ids.now }
     requires closed { AllByRecursion IsTerm (terms_at terms.now ids.now) }
-    ensures { Adds terms.now (write_list (term_writer number) (terms_at terms.now ids.now)) keys.old (S.got sink.old)
-        (S.faults sink.old) keys.new room.new.room (S.got sink.new) (S.faults sink.new) result }
+    ensures { AddsTo S.got S.faults terms.now (terms_writer terms.now number ids.now) keys.old sink.old keys.new room.new.room sink.new result }
 {
     for id in ids {
         write_term(terms, number, *id, keys, room, sink)?;
@@ -177,11 +188,10 @@ fn write_type_pairs<S: Sink>(
 ) -> Result<(), Failed>
     requires ready { IsOpen terms.now keys.old room.old.room }
     requires known { type.ArePairsKnown terms.now.types pairs.now }
-    ensures { Adds terms.now (write_list type_pair_writer (type.pairs_at terms.now.types pairs.now)) keys.old (S.got sink.old)
-        (S.faults sink.old) keys.new room.new.room (S.got sink.new) (S.faults sink.new) result }
+    ensures { AddsTo S.got S.faults terms.now (type_pairs_writer terms.now pairs.now) keys.old sink.old keys.new room.new.room sink.new result }
 {
-    for (name, ty) in pairs {
-        write_type_pair(terms, name, *ty, keys, room, sink)?;
+    for pair in pairs {
+        write_type_pair(terms, pair, keys, room, sink)?;
     }
     end_list(terms, pairs.len(), keys, room, sink)
 }
@@ -189,22 +199,20 @@ fn write_type_pairs<S: Sink>(
 // Writes a type with its type variable.
 fn write_type_pair<S: Sink>(
     terms: &TermTable,
-    name: &Name,
-    ty: TypeId,
+    pair: &(Name, TypeId),
     keys: &mut Keys,
     room: &mut Room,
     sink: &mut S,
 ) -> Result<(), Failed>
     requires ready { IsOpen terms.now keys.old room.old.room }
-    requires known { ty.0 < length terms.now.types }
-    ensures { Adds terms.now (type_pair_writer (name.now, type_at terms.now ty.0)) keys.old (S.got sink.old) (S.faults sink.old) keys.new room.new.room
-        (S.got sink.new) (S.faults sink.new) result }
+    requires known { pair.now.1.0 < length terms.now.types }
+    ensures { AddsTo S.got S.faults terms.now (type_pair_writer (type_pair_at terms.now pair.now)) keys.old sink.old keys.new room.new.room sink.new result }
 {
-    write_name(name, sink)?;
+    write_name(&pair.0, sink)?;
     write_jobs(
         terms,
         0,
-        &[Job::Conses(2), Job::Word(Word::Nil), Job::Type(ty)],
+        &[Job::Conses(2), Job::Word(Word::Nil), Job::Type(pair.1)],
         keys,
         room,
         sink,
@@ -223,11 +231,10 @@ fn write_term_pairs<S: Sink>(
     requires ready { IsOpen terms.now keys.old room.old.room }
     requires known { AreTermPairsKnown terms.now pairs.now }
     requires closed { AllByRecursion (λ p. IsTerm p.1) (term_pairs_at terms.now pairs.now) }
-    ensures { Adds terms.now (write_list (term_pair_writer number) (term_pairs_at terms.now pairs.now)) keys.old (S.got sink.old)
-        (S.faults sink.old) keys.new room.new.room (S.got sink.new) (S.faults sink.new) result }
+    ensures { AddsTo S.got S.faults terms.now (term_pairs_writer terms.now number pairs.now) keys.old sink.old keys.new room.new.room sink.new result }
 {
-    for (variable, id) in pairs {
-        write_term_pair(terms, number, variable, *id, keys, room, sink)?;
+    for pair in pairs {
+        write_term_pair(terms, number, pair, keys, room, sink)?;
     }
     end_list(terms, pairs.len(), keys, room, sink)
 }
@@ -236,29 +243,28 @@ fn write_term_pairs<S: Sink>(
 fn write_term_pair<S: Sink>(
     terms: &TermTable,
     number: u64,
-    variable: &Variable,
-    id: TermId,
+    pair: &(Variable, TermId),
     keys: &mut Keys,
     room: &mut Room,
     sink: &mut S,
 ) -> Result<(), Failed>
     requires ready { IsOpen terms.now keys.old room.old.room }
-    requires ty { variable.now.ty.0 < length terms.now.types }
-    requires known { id.0 < length terms.now.terms }
-    requires closed { IsTermAt terms.now id.0 }
-    ensures { Adds terms.now (term_pair_writer number (variable_at terms.now variable.now, term_at terms.now id.0)) keys.old (S.got sink.old)
-        (S.faults sink.old) keys.new room.new.room (S.got sink.new) (S.faults sink.new) result }
+    requires ty { pair.now.0.ty.0 < length terms.now.types }
+    requires known { pair.now.1.0 < length terms.now.terms }
+    requires closed { IsTermAt terms.now pair.now.1.0 }
+    ensures { AddsTo S.got S.faults terms.now (term_pair_writer number (term_pair_at terms.now pair.now))
+        keys.old sink.old keys.new room.new.room sink.new result }
 {
-    write_name(&variable.name, sink)?;
+    write_name(&pair.0.name, sink)?;
     write_jobs(
         terms,
         number,
         &[
             Job::Conses(2),
             Job::Word(Word::Nil),
-            Job::Term(id),
+            Job::Term(pair.1),
             Job::Word(Word::Var),
-            Job::Type(variable.ty),
+            Job::Type(pair.0.ty),
         ],
         keys,
         room,
@@ -276,11 +282,10 @@ fn write_constant_pairs<S: Sink>(
 ) -> Result<(), Failed>
     requires ready { IsOpen terms.now keys.old room.old.room }
     requires known { ArePairsKnown terms.now pairs.now }
-    ensures { Adds terms.now (write_list constant_pair_writer (pairs_at terms.now pairs.now)) keys.old (S.got sink.old)
-        (S.faults sink.old) keys.new room.new.room (S.got sink.new) (S.faults sink.new) result }
+    ensures { AddsTo S.got S.faults terms.now (constant_pairs_writer terms.now pairs.now) keys.old sink.old keys.new room.new.room sink.new result }
 {
-    for (name, variable) in pairs {
-        write_constant_pair(terms, name, variable, keys, room, sink)?;
+    for pair in pairs {
+        write_constant_pair(terms, pair, keys, room, sink)?;
     }
     end_list(terms, pairs.len(), keys, room, sink)
 }
@@ -288,19 +293,17 @@ fn write_constant_pairs<S: Sink>(
 // Writes a constant with its variable.
 fn write_constant_pair<S: Sink>(
     terms: &TermTable,
-    name: &Name,
-    variable: &Variable,
+    pair: &(Name, Variable),
     keys: &mut Keys,
     room: &mut Room,
     sink: &mut S,
 ) -> Result<(), Failed>
     requires ready { IsOpen terms.now keys.old room.old.room }
-    requires known { variable.now.ty.0 < length terms.now.types }
-    ensures { Adds terms.now (constant_pair_writer (name.now, variable_at terms.now variable.now)) keys.old (S.got sink.old)
-        (S.faults sink.old) keys.new room.new.room (S.got sink.new) (S.faults sink.new) result }
+    requires known { pair.now.1.ty.0 < length terms.now.types }
+    ensures { AddsTo S.got S.faults terms.now (constant_pair_writer (pair_at terms.now pair.now)) keys.old sink.old keys.new room.new.room sink.new result }
 {
-    write_name(name, sink)?;
-    write_variable(terms, variable, keys, room, sink)?;
+    write_name(&pair.0, sink)?;
+    write_variable(terms, &pair.1, keys, room, sink)?;
     end_list(terms, 2, keys, room, sink)
 }
 
@@ -313,8 +316,7 @@ fn write_names<S: Sink>(
     sink: &mut S,
 ) -> Result<(), Failed>
     requires { IsOpen terms.now keys.old room.old.room }
-    ensures { Adds terms.now (write_list say_name names.now) keys.old (S.got sink.old) (S.faults sink.old) keys.new room.new.room (S.got sink.new)
-        (S.faults sink.new) result }
+    ensures { AddsTo S.got S.faults terms.now (write_list say_name names.now) keys.old sink.old keys.new room.new.room sink.new result }
 {
     for name in names {
         write_name(name, sink)?;

@@ -8,7 +8,8 @@
 //! ```
 //! let mut keys = Keys::new(alloc, types, terms, proof.len())?;
 //! let mut room = Room::new(alloc, proof.terms())?;
-//! write_article(&proof, Version::Six, &told, &is_export, number, &mut keys, &mut room, &mut sink)?;
+//! let source = Source { proof: &proof, told: &told, is_export: &is_export, number };
+//! write_article(Version::Six, source, &mut keys, &mut room, &mut sink)?;
 //! ```
 //!
 //! | Module | What it does |
@@ -17,6 +18,7 @@
 //! | `walk` | writes what is left, with an agenda in the place of a recursion |
 //! | `trees` | a type, a variable and a term, each once |
 //! | `given` | what a rule is given beside its premises |
+//! | `sources` | what the steps of an article are written from |
 //! | `steps` | a step: what its rule was given, its premises, the word of the rule, and the keys of its theorems |
 //! | `article` | what an article begins with, and its steps in order |
 //!
@@ -32,9 +34,11 @@
 mod article;
 mod given;
 mod room;
+mod sources;
 mod steps;
 mod trees;
 mod walk;
 
 pub use article::write_article;
 pub use room::Room;
+pub use sources::Source;

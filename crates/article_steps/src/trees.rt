@@ -6,8 +6,8 @@ ghost use Rattle.article_spec.specs.declared.commands.Word.TheVariants as word;
 ghost use Rattle.writing_spec.specs.Drafts.{say_word, conses};
 ghost use Rattle.writing_spec.specs.WrittenTypes.{write_variable as variable_writer};
 ghost use Rattle.writing_spec.specs.WrittenTerms.{write_term as term_writer};
-ghost use Rattle.article_steps.specs.Agendas.{pushed_all, cleared, do_jobs};
-ghost use Rattle.article_steps.specs.Left.{Adds, IsOpen, IsReady};
+ghost use Rattle.article_steps.specs.Agendas.{begun};
+ghost use Rattle.article_steps.specs.Left.{jobs_writer, AddsTo, IsOpen, IsReady};
 
 use crate::room::{Job, Room};
 use crate::walk::run;
@@ -27,9 +27,9 @@ pub(crate) fn write_jobs<S: Sink>(
     sink: &mut S,
 ) -> Result<(), Failed>
     requires room { length jobs.now ≤ room.old.room }
-    requires ready { IsReady terms.now number (pushed_all jobs.now (cleared room.old)) keys.old }
-    ensures { let a = pushed_all jobs.now (cleared room.old) in
-        Adds terms.now (do_jobs terms.now number a.binders a.jobs) keys.old (S.got sink.old) (S.faults sink.old) keys.new room.new.room (S.got sink.new) (S.faults sink.new) result }
+    requires ready { IsReady terms.now number (begun jobs.now room.old) keys.old }
+    ensures { AddsTo S.got S.faults terms.now (jobs_writer terms.now number (begun jobs.now room.old))
+        keys.old sink.old keys.new room.new.room sink.new result }
 {
     room.clear();
     room.push_all(jobs);
@@ -48,8 +48,7 @@ pub(crate) fn write_term<S: Sink>(
     requires ready { IsOpen terms.now keys.old room.old.room }
     requires known { id.0 < length terms.now.terms }
     requires closed { IsTermAt terms.now id.0 }
-    ensures { Adds terms.now (term_writer number (term_at terms.now id.0)) keys.old (S.got sink.old) (S.faults sink.old) keys.new room.new.room
-        (S.got sink.new) (S.faults sink.new) result }
+    ensures { AddsTo S.got S.faults terms.now (term_writer number (term_at terms.now id.0)) keys.old sink.old keys.new room.new.room sink.new result }
 {
     write_jobs(terms, number, &[Job::Term(id)], keys, room, sink)
 }
@@ -64,8 +63,7 @@ pub(crate) fn write_variable<S: Sink>(
 ) -> Result<(), Failed>
     requires ready { IsOpen terms.now keys.old room.old.room }
     requires known { variable.now.ty.0 < length terms.now.types }
-    ensures { Adds terms.now (variable_writer (variable_at terms.now variable.now)) keys.old (S.got sink.old) (S.faults sink.old) keys.new room.new.room
-        (S.got sink.new) (S.faults sink.new) result }
+    ensures { AddsTo S.got S.faults terms.now (variable_writer (variable_at terms.now variable.now)) keys.old sink.old keys.new room.new.room sink.new result }
 {
     write_name(&variable.name, sink)?;
     write_jobs(
@@ -87,8 +85,7 @@ pub(crate) fn end_list<S: Sink>(
     sink: &mut S,
 ) -> Result<(), Failed>
     requires { IsOpen terms.now keys.old room.old.room }
-    ensures { Adds terms.now (λ d. conses count (say_word word.Nil d)) keys.old (S.got sink.old) (S.faults sink.old) keys.new room.new.room (S.got sink.new)
-        (S.faults sink.new) result }
+    ensures { AddsTo S.got S.faults terms.now (λ d. conses count (say_word word.Nil d)) keys.old sink.old keys.new room.new.room sink.new result }
 {
     write_jobs(
         terms,

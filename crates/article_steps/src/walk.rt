@@ -1,13 +1,10 @@
 //! Types and terms, written with an agenda in the place of a recursion.
-ghost use Rattle.std.specs.Prelude.{◌≡◌, ◌<◌, ◌+◌, ℕ, [], ◌∷◌, length, pos, None};
-ghost use Rattle.hol_term.specs.Tables.{Trees, IsTermAt};
-ghost use Rattle.article_spec.specs.declared.commands.Item.TheVariants as item;
-ghost use Rattle.article_spec.specs.declared.commands.Word.TheVariants as word;
-ghost use Rattle.writing_spec.specs.ItemTexts.{text_of};
+ghost use Rattle.std.specs.Prelude.{◌≡◌, ◌<◌, ◌+◌, length, None};
+ghost use Rattle.hol_term.specs.Tables.{IsTermAt};
 ghost use Rattle.article_steps.specs.declared.room.Job.TheVariants as job;
-ghost use Rattle.article_steps.specs.Agendas.{pushed, do_jobs};
-ghost use Rattle.article_steps.specs.Left.{Adds, Goes, IsReady, Steps};
-ghost use Rattle.article_lines.specs.Things.{Keyed, HasRoom, thing_key, with_thing};
+ghost use Rattle.article_steps.specs.Agendas.{pushed};
+ghost use Rattle.article_steps.specs.Left.{def_text, jobs_writer, AddsTo, GoesOfAny, GoesTo, IsReady, StepsOfAny};
+ghost use Rattle.article_lines.specs.Things.{HasRoom, thing_key, with_thing};
 ghost use Rattle.article_lines.specs.Writing.{Writes};
 
 use crate::room::{Job, Room};
@@ -28,8 +25,7 @@ fn do_type<S: Sink>(
     sink: &mut S,
 ) -> Result<(), Failed>
     requires { IsReady terms.now number (pushed (job.Type id) room.old) keys.now }
-    ensures { Goes terms.now number (pushed (job.Type id) room.old) keys.now (S.got sink.old) (S.faults sink.old) room.new keys.now (S.got sink.new)
-        (S.faults sink.new) result }
+    ensures { GoesTo S.got S.faults terms.now number (pushed (job.Type id) room.old) keys.now sink.old room.new keys.now sink.new result }
 {
     match keys.key(Thing::Type(id)) {
         Some(key) => write_key(key, Word::Ref, sink),
@@ -50,8 +46,7 @@ fn do_type_parts<S: Sink>(
     sink: &mut S,
 ) -> Result<(), Failed>
     requires { IsReady terms.now number (pushed (job.TypeParts id) room.old) keys.now }
-    ensures { Goes terms.now number (pushed (job.TypeParts id) room.old) keys.now (S.got sink.old) (S.faults sink.old) room.new keys.now (S.got sink.new)
-        (S.faults sink.new) result }
+    ensures { GoesTo S.got S.faults terms.now number (pushed (job.TypeParts id) room.old) keys.now sink.old room.new keys.now sink.new result }
 {
     match terms.types().view(id) {
         TypeView::Var(name) => {
@@ -75,8 +70,7 @@ fn do_type_parts<S: Sink>(
 fn do_arguments(terms: &TermTable, id: TypeId, from: usize, room: &mut Room)
     requires known { id.0 < length terms.now.types }
     requires room { length room.old.jobs + 1 < room.old.room }
-    ensures { (q : ℕ) (keys : Keyed) → IsReady terms.now q (pushed (job.Arguments id from) room.old) keys
-        → Steps terms.now q (pushed (job.Arguments id from) room.old) keys [] room.new keys }
+    ensures { StepsOfAny terms.now (pushed (job.Arguments id from) room.old) room.new }
 {
     if let TypeView::Op(_, arguments) = terms.types().view(id) {
         if from < arguments.len() {
@@ -95,8 +89,7 @@ fn do_term<S: Sink>(
     sink: &mut S,
 ) -> Result<(), Failed>
     requires { IsReady terms.now number (pushed (job.Term id) room.old) keys.now }
-    ensures { Goes terms.now number (pushed (job.Term id) room.old) keys.now (S.got sink.old) (S.faults sink.old) room.new keys.now (S.got sink.new)
-        (S.faults sink.new) result }
+    ensures { GoesTo S.got S.faults terms.now number (pushed (job.Term id) room.old) keys.now sink.old room.new keys.now sink.new result }
 {
     match terms.ty(id) {
         Some(_) => do_closed_term(terms, number, id, keys, room, sink),
@@ -118,8 +111,7 @@ fn do_closed_term<S: Sink>(
 ) -> Result<(), Failed>
     requires ready { IsReady terms.now number (pushed (job.Term id) room.old) keys.now }
     requires closed { IsTermAt terms.now id.0 }
-    ensures { Goes terms.now number (pushed (job.Term id) room.old) keys.now (S.got sink.old) (S.faults sink.old) room.new keys.now (S.got sink.new)
-        (S.faults sink.new) result }
+    ensures { GoesTo S.got S.faults terms.now number (pushed (job.Term id) room.old) keys.now sink.old room.new keys.now sink.new result }
 {
     match keys.key(Thing::Term(id)) {
         Some(key) => write_key(key, Word::Ref, sink),
@@ -140,8 +132,7 @@ fn do_term_parts<S: Sink>(
     sink: &mut S,
 ) -> Result<(), Failed>
     requires { IsReady terms.now number (pushed (job.TermParts id) room.old) keys.now }
-    ensures { Goes terms.now number (pushed (job.TermParts id) room.old) keys.now (S.got sink.old) (S.faults sink.old) room.new keys.now (S.got sink.new)
-        (S.faults sink.new) result }
+    ensures { GoesTo S.got S.faults terms.now number (pushed (job.TermParts id) room.old) keys.now sink.old room.new keys.now sink.new result }
 {
     match terms.view(id) {
         TermView::Free(name, ty) => {
@@ -197,8 +188,7 @@ fn do_term_parts<S: Sink>(
 // Writes a `cons`, where one is left, and leaves one less.
 fn do_conses<S: Sink>(count: usize, room: &mut Room, sink: &mut S) -> Result<(), Failed>
     requires { length room.old.jobs < room.old.room }
-    ensures { (trees : Trees) (q : ℕ) (keys : Keyed) → IsReady trees q (pushed (job.Conses count) room.old) keys
-        → Goes trees q (pushed (job.Conses count) room.old) keys (S.got sink.old) (S.faults sink.old) room.new keys (S.got sink.new) (S.faults sink.new) result }
+    ensures { GoesOfAny S.got S.faults (pushed (job.Conses count) room.old) sink.old room.new sink.new result }
 {
     if count == 0 {
         return Ok(());
@@ -212,8 +202,7 @@ pub(crate) fn keep<S: Sink>(thing: Thing, keys: &mut Keys, sink: &mut S) -> Resu
     requires room { HasRoom keys.old thing }
     requires new { thing_key keys.old thing ≡ None }
     ensures kept { keys.new ≡ with_thing thing keys.old }
-    ensures writes { Writes (S.got sink.old) (S.faults sink.old) (text_of (item.Number (pos (length keys.old.things)) ∷ item.Word word.Def ∷ []))
-        (S.got sink.new) (S.faults sink.new) result }
+    ensures writes { Writes (S.got sink.old) (S.faults sink.old) (def_text keys.old) (S.got sink.new) (S.faults sink.new) result }
 {
     let key = keys.keep(thing);
     write_key(key, Word::Def, sink)
@@ -230,8 +219,7 @@ fn do_job<S: Sink>(
 ) -> Result<(), Failed>
     requires ready { IsReady terms.now number (pushed job room.old) keys.old }
     requires left { length room.old.jobs < room.old.room }
-    ensures { Goes terms.now number (pushed job room.old) keys.old (S.got sink.old) (S.faults sink.old) room.new keys.new (S.got sink.new)
-        (S.faults sink.new) result }
+    ensures { GoesTo S.got S.faults terms.now number (pushed job room.old) keys.old sink.old room.new keys.new sink.new result }
 {
     match job {
         Job::Type(id) => do_type(terms, number, id, keys, room, sink),
@@ -261,8 +249,7 @@ pub(crate) fn run<S: Sink>(
     sink: &mut S,
 ) -> Result<(), Failed>
     requires { IsReady terms.now number room.old keys.old }
-    ensures { Adds terms.now (do_jobs terms.now number room.old.binders room.old.jobs) keys.old (S.got sink.old) (S.faults sink.old) keys.new room.new.room
-        (S.got sink.new) (S.faults sink.new) result }
+    ensures { AddsTo S.got S.faults terms.now (jobs_writer terms.now number room.old) keys.old sink.old keys.new room.new.room sink.new result }
 {
     while let Some(job) = room.pop() {
         do_job(terms, number, job, keys, room, sink)?;

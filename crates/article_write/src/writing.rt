@@ -8,7 +8,7 @@ ghost use Rattle.article_write.specs.Plans.{IsPlanOf};
 
 use crate::gathering::GatheringSink;
 use crate::planned::Plan;
-use article_steps::write_article;
+use article_steps::{Source, write_article};
 use bridge_base::{Failed, Sink};
 use core::mem::replace_with;
 use hol_rules::Proof;
@@ -45,15 +45,18 @@ fn write_planned<S: Sink>(proof: &Proof, plan: Plan, sink: &mut S) -> Result<(),
     ensures { (version : AVersion) (run : Accepted) → IsPlanOf proof.now version run plan
         → Writes (S.got sink.old) (S.faults sink.old) (article version run) (S.got sink.new) (S.faults sink.new) result }
 {
-    let mut plan = plan;
-    write_article(
+    let Plan {
+        version,
+        reach,
+        mut keys,
+        mut room,
+        ..
+    } = plan;
+    let source = Source {
         proof,
-        plan.version,
-        plan.reach.told(),
-        plan.reach.is_export(),
-        plan.reach.number(),
-        &mut plan.keys,
-        &mut plan.room,
-        sink,
-    )
+        told: reach.told(),
+        is_export: reach.is_export(),
+        number: reach.number(),
+    };
+    write_article(version, source, &mut keys, &mut room, sink)
 }

@@ -1,3 +1,4 @@
+pub mod DeclTexts
 pub mod Lines
 pub mod LineLaws
 pub mod Paths

@@ -1,12 +1,13 @@
 -- What is left of a tree that is being written.
-use Rattle.std.specs.Prelude.{ℕ, take, suc, ◌+◌, ◌*◌, ◌<◌, ◌≤◌, Bool, not, if◌then◌else◌, List, [], ◌∷◌, ◌++◌, length, codes}
+use Rattle.std.specs.Prelude.{ℕ, Option, take, suc, ◌+◌, ◌*◌, ◌<◌, ◌≤◌, Bool, not, if◌then◌else◌, List, [], ◌∷◌, ◌++◌, length, codes}
 use Rattle.lp_spec.specs.Trees.{Tree, size, depth}
 use Rattle.lp_spec.specs.ShortNames.{shortened}
-use Rattle.lp_spec.specs.Text.{enclosed, is_word, tree_text}
+use Rattle.lp_spec.specs.Text.{binder_name, enclosed, is_word, tree_text}
 use Rattle.lp_term.specs.declared.LpId.{LpId}
 use Rattle.lp_term.specs.Tables.{tree_at}
 use Rattle.holide_sig.specs.declared.module.Module.{Module}
 use Rattle.holide_sig.specs.Modules.{declarations_of}
+use Rattle.dk_write.specs.Writing.{Gained}
 use Rattle.dk_write.specs.declared.path.Place.{Place}
 use Rattle.dk_write.specs.declared.path.Frame.{Frame}
 use Rattle.dk_write.specs.declared.path.Frame.TheVariants.{Close, Argument, Abstracted, Produced}
@@ -77,3 +78,15 @@ frames_work trees (frame ∷ frames) = frame_work trees frame + frames_work tree
 abbrev pub work : List Tree → Turn → List Frame → ℕ
 work trees (Write p) frames = place_work trees p + frames_work trees frames
 work trees Leave frames = 1 + frames_work trees frames
+
+-- the text of a tree under no binder, and what stands before its domain in a binder
+abbrev pub root_text : Module → ℕ → LpId → List ℕ
+root_text m n id = tree_text (declarations_of m) 0 (written_tree m n id)
+
+abbrev pub binder_text : ℕ → Bool → List ℕ
+binder_text depth opens = binder_name depth ++ (codes " : " ++ (if opens then codes "(" else []))
+
+-- of what was gathered and left, a sink got all but what is gathered and left after a turn
+abbrev pub GoesOn : {S : Type 0} → (S → Option (List ℕ)) → Module → ℕ → S → List ℕ → Turn → List Frame → S → List ℕ → List Frame → Turn → Type 0
+GoesOn got m n sink before turn frames sink_now after frames_now next =
+    Gained (got sink) (before ++ left_text m n turn frames) (after ++ left_text m n next frames_now) (got sink_now)

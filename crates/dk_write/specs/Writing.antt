@@ -19,3 +19,7 @@ pub record Writes {T E : Type 0} (old : Option (List ℕ)) (before : List ℕ) (
   pub ok : OnOk result (Gained old (before ++ text) after new)
   pub err : OnErr result (GainsFront old (before ++ text) new)
   pub cause : HasCause faults faults_now result
+
+-- the same of a sink, by what it got and its count of faults
+abbrev pub WritesTo : {S T E : Type 0} → (S → Option (List ℕ)) → (S → ℕ) → S → List ℕ → List ℕ → S → List ℕ → Result T E → Type 0
+WritesTo got faults sink before text sink_now after result = Writes (got sink) before (faults sink) text (got sink_now) after (faults sink_now) result

@@ -14,15 +14,14 @@
 //! ```
 #![tactic(auto)]
 
-ghost use Rattle.std.specs.Prelude.{◌≡◌, take, ◌<◌, ◌≤◌, ◌^◌, [], length, option_map, OnOk, OnErr};
+ghost use Rattle.std.specs.Prelude.{◌≡◌, ◌<◌, ◌≤◌, ◌^◌, [], length, OnOk, OnErr};
 ghost use Rattle.bridge_base.specs.Outside.{Gains, GainsFront, HasCause};
-ghost use Rattle.lp_spec.specs.ShortNames.{shortened, shortened_declaration};
-ghost use Rattle.lp_spec.specs.Text.{body_text, declaration_text, opening, prelude, written};
-ghost use Rattle.lp_term.specs.Tables.{tree_at};
-ghost use Rattle.holide_sig.specs.Modules.{declaration_in, declarations_of, IsBodyKnown, IsKnown, IsHeld};
+ghost use Rattle.lp_spec.specs.Text.{opening, prelude, written};
+ghost use Rattle.holide_sig.specs.Modules.{declarations_of, IsBodyKnown, IsKnown, IsHeld};
+ghost use Rattle.dk_write.specs.DeclTexts.{decl_body_text, decl_text};
 ghost use Rattle.dk_write.specs.Lines.{line_at};
 ghost use Rattle.dk_write.specs.Shallow.{AreWithin, IsBodyWithin, IsWithin};
-ghost use Rattle.dk_write.specs.Writing.{Writes};
+ghost use Rattle.dk_write.specs.Writing.{WritesTo};
 
 mod gathered;
 mod path;
@@ -35,6 +34,13 @@ use bridge_base::{Failed, Sink, write_all};
 use holide_sig::{Decl, Form, Module, PRELUDE};
 use itoa::Buffer;
 use lp_term::LpId;
+
+// A declaration with the bound that is written before it where it is a theorem.
+#[derive(Clone, Copy)]
+struct Bounded<'a> {
+    decl: &'a Decl,
+    bound: u128,
+}
 
 /// Writes the text of a module: the prelude, then each declaration on a line of its own, a theorem with its bound on the
 /// line before. The sink gets the prelude, and what a declaration adds, by one call for each 4,096 bytes of it, where it takes all
@@ -88,35 +94,34 @@ pub fn write_decl<S: Sink>(
     ensures cause { HasCause (S.faults sink.old) (S.faults sink.new) result }
 {
     path.clear();
-    write_by(source, i, source.decls.get(i), bounds[i], path, sink)
+    let line = Bounded {
+        decl: source.decls.get(i),
+        bound: bounds[i],
+    };
+    write_by(source, i, line, path, sink)
 }
 
 // Writes what a declaration adds, with this path.
 fn write_by<S: Sink>(
     source: &Module,
     before: usize,
-    decl: &Decl,
-    bound: u128,
+    line: Bounded<'_>,
     path: &mut Path,
     sink: &mut S,
 ) -> Result<(), Failed>
     requires held { IsHeld source.now }
     requires before { before ≤ length source.now.decls }
-    requires known { IsKnown source.now.table decl.now }
-    requires room { IsWithin path.old.room source.now.table decl.now }
+    requires known { IsKnown source.now.table line.decl.now }
+    requires room { IsWithin path.old.room source.now.table line.decl.now }
     requires empty { path.old.frames ≡ [] }
     requires small { path.old.room < 2 ^ 64 }
     ensures room { path.new.room ≡ path.old.room }
-    ensures ok { OnOk result (Gains (S.got sink.old)
-        (declaration_text (declarations_of source.now)
-        (shortened_declaration (take before (declarations_of source.now)) (declaration_in source.now.table decl.now)) bound) (S.got sink.new)) }
-    ensures err { OnErr result (GainsFront (S.got sink.old)
-        (declaration_text (declarations_of source.now)
-        (shortened_declaration (take before (declarations_of source.now)) (declaration_in source.now.table decl.now)) bound) (S.got sink.new)) }
+    ensures ok { OnOk result (Gains (S.got sink.old) (decl_text source.now before line.entry) (S.got sink.new)) }
+    ensures err { OnErr result (GainsFront (S.got sink.old) (decl_text source.now before line.entry) (S.got sink.new)) }
     ensures cause { HasCause (S.faults sink.old) (S.faults sink.new) result }
 {
     let mut gathered = Gathered::new();
-    write_declaration(source, before, decl, bound, path, &mut gathered, sink)?;
+    write_declaration(source, before, line, path, &mut gathered, sink)?;
     gathered.flush(sink)
 }
 
@@ -124,27 +129,24 @@ fn write_by<S: Sink>(
 fn write_declaration<S: Sink>(
     source: &Module,
     before: usize,
-    decl: &Decl,
-    bound: u128,
+    line: Bounded<'_>,
     path: &mut Path,
     gathered: &mut Gathered,
     sink: &mut S,
 ) -> Result<(), Failed>
     requires held { IsHeld source.now }
     requires before { before ≤ length source.now.decls }
-    requires known { IsKnown source.now.table decl.now }
-    requires room { IsWithin path.old.room source.now.table decl.now }
+    requires known { IsKnown source.now.table line.decl.now }
+    requires room { IsWithin path.old.room source.now.table line.decl.now }
     requires empty { path.old.frames ≡ [] }
     requires small { path.old.room < 2 ^ 64 }
     ensures room { path.new.room ≡ path.old.room }
-    ensures writes { Writes (S.got sink.old) gathered.old (S.faults sink.old)
-        (declaration_text (declarations_of source.now) (shortened_declaration (take before (declarations_of source.now)) (declaration_in source.now.table decl.now)) bound)
-        (S.got sink.new) gathered.new (S.faults sink.new) result }
+    ensures writes { WritesTo S.got S.faults sink.old gathered.old (decl_text source.now before line.entry) sink.new gathered.new result }
 {
-    write_opening(decl.form, bound, gathered, sink)?;
-    gathered.write_words(&[decl.name.as_bytes(), b" : "], sink)?;
-    write_tree(source, before, decl.ty, path, gathered, sink)?;
-    write_body(source, before, decl.body, path, gathered, sink)?;
+    write_opening(line.decl.form, line.bound, gathered, sink)?;
+    gathered.write_words(&[line.decl.name.as_bytes(), b" : "], sink)?;
+    write_tree(source, before, line.decl.ty, path, gathered, sink)?;
+    write_body(source, before, line.decl.body, path, gathered, sink)?;
     gathered.write_words(&[b".\n"], sink)
 }
 
@@ -155,7 +157,7 @@ fn write_opening<S: Sink>(
     gathered: &mut Gathered,
     sink: &mut S,
 ) -> Result<(), Failed>
-    ensures { Writes (S.got sink.old) gathered.old (S.faults sink.old) (opening form bound) (S.got sink.new) gathered.new (S.faults sink.new) result }
+    ensures { WritesTo S.got S.faults sink.old gathered.old (opening form bound) sink.new gathered.new result }
 {
     match form {
         Form::Symbol => Ok(()),
@@ -184,9 +186,7 @@ fn write_body<S: Sink>(
     requires empty { path.old.frames ≡ [] }
     requires small { path.old.room < 2 ^ 64 }
     ensures room { path.new.room ≡ path.old.room }
-    ensures writes { Writes (S.got sink.old) gathered.old (S.faults sink.old)
-        (body_text (declarations_of source.now) (option_map (shortened (take before (declarations_of source.now))) (option_map (λ id. tree_at source.now.table id.0) body)))
-        (S.got sink.new) gathered.new (S.faults sink.new) result }
+    ensures writes { WritesTo S.got S.faults sink.old gathered.old (decl_body_text source.now before body) sink.new gathered.new result }
 {
     match body {
         Some(id) => {

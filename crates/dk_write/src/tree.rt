@@ -1,14 +1,14 @@
 //! Writing a tree, with a path in the place of a recursion.
-ghost use Rattle.std.specs.Prelude.{◌≡◌, None, take, ◌+◌, ◌-◌, ◌<◌, ◌≤◌, ◌^◌, [], ◌∷◌, ◌++◌, suc, length, codes, IfOk, OnOk, OnErr, if◌then◌else◌};
+ghost use Rattle.std.specs.Prelude.{◌≡◌, None, take, ◌+◌, ◌-◌, ◌<◌, ◌≤◌, ◌^◌, [], ◌∷◌, ◌++◌, length, codes, IfOk, OnOk, OnErr, if◌then◌else◌};
 ghost use Rattle.bridge_base.specs.Outside.{GainsFront, HasCause};
 ghost use Rattle.lp_spec.specs.Trees.{depth as depth_of};
-ghost use Rattle.lp_spec.specs.Text.{binder_name, is_binder as is_binder_tree, is_word as is_word_tree, tree_text};
+ghost use Rattle.lp_spec.specs.Text.{is_binder as is_binder_tree, is_word as is_word_tree};
 ghost use Rattle.lp_spec.specs.Modules.{symbol_name as name_of};
 ghost use Rattle.lp_term.specs.Tables.{tree_at};
 ghost use Rattle.lp_spec.specs.ShortNames.{short};
 ghost use Rattle.holide_sig.specs.Modules.{declarations_of, IsHeld};
-ghost use Rattle.dk_write.specs.Paths.{IsPlace, IsTurn, AreFrames, IsFrame, left_text, frames_text, frame_text, written_tree, work, frames_work, frame_work};
-ghost use Rattle.dk_write.specs.Writing.{Writes, Gained};
+ghost use Rattle.dk_write.specs.Paths.{binder_text, root_text, GoesOn, IsPlace, IsTurn, AreFrames, IsFrame, left_text, written_tree, work};
+ghost use Rattle.dk_write.specs.Writing.{WritesTo};
 
 use crate::gathered::Gathered;
 use crate::path::{Frame, Path, Place};
@@ -43,8 +43,7 @@ pub(crate) fn write_tree<S: Sink>(
     requires empty { path.old.frames ≡ [] }
     ensures empty { OnOk result (path.new.frames ≡ []) }
     ensures room { path.new.room ≡ path.old.room }
-    ensures writes { Writes (S.got sink.old) gathered.old (S.faults sink.old)
-        (tree_text (declarations_of source.now) 0 (written_tree source.now before id)) (S.got sink.new) gathered.new (S.faults sink.new) result }
+    ensures writes { WritesTo S.got S.faults sink.old gathered.old (root_text source.now before id) sink.new gathered.new result }
 {
     let mut turn = Turn::Write(Place { id, depth: 0 });
     loop {
@@ -76,8 +75,7 @@ fn write_place<S: Sink>(
     ensures frames { IfOk result (λ _. AreFrames path.new.room source.now.table path.new.frames) }
     ensures room { path.new.room ≡ path.old.room }
     ensures less { IfOk result (λ turn. work source.now.table turn path.new.frames < work source.now.table (Turn.Write place) path.old.frames) }
-    ensures ok { IfOk result (λ turn. Gained (S.got sink.old) (gathered.old ++ left_text source.now before (Turn.Write place) path.old.frames)
-        (gathered.new ++ left_text source.now before turn path.new.frames) (S.got sink.new)) }
+    ensures ok { IfOk result (GoesOn S.got source.now before sink.old gathered.old (Turn.Write place) path.old.frames sink.new gathered.new path.new.frames) }
     ensures err { OnErr result (GainsFront (S.got sink.old) (gathered.old ++ left_text source.now before (Turn.Write place) path.old.frames) (S.got sink.new)) }
     ensures cause { HasCause (S.faults sink.old) (S.faults sink.new) result }
 {
@@ -109,8 +107,7 @@ fn write_parts<S: Sink>(
     ensures frames { IfOk result (λ _. AreFrames path.new.room source.now.table path.new.frames) }
     ensures room { path.new.room ≡ path.old.room }
     ensures less { IfOk result (λ turn. work source.now.table turn path.new.frames < work source.now.table (Turn.Write place) path.old.frames) }
-    ensures ok { IfOk result (λ turn. Gained (S.got sink.old) (gathered.old ++ left_text source.now before (Turn.Write place) path.old.frames)
-        (gathered.new ++ left_text source.now before turn path.new.frames) (S.got sink.new)) }
+    ensures ok { IfOk result (GoesOn S.got source.now before sink.old gathered.old (Turn.Write place) path.old.frames sink.new gathered.new path.new.frames) }
     ensures err { OnErr result (GainsFront (S.got sink.old) (gathered.old ++ left_text source.now before (Turn.Write place) path.old.frames) (S.got sink.new)) }
     ensures cause { HasCause (S.faults sink.old) (S.faults sink.new) result }
 {
@@ -175,7 +172,7 @@ fn write_parts<S: Sink>(
 
 // Writes the parenthesis before a part, where it needs one.
 fn open_part<S: Sink>(wanted: bool, gathered: &mut Gathered, sink: &mut S) -> Result<(), Failed>
-    ensures { Writes (S.got sink.old) gathered.old (S.faults sink.old) (if wanted then codes "(" else []) (S.got sink.new) gathered.new (S.faults sink.new) result }
+    ensures { WritesTo S.got S.faults sink.old gathered.old (if wanted then codes "(" else []) sink.new gathered.new result }
 {
     if wanted {
         gathered.write(b"(", sink)
@@ -191,8 +188,7 @@ fn write_binder<S: Sink>(
     gathered: &mut Gathered,
     sink: &mut S,
 ) -> Result<(), Failed>
-    ensures { Writes (S.got sink.old) gathered.old (S.faults sink.old)
-        (binder_name depth ++ (codes " : " ++ (if opens then codes "(" else []))) (S.got sink.new) gathered.new (S.faults sink.new) result }
+    ensures { WritesTo S.got S.faults sink.old gathered.old (binder_text depth opens) sink.new gathered.new result }
 {
     let mut buffer = Buffer::new();
     let number = buffer.format(depth).as_bytes();
@@ -218,8 +214,7 @@ fn write_frame<S: Sink>(
     ensures frames { IfOk result (λ _. AreFrames path.new.room source.now.table path.new.frames) }
     ensures room { path.new.room ≡ path.old.room }
     ensures less { IfOk result (λ turn. work source.now.table turn path.new.frames < work source.now.table Turn.Leave (frame ∷ path.old.frames)) }
-    ensures ok { IfOk result (λ turn. Gained (S.got sink.old) (gathered.old ++ left_text source.now before Turn.Leave (frame ∷ path.old.frames))
-        (gathered.new ++ left_text source.now before turn path.new.frames) (S.got sink.new)) }
+    ensures ok { IfOk result (GoesOn S.got source.now before sink.old gathered.old Turn.Leave (frame ∷ path.old.frames) sink.new gathered.new path.new.frames) }
     ensures err { OnErr result (GainsFront (S.got sink.old) (gathered.old ++ left_text source.now before Turn.Leave (frame ∷ path.old.frames)) (S.got sink.new)) }
     ensures cause { HasCause (S.faults sink.old) (S.faults sink.new) result }
 {

@@ -3,7 +3,7 @@ use Rattle.std.specs.Prelude.{◌≡◌, ℕ, ◌+◌, ◌<◌, min, true, List,
 use Rattle.std.specs.List.{flat_map}
 use Rattle.lp_spec.specs.Trees.{Tree}
 use Rattle.lp_term.specs.declared.LpId.{LpId}
-use Rattle.lp_term.specs.Tables.{Holds}
+use Rattle.lp_term.specs.Tables.{Holds, IsDistinct}
 use Rattle.holide_sig.specs.declared.decls.Decl.{Decl}
 use Rattle.holide_sig.specs.Modules.{declaration_in}
 use Rattle.share_spec.specs.Folded.{is_in, parts_in, places}
@@ -42,3 +42,7 @@ IsLower trees i = (t p : Tree) → Holds trees i t → is_in p (direct t) ≡ tr
 -- the same for all numbers below the top
 abbrev pub AreLower : List Tree → ℕ → Type 0
 AreLower trees top = (i : ℕ) → i < top → IsLower trees i
+
+-- counts that agreed with a function agree with what comes of it, where no tree has two numbers
+abbrev pub Hands : List Tree → List ℕ → List ℕ → ((Tree → ℕ) → Tree → ℕ) → Type 0
+Hands trees old new f = IsDistinct trees → (c : Tree → ℕ) → Agrees trees old c → Agrees trees new (f c)

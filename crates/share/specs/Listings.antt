@@ -9,11 +9,16 @@ use Rattle.lp_term.specs.declared.LpId.{LpId}
 use Rattle.lp_term.specs.Tables.{tree_at}
 use Rattle.holide_sig.specs.declared.module.Module.{Module}
 use Rattle.holide_sig.specs.Modules.{declarations_of}
-use Rattle.share_spec.specs.Folded.{Entry, kept, abbreviated, abbreviations, entries, is_shared, places}
+use Rattle.share_spec.specs.Folded.{Entry, kept, abbreviated, abbreviations, entries, firsts, is_shared, parts_in, places}
+use Rattle.share_spec.specs.Abbreviations.{abbreviation}
+use Rattle.share_laws.specs.FirstsByNodes.{Alike, IsClosed}
+use Rattle.share.specs.declared.order.Meeting.{Meeting}
 use Rattle.share.specs.declared.listing.Listed.{Listed}
 use Rattle.share.specs.declared.listing.Listed.TheVariants as listed
 use Rattle.share.specs.declared.listing.Listing.{Listing}
 use Rattle.share.specs.Asking.{IsAsking}
+use Rattle.share.specs.Counts.{Agrees}
+use Rattle.share.specs.Meetings.{met_in}
 
 -- the count of a tree's places among these, up to two
 abbrev pub counted : List Tree → Tree → ℕ
@@ -61,3 +66,34 @@ AddsOne trees before after id (Some a) = (ty : LpId) × (ty.0 < length trees) ×
 -- these entries were added
 abbrev pub ListsMore : Module → Module → List Listed → List Listed → List Entry → Type 0
 ListsMore old new before after es = entries_in (declarations_of old) new.table after ≡ entries_in (declarations_of old) old.table before ++ es
+
+-- entries of a module over its own trees
+abbrev pub entry_of : Module → Listed → Entry
+entry_of m e = entry_in (declarations_of m) m.table e
+
+abbrev pub entries_from : Module → List Listed → List Entry
+entries_from m es = entries_in (declarations_of m) m.table es
+
+-- What was listed, as the table of the module grew
+module _ (old new : Module) where
+  -- the abbreviation of a tree, if it can be abbreviated
+  abbrev pub AddsAbbreviation : Listing → Listing → LpId → Type 0
+  AddsAbbreviation before after id = AddsOne new.table before.entries.items after.entries.items id (abbreviation (declarations_of old) (tree_at old.table id.0))
+
+  -- these, where the counts are those of the places among all of some trees
+  abbrev pub ListsCounted : List ℕ → Listing → Listing → (List Declaration → List Tree → List Entry) → Type 0
+  ListsCounted counts before after what =
+      (all : List Tree) → Agrees old.table counts (counted all) → ListsMore old new before.entries.items after.entries.items (what (declarations_of old) all)
+
+  -- a declaration, after the abbreviations of what is shared and was not met before
+  abbrev pub ListsDeclaration : ℕ → List ℕ → Meeting → Listing → Listing → Type 0
+  ListsDeclaration number counts meeting before after =
+      (all met : List Tree) (d : Declaration) → Agrees old.table counts (counted all) → Alike (met_in old.table meeting) met → IsClosed met
+      → slice_get (declarations_of old) number ≡ Some d
+      → ListsMore old new before.entries.items after.entries.items (shared_in (declarations_of old) all (firsts met (parts_in d)) ++ kept d ∷ [])
+
+  -- the trees of a declaration were met
+  abbrev pub MeetsDeclaration : ℕ → Meeting → Meeting → Type 0
+  MeetsDeclaration number before after =
+      (met : List Tree) (d : Declaration) → Alike (met_in old.table before) met → IsClosed met → slice_get (declarations_of old) number ≡ Some d
+      → Alike (met_in new.table after) (met ++ parts_in d)

@@ -7,6 +7,7 @@ use Rattle.lp_term.specs.declared.LpId.{LpId}
 use Rattle.lp_term.specs.Tables.{tree_at, trees_at, Holds, IsDistinct}
 use Rattle.share_spec.specs.Folded.{is_in}
 use Rattle.share_laws.specs.FirstsByNodes.{visit}
+use Rattle.share.specs.declared.order.Meeting.{Meeting}
 use Rattle.share.specs.declared.order.Turn.{Turn}
 use Rattle.share.specs.declared.order.Turn.TheVariants as turn
 
@@ -53,3 +54,11 @@ pub record IsMeeting (trees : List Tree) (met : List Bool) (order : List LpId) :
 -- what was met, once the trees of a declaration are met
 abbrev pub visited_in : List Tree → Declaration → List Tree
 visited_in done d = option_map_or (visit (visit done d.ty)) d.body (visit done d.ty)
+
+-- the trees that were met, in order
+abbrev pub met_in : List Tree → Meeting → List Tree
+met_in trees meeting = trees_at trees meeting.order.items
+
+-- the same, once these turns are taken
+abbrev pub met_after : List Tree → List Turn → Meeting → List Tree
+met_after trees turns meeting = unwound trees turns (met_in trees meeting)

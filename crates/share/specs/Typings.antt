@@ -1,6 +1,6 @@
 -- Questions for types, as trees: a product of a context and a tree asks for the type of the tree as a term there, any other tree for what is
 -- left of its type as a constant. A context is a product too: of a type, whose terms its innermost variable stands for, and of the rest.
-use Rattle.std.specs.Prelude.{◌≡◌, ◌&&◌, ℕ, zero, suc, ◌<◌, Bool, true, false, List, [], ◌∷◌, length, Option, None, Some, option_map, option_and_then}
+use Rattle.std.specs.Prelude.{◌≡◌, ◌&&◌, ℕ, zero, suc, ◌<◌, Bool, true, false, List, [], ◌∷◌, length, Option, None, Some, IfSome, option_map, option_and_then}
 use Rattle.std.specs.Option.{is_some}
 use Rattle.lp_spec.specs.Trees.{tree_eq, Tree, Sym, App, Pi}
 use Rattle.lp_spec.specs.Modules.{arr_of, arr_symbol, term_of, types, Declaration}
@@ -99,3 +99,36 @@ is_product _ = false
 -- a type is told, and is that of types
 abbrev pub is_types_told : Option Tree → Bool
 is_types_told o = is_some (option_and_then (λ t. provided (tree_eq t types) t) o)
+
+-- What comes of a turn, by what is noted over the trees before it
+module _ (old new : List Tree) (noted : ℕ → Option (Option LpId)) where
+  -- a turn towards this
+  abbrev pub TurnsBy : (List Declaration → Option Tree) → Turn → Type 0
+  TurnsBy what turn = (m : List Declaration) → AreAnswers m old noted → Turns m new turn (what m)
+
+  -- the same in a context of simple types
+  abbrev pub TurnsIn : LpId → (List Declaration → Tree → Option Tree) → Turn → Type 0
+  TurnsIn c what turn = (m : List Declaration) → IsContext m (tree_at old c.0) → AreAnswers m old noted → Turns m new turn (what m (tree_at old c.0))
+
+  -- the same under a binder of a simple type
+  abbrev pub TurnsUnder : LpId → LpId → LpId → Turn → Type 0
+  TurnsUnder a c t turn =
+      (m : List Declaration) → is_simple m [] (tree_at old a.0) ≡ true → IsContext m (tree_at old c.0) → AreAnswers m old noted
+      → Turns m new turn (under_type m (tree_at old a.0) (tree_at old c.0) (tree_at old t.0))
+
+abbrev pub CanTurnUnder : List Tree → (ℕ → Option (Option LpId)) → LpId → LpId → Type 0
+CanTurnUnder trees noted a c = (m : List Declaration) × (is_simple m [] (tree_at trees a.0) ≡ true) × IsContext m (tree_at trees c.0) × AreAnswers m trees noted
+
+-- what is noted tells what is left of a constant's type, if it tells anything
+abbrev pub TellsNoted : List Tree → (ℕ → Option (Option LpId)) → LpId → Option (Option LpId) → Type 0
+TellsNoted trees noted id result =
+    (m : List Declaration) → AreAnswers m trees noted → IfSome result (λ r. Tells trees r (constant_type m [] (tree_at trees id.0)))
+
+-- the new context is as good for the tree
+abbrev pub IsSameContext : List Tree → List Tree → LpId → LpId → LpId → Type 0
+IsSameContext old new c t d = (m : List Declaration) → IsContext m (tree_at old c.0) → IsSameFor m (tree_at old c.0) (tree_at old t.0) (tree_at new d.0)
+
+-- a question that can be asked, and others that wait, are so again
+abbrev pub AreAskedAgain : LpId → List LpId → LpId → List LpId → Type 0
+AreAskedAgain q waiting r rest =
+    (m : List Declaration) (trees : List Tree) → IsQuestion m trees q → AreQuestions m trees waiting → IsQuestion m trees r × AreQuestions m trees rest

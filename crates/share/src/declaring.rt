@@ -1,14 +1,13 @@
 //! The declarations of a folded module, over the trees that were made anew.
-ghost use Rattle.std.specs.Prelude.{◌≡◌, ℕ, ◌<◌, ◌≤◌, ◌+◌, ◌^◌, ◌++◌, ◌∷◌, [], List, length, slice_get, Some, IfOk, OnOk};
+ghost use Rattle.std.specs.Prelude.{◌≡◌, ℕ, ◌<◌, ◌≤◌, ◌+◌, ◌^◌, ◌∷◌, [], List, length, slice_get, Some, IfOk, OnOk};
 ghost use Rattle.lp_spec.specs.Trees.{Tree};
-ghost use Rattle.lp_spec.specs.Modules.{signature, Declaration};
-ghost use Rattle.lp_spec.specs.ModuleOrder.{AreDeclared, MayFollow};
+ghost use Rattle.lp_spec.specs.Modules.{Declaration};
 ghost use Rattle.share_spec.specs.MovedTrees.{moved_declaration};
 ghost use Rattle.share_spec.specs.Folded.{declarations};
-ghost use Rattle.holide_sig.specs.Modules.{declaration_in, declarations_of, IsHeld};
+ghost use Rattle.holide_sig.specs.Modules.{declaration_in, IsHeld};
 ghost use Rattle.share.specs.Counts.{AreBelow, IsBelow, IsBodyBelow};
-ghost use Rattle.share.specs.Declaring.{abbreviation_of, declaration_of, number_after, IsMadeBody, IsMadeOf};
-ghost use Rattle.share.specs.Listings.{entries_in, entry_in, AreListed, IsListed};
+ghost use Rattle.share.specs.Declaring.{abbreviation_of, declaration_of, number_after, IsMadeBody, AddsMade, IsMadeAnywhere, IsMadeFrom, MayAllBeMade, MayBeMade};
+ghost use Rattle.share.specs.Listings.{entry_in, entries_from, entry_of, AreListed, IsListed};
 ghost use Rattle.share.specs.Moving.{AreMade};
 
 use crate::listing::Listed;
@@ -40,8 +39,7 @@ fn made_body(made: &[LpId], body: Option<LpId>) -> Option<LpId>
 // The declaration over what was made of its trees.
 fn kept(alloc: Global, decl: &Decl, made: &[LpId]) -> Result<Decl, Memory>
     requires { IsBelow (length made.now) decl.now }
-    ensures { IfOk result (λ d. (place : ℕ → ℕ) (source target : List Tree) → AreMade place source target made.now
-        → IsMadeOf target (moved_declaration place (declaration_in source decl.now)) d) }
+    ensures { IfOk result (IsMadeAnywhere made.now (λ place source. moved_declaration place (declaration_in source decl.now))) }
 {
     let name = copied(alloc, decl.name.as_bytes())?;
     Ok(Decl {
@@ -62,8 +60,7 @@ fn abbreviated(
 ) -> Result<Decl, Memory>
     requires body { body.0 < length made.now }
     requires ty { ty.0 < length made.now }
-    ensures { IfOk result (λ d. (place : ℕ → ℕ) (source target : List Tree) → AreMade place source target made.now
-        → IsMadeOf target (abbreviation_of place source body ty number) d) }
+    ensures { IfOk result (IsMadeAnywhere made.now (λ place source. abbreviation_of place source body ty number)) }
 {
     let name = short_name(alloc, number)?;
     Ok(Decl {
@@ -84,8 +81,7 @@ fn declared(
 ) -> Result<Decl, Memory>
     requires below { AreBelow (length made.now) source.now.decls }
     requires listed { IsListed (length source.now.decls) (length made.now) (length made.now) entry }
-    ensures { IfOk result (λ d. (place : ℕ → ℕ) (target : List Tree) → AreMade place source.now.table target made.now
-        → IsMadeOf target (declaration_of place number (entry_in (declarations_of source.now) source.now.table entry)) d) }
+    ensures { IfOk result (IsMadeFrom source.now.table made.now (λ place. declaration_of place number (entry_of source.now entry))) }
 {
     match entry {
         Listed::Kept(i) => kept(alloc, source.decls.get(i), made),
@@ -105,13 +101,11 @@ fn declare_one(
     requires below { AreBelow (length made.now) source.now.decls }
     requires listed { IsListed (length source.now.decls) (length made.now) (length made.now) entry }
     requires held { IsHeld target.old }
-    requires follows { (place : ℕ → ℕ) × AreMade place source.now.table target.old.table made.now
-        × MayFollow (signature ++ declarations_of target.old) (declaration_of place number (entry_in (declarations_of source.now) source.now.table entry)) }
+    requires follows { MayBeMade source.now target.old made.now (λ place. declaration_of place number (entry_of source.now entry)) }
     ensures table { target.new.table ≡ target.old.table }
     ensures held { OnOk result (IsHeld target.new) }
-    ensures declared { OnOk result ((place : ℕ → ℕ) → AreMade place source.now.table target.old.table made.now
-        → declarations_of target.new ≡ declarations_of target.old ++ declaration_of place number
-        (entry_in (declarations_of source.now) source.now.table entry) ∷ []) }
+    ensures declared { OnOk result (AddsMade source.now target.old target.new made.now
+        (λ place. declaration_of place number (entry_of source.now entry) ∷ [])) }
 {
     let decl = declared(alloc, source, made, entry, number)?;
     target.push(decl)
@@ -140,12 +134,9 @@ pub(crate) fn declare(
     requires below { AreBelow (length made.now) source.now.decls }
     requires listed { AreListed (length source.now.decls) (length made.now) (length made.now) entries.now }
     requires held { IsHeld target.old }
-    requires follow { (place : ℕ → ℕ) × AreMade place source.now.table target.old.table made.now
-        × AreDeclared (signature ++ declarations_of target.old) (declarations place 0 (entries_in (declarations_of source.now) source.now.table entries.now)) }
+    requires follow { MayAllBeMade source.now target.old made.now (λ place. declarations place 0 (entries_from source.now entries.now)) }
     ensures held { OnOk result (IsHeld target.new) }
-    ensures declared { OnOk result ((place : ℕ → ℕ) → AreMade place source.now.table target.old.table made.now
-        → declarations_of target.new ≡ declarations_of target.old ++ declarations place 0
-        (entries_in (declarations_of source.now) source.now.table entries.now)) }
+    ensures declared { OnOk result (AddsMade source.now target.old target.new made.now (λ place. declarations place 0 (entries_from source.now entries.now))) }
 {
     let mut number = 0;
     for i in 0..entries.len() {

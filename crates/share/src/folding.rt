@@ -7,7 +7,7 @@ ghost use Rattle.lp_term.specs.Tables.{Keeps};
 ghost use Rattle.holide_sig.specs.Modules.{declarations_of, IsHeld};
 ghost use Rattle.share_spec.specs.Folded.{entries_of, folded};
 ghost use Rattle.share.specs.Counts.{AreBelow, AreCounted};
-ghost use Rattle.share.specs.Foldings.{HasBegun};
+ghost use Rattle.share.specs.Foldings.{HasBegun, AreEntries, AreKnownEntries};
 ghost use Rattle.share.specs.Listings.{entries_in, AreListed};
 
 use crate::declaring::declare;
@@ -25,14 +25,20 @@ use std::alloc::Global;
 // How many declarations of a module nothing is abbreviated in: the two lemmas.
 const LEMMAS: usize = 2;
 
-// What a fold works with: counts of places, what was met, what was listed, the places of declarations, and the numbers of what is made.
+// The places of declarations, and the numbers of what is made.
+#[derive(Drop)]
+struct Making {
+    places: Vec<usize>,
+    made: Vec<LpId>,
+}
+
+// What a fold works with: counts of places, what was met, what was listed, and what is made.
 #[derive(Drop)]
 struct Folding {
     counts: Vec<u8>,
     meeting: Meeting,
     listing: Listing,
-    places: Vec<usize>,
-    made: Vec<LpId>,
+    making: Making,
 }
 
 // So many counts of none.
@@ -81,12 +87,9 @@ fn list(source: &mut Module, folding: &mut Folding) -> Result<(), Memory>
     ensures keeps { Keeps source.old.table source.new.table }
     ensures below { OnOk result (AreBelow (length folding.new.counts.items) source.new.decls) }
     ensures within { OnOk result (length folding.new.counts.items ≤ length source.new.table) }
-    ensures known { OnOk result (AreListed (length source.new.decls) (length folding.new.counts.items)
-        (length source.new.table) folding.new.listing.entries.items) }
-    ensures listed { OnOk result (entries_in (declarations_of source.old) source.new.table folding.new.listing.entries.items ≡ entries_of
-        (declarations_of source.old)) }
-    ensures places { folding.new.places ≡ folding.old.places }
-    ensures made { folding.new.made ≡ folding.old.made }
+    ensures known { OnOk result (AreKnownEntries source.new folding.new) }
+    ensures listed { OnOk result (AreEntries source.old source.new folding.new) }
+    ensures making { folding.new.making ≡ folding.old.making }
 {
     let first = source.decls.len().min(LEMMAS);
     count(source, first, &mut folding.counts)?;
@@ -107,8 +110,7 @@ fn make(
     source: &Module,
     top: usize,
     entries: &[Listed],
-    places: &mut Vec<usize>,
-    made: &mut Vec<LpId>,
+    making: &mut Making,
     target: &mut Module,
 ) -> Result<(), Memory>
     requires held { IsHeld source.now }
@@ -119,18 +121,25 @@ fn make(
     requires within { top ≤ length source.now.table }
     requires known { AreListed (length source.now.decls) top (length source.now.table) entries.now }
     requires listed { entries_in (declarations_of source.now) source.now.table entries.now ≡ entries_of (declarations_of source.now) }
-    requires places { places.old.items ≡ [] }
-    requires made { made.old.items ≡ [] }
+    requires places { making.old.places.items ≡ [] }
+    requires made { making.old.made.items ≡ [] }
     requires empty { target.old.decls ≡ [] }
     requires target { IsHeld target.old }
     ensures held { OnOk result (IsHeld target.new) }
     ensures folded { OnOk result (declarations_of target.new ≡ folded (declarations_of source.now)) }
 {
-    kept_places(entries, places)?;
+    kept_places(entries, &mut making.places)?;
     let count = above_types(&source.table, entries, top);
     let more = entries.len() - source.decls.len();
-    make_moved(&source.table, count, places, more, &mut target.table, made)?;
-    declare(alloc, source, made, entries, target)
+    make_moved(
+        &source.table,
+        count,
+        &making.places,
+        more,
+        &mut target.table,
+        &mut making.made,
+    )?;
+    declare(alloc, source, &making.made, entries, target)
 }
 
 // The module of what the entries of a module are.
@@ -143,8 +152,8 @@ fn made_of(alloc: Global, source: &Module, folding: &mut Folding) -> Result<Modu
     requires within { length folding.old.counts.items ≤ length source.now.table }
     requires known { AreListed (length source.now.decls) (length folding.old.counts.items) (length source.now.table) folding.old.listing.entries.items }
     requires listed { entries_in (declarations_of source.now) source.now.table folding.old.listing.entries.items ≡ entries_of (declarations_of source.now) }
-    requires places { folding.old.places.items ≡ [] }
-    requires made { folding.old.made.items ≡ [] }
+    requires places { folding.old.making.places.items ≡ [] }
+    requires made { folding.old.making.made.items ≡ [] }
     ensures held { IfOk result IsHeld }
     ensures folded { IfOk result (λ m. declarations_of m ≡ folded (declarations_of source.now)) }
 {
@@ -155,8 +164,7 @@ fn made_of(alloc: Global, source: &Module, folding: &mut Folding) -> Result<Modu
         source,
         count,
         &folding.listing.entries,
-        &mut folding.places,
-        &mut folding.made,
+        &mut folding.making,
         &mut target,
     )?;
     Ok(target)
@@ -198,8 +206,10 @@ pub fn fold(alloc: Global, module: Module) -> Result<Module, Memory>
             waiting: Stack::new(alloc),
             entries: Vec::new(alloc),
         },
-        places: Vec::new(alloc),
-        made: Vec::new(alloc),
+        making: Making {
+            places: Vec::new(alloc),
+            made: Vec::new(alloc),
+        },
     };
     let made = fold_by(alloc, &mut source, &mut folding);
     drop(folding);

@@ -1,18 +1,16 @@
 //! The entries of a folded module, by numbers: its declarations, and before each the abbreviations of what is shared and first occurs in it.
-ghost use Rattle.std.specs.Prelude.{◌≡◌, ℕ, ◌<◌, ◌≤◌, ◌++◌, ◌∷◌, [], nat_eq, List, length, map, take, drop, slice_get, Some, OnOk};
+ghost use Rattle.std.specs.Prelude.{◌≡◌, ℕ, ◌<◌, ◌≤◌, ◌∷◌, [], nat_eq, List, length, map, take, drop, Some, OnOk};
 ghost use Rattle.indexmap.specs.IndexMap.{get};
 ghost use Rattle.lp_spec.specs.Trees.{Tree};
 ghost use Rattle.lp_spec.specs.Modules.{Declaration};
 ghost use Rattle.lp_spec.specs.ModuleOrder.{IsModule};
 ghost use Rattle.lp_term.specs.Tables.{tree_at, trees_at, Keeps};
 ghost use Rattle.holide_sig.specs.Modules.{declaration_in, declarations_of};
-ghost use Rattle.share_spec.specs.Abbreviations.{abbreviation as abbreviation_of};
-ghost use Rattle.share_spec.specs.Folded.{firsts, kept, parts_in};
-ghost use Rattle.share_laws.specs.FirstsByNodes.{Alike, IsClosed};
-ghost use Rattle.share.specs.Counts.{Agrees, AreBelow, IsBelow};
+ghost use Rattle.share_spec.specs.Folded.{kept};
+ghost use Rattle.share.specs.Counts.{AreBelow, IsBelow};
 ghost use Rattle.share.specs.Asking.{IsAsking};
-ghost use Rattle.share.specs.Meetings.{visited_in, AreIdsBelow, IsMeeting};
-ghost use Rattle.share.specs.Listings.{counted, entries_in, listed_from, shared_in, AddsOne, AreListed, IsListing, ListsMore};
+ghost use Rattle.share.specs.Meetings.{visited_in, met_in, AreIdsBelow, IsMeeting};
+ghost use Rattle.share.specs.Listings.{entries_in, listed_from, shared_in, AreListed, IsListing, AddsAbbreviation, ListsCounted, ListsDeclaration, MeetsDeclaration};
 
 use crate::abbreviation::abbreviation;
 use crate::order::{Meeting, visit};
@@ -44,8 +42,7 @@ fn list_abbreviation(source: &mut Module, id: LpId, listing: &mut Listing) -> Re
     ensures decls { source.new.decls ≡ source.old.decls }
     ensures keeps { Keeps source.old.table source.new.table }
     ensures asking { OnOk result (IsAsking source.new (get nat_eq listing.new.answers) listing.new.waiting) }
-    ensures adds { OnOk result (AddsOne source.new.table listing.old.entries.items listing.new.entries.items id
-        (abbreviation_of (declarations_of source.old) (tree_at source.old.table id.0))) }
+    ensures adds { OnOk result (AddsAbbreviation source.old source.new listing.old listing.new id) }
 {
     let ty = abbreviation(source, &mut listing.answers, &mut listing.waiting, id)?;
     match ty {
@@ -69,9 +66,8 @@ fn list_shared(
     ensures decls { source.new.decls ≡ source.old.decls }
     ensures keeps { Keeps source.old.table source.new.table }
     ensures listing { OnOk result (IsListing source.new (length counts.now) listing.new) }
-    ensures more { OnOk result ((all : List Tree) → Agrees source.old.table counts.now (counted all)
-        → ListsMore source.old source.new listing.old.entries.items listing.new.entries.items
-        (shared_in (declarations_of source.old) all (tree_at source.old.table id.0 ∷ []))) }
+    ensures more { OnOk result (ListsCounted source.old source.new counts.now listing.old listing.new
+        (λ m all. shared_in m all (tree_at source.old.table id.0 ∷ []))) }
 {
     if is_twice(counts, id) {
         list_abbreviation(source, id, listing)
@@ -94,9 +90,8 @@ fn list_new(
     ensures decls { source.new.decls ≡ source.old.decls }
     ensures keeps { Keeps source.old.table source.new.table }
     ensures listing { OnOk result (IsListing source.new (length counts.now) listing.new) }
-    ensures more { OnOk result ((all : List Tree) → Agrees source.old.table counts.now (counted all)
-        → ListsMore source.old source.new listing.old.entries.items listing.new.entries.items
-        (shared_in (declarations_of source.old) all (trees_at source.old.table (drop from order.now)))) }
+    ensures more { OnOk result (ListsCounted source.old source.new counts.now listing.old listing.new
+        (λ m all. shared_in m all (trees_at source.old.table (drop from order.now)))) }
 {
     for i in from..order.len() {
         list_shared(source, counts, order[i], listing)?;
@@ -109,8 +104,7 @@ fn visit_declaration(table: &LpTable, decl: &Decl, meeting: &mut Meeting) -> Res
     requires meeting { IsMeeting table.now meeting.old.met.items meeting.old.order.items }
     requires known { IsBelow (length meeting.old.met.items) decl.now }
     requires begun { meeting.old.turns ≡ [] }
-    ensures order { OnOk result (trees_at table.now meeting.new.order.items ≡ visited_in (trees_at table.now meeting.old.order.items)
-        (declaration_in table.now decl.now)) }
+    ensures order { OnOk result (met_in table.now meeting.new ≡ visited_in (met_in table.now meeting.old) (declaration_in table.now decl.now)) }
     ensures meeting { OnOk result (IsMeeting table.now meeting.new.met.items meeting.new.order.items) }
     ensures length { OnOk result (length meeting.new.met.items ≡ length meeting.old.met.items) }
     ensures ended { OnOk result (meeting.new.turns ≡ []) }
@@ -142,12 +136,8 @@ fn list_declaration(
     ensures meeting { OnOk result (IsMeeting source.new.table meeting.new.met.items meeting.new.order.items) }
     ensures length { OnOk result (length meeting.new.met.items ≡ length counts.now) }
     ensures ended { OnOk result (meeting.new.turns ≡ []) }
-    ensures more { OnOk result ((all met : List Tree) (d : Declaration) → Agrees source.old.table counts.now (counted all)
-        → Alike (trees_at source.old.table meeting.old.order.items) met → IsClosed met → slice_get (declarations_of source.old) number ≡ Some d
-        → ListsMore source.old source.new listing.old.entries.items listing.new.entries.items
-        (shared_in (declarations_of source.old) all (firsts met (parts_in d)) ++ kept d ∷ [])) }
-    ensures met { OnOk result ((met : List Tree) (d : Declaration) → Alike (trees_at source.old.table meeting.old.order.items) met → IsClosed met
-        → slice_get (declarations_of source.old) number ≡ Some d → Alike (trees_at source.new.table meeting.new.order.items) (met ++ parts_in d)) }
+    ensures more { OnOk result (ListsDeclaration source.old source.new number counts.now meeting.old listing.old listing.new) }
+    ensures met { OnOk result (MeetsDeclaration source.old source.new number meeting.old meeting.new) }
 {
     let from = meeting.order.len();
     visit_declaration(&source.table, source.decls.get(number), meeting)?;
@@ -174,8 +164,8 @@ pub(crate) fn list_rest(
     ensures decls { source.new.decls ≡ source.old.decls }
     ensures keeps { Keeps source.old.table source.new.table }
     ensures listing { OnOk result (IsListing source.new (length counts.now) listing.new) }
-    ensures listed { OnOk result (IsModule (declarations_of source.old) → (all : List Tree) → Agrees source.old.table counts.now (counted all)
-        → ListsMore source.old source.new listing.old.entries.items listing.new.entries.items (listed_from (declarations_of source.old) all first)) }
+    ensures listed { OnOk result (IsModule (declarations_of source.old)
+        → ListsCounted source.old source.new counts.now listing.old listing.new (λ m all. listed_from m all first)) }
 {
     for i in first..source.decls.len() {
         list_declaration(source, counts, i, meeting, listing)?;

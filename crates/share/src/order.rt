@@ -4,7 +4,7 @@ ghost use Rattle.lp_spec.specs.Trees.{size, Tree};
 ghost use Rattle.lp_term.specs.Tables.{tree_at, trees_at};
 ghost use Rattle.share_laws.specs.FirstsByNodes.{visit as visited};
 ghost use Rattle.share.specs.declared.order.Turn.TheVariants as turn;
-ghost use Rattle.share.specs.Meetings.{entered, unwound, work, AreTurnsBelow, IsMeeting};
+ghost use Rattle.share.specs.Meetings.{entered, unwound, work, met_after, AreTurnsBelow, IsMeeting};
 
 use crate::nodes::two_parts;
 use common::{Memory, Stack};
@@ -46,8 +46,7 @@ pub(crate) fn visit(table: &LpTable, id: LpId, meeting: &mut Meeting) -> Result<
 fn take(table: &LpTable, turn: Turn, meeting: &mut Meeting) -> Result<(), Memory>
     requires meeting { IsMeeting table.now meeting.old.met.items meeting.old.order.items }
     requires below { AreTurnsBelow (length meeting.old.met.items) (turn ∷ meeting.old.turns) }
-    ensures order { OnOk result (unwound table.now meeting.new.turns (trees_at table.now meeting.new.order.items) ≡ unwound table.now
-        (turn ∷ meeting.old.turns) (trees_at table.now meeting.old.order.items)) }
+    ensures order { OnOk result (met_after table.now meeting.new.turns meeting.new ≡ met_after table.now (turn ∷ meeting.old.turns) meeting.old) }
     ensures meeting { OnOk result (IsMeeting table.now meeting.new.met.items meeting.new.order.items) }
     ensures below { OnOk result (AreTurnsBelow (length meeting.new.met.items) meeting.new.turns) }
     ensures length { OnOk result (length meeting.new.met.items ≡ length meeting.old.met.items) }

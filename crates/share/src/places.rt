@@ -1,11 +1,11 @@
 //! At how many places each tree of a module stands: none, one, or more.
-ghost use Rattle.std.specs.Prelude.{◌≡◌, ℕ, ◌<◌, ◌≤◌, ◌+◌, List, length, min, max, drop, replicate, get_or, nat_le, set};
+ghost use Rattle.std.specs.Prelude.{◌≡◌, ◌<◌, ◌≤◌, ◌+◌, List, length, min, max, drop, replicate, get_or, nat_le, set};
 ghost use Rattle.lp_spec.specs.Trees.{Tree};
 ghost use Rattle.lp_term.specs.Tables.{tree_at, IsDistinct};
 ghost use Rattle.holide_sig.specs.Modules.{IsHeld, IsKnown};
 ghost use Rattle.share_laws.specs.NumberedTrees.{down};
 ghost use Rattle.share_laws.specs.PlacesByNodes.{direct, handed, passed};
-ghost use Rattle.share.specs.Counts.{Agrees, AreBelow, AreCounted, AreLower, IsBelow, IsLower, IsMore};
+ghost use Rattle.share.specs.Counts.{AreBelow, AreCounted, AreLower, IsBelow, IsLower, IsMore, Hands};
 
 use crate::nodes::two_parts;
 use holide_sig::{Decl, Module};
@@ -83,8 +83,7 @@ fn hand_down(table: &LpTable, counts: &mut [u8])
     requires { length counts.old ≤ length table.now }
     ensures length { length counts.new ≡ length counts.old }
     ensures lower { AreLower table.now (length counts.old) }
-    ensures handed { IsDistinct table.now → (c : Tree → ℕ) → Agrees table.now counts.old c
-        → Agrees table.now counts.new (passed (down table.now (length counts.old)) c) }
+    ensures handed { Hands table.now counts.old counts.new (passed (down table.now (length counts.old))) }
 {
     let mut left = counts.len();
     while left > 0 {
@@ -99,8 +98,8 @@ fn hand_parts(table: &LpTable, id: LpId, counts: &mut [u8])
     requires within { length counts.old ≤ length table.now }
     ensures length { length counts.new ≡ length counts.old }
     ensures lower { IsLower table.now id.0 }
-    ensures handed { IsDistinct table.now → (c : Tree → ℕ) → Agrees table.now counts.old c
-        → Agrees table.now counts.new (handed (direct (tree_at table.now id.0)) (c (tree_at table.now id.0)) c) }
+    ensures handed { Hands table.now counts.old counts.new
+        (λ c. handed (direct (tree_at table.now id.0)) (c (tree_at table.now id.0)) c) }
 {
     if let Some((first, second)) = two_parts(table.view(id)) {
         let count = counts[id.0];

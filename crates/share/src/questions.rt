@@ -1,13 +1,12 @@
 //! Questions for types, asked one after another, each once. Those that wait for others stand on a stack.
-ghost use Rattle.std.specs.Prelude.{◌≡◌, ℕ, ◌<◌, [], ◌∷◌, List, length, nat_eq, if◌then◌else◌, Some, IfOk, OnOk};
+ghost use Rattle.std.specs.Prelude.{◌≡◌, ℕ, ◌<◌, [], ◌∷◌, length, nat_eq, if◌then◌else◌, Some, IfOk, OnOk};
 ghost use Rattle.indexmap.specs.IndexMap.{get};
-ghost use Rattle.lp_spec.specs.Trees.{Sym, Tree};
-ghost use Rattle.lp_spec.specs.Modules.{Declaration};
+ghost use Rattle.lp_spec.specs.Trees.{Sym};
 ghost use Rattle.lp_term.specs.Tables.{tree_at, Keeps};
 ghost use Rattle.holide_sig.specs.Modules.{declarations_of, IsHeld};
 ghost use Rattle.share_spec.specs.Abbreviations.{constant_type, is_solid as solid};
-ghost use Rattle.share.specs.Typings.{answer, AreAnswers, AreQuestions, IsQuestion, Tells, Turns};
-ghost use Rattle.share.specs.Asking.{IsAsking};
+ghost use Rattle.share.specs.Typings.{answer, AreAnswers, IsQuestion, Tells, AreAskedAgain};
+ghost use Rattle.share.specs.Asking.{IsAsking, TurnsTo};
 
 use crate::typing::{Answers, Turn, constant_call, term_turn};
 use common::{Memory, Stack};
@@ -56,8 +55,7 @@ fn turn(source: &mut Module, answers: &Answers, question: LpId) -> Result<Turn, 
     requires question { IsQuestion (declarations_of source.old) source.old.table question }
     ensures decls { source.new.decls ≡ source.old.decls }
     ensures keeps { Keeps source.old.table source.new.table }
-    ensures turn { IfOk result (λ turn. Turns (declarations_of source.old) source.new.table turn
-        (answer (declarations_of source.old) (tree_at source.old.table question.0))) }
+    ensures turn { IfOk result (TurnsTo source.old source.new question) }
 {
     match source.table.view(question) {
         LpNode::Pi(context, tree) => term_turn(&mut source.table, answers, context, tree),
@@ -73,8 +71,7 @@ fn turn(source: &mut Module, answers: &Answers, question: LpId) -> Result<Turn, 
 
 // The question on top of those that wait, or else this one.
 fn next(waiting: &mut Stack<LpId>, question: LpId) -> LpId
-    ensures { (m : List Declaration) (trees : List Tree) → IsQuestion m trees question → AreQuestions m trees waiting.old
-        → IsQuestion m trees result × AreQuestions m trees waiting.new }
+    ensures { AreAskedAgain question waiting.old result waiting.new }
 {
     match waiting.pop() {
         Some(top) => top,

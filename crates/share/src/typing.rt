@@ -4,9 +4,8 @@ ghost use Rattle.indexmap.specs.IndexMap.{get};
 ghost use Rattle.lp_spec.specs.Trees.{tree_eq, App, Lam, Sym};
 ghost use Rattle.lp_spec.specs.Modules.{arr_of as arr_tree, types, Declaration};
 ghost use Rattle.lp_term.specs.Tables.{tree_at, Holds, Keeps};
-ghost use Rattle.holide_sig.specs.Modules.{declarations_of, IsHeld};
 ghost use Rattle.share_spec.specs.Abbreviations.{at_a_type as type_left, constant_type, is_simple, simple_part as part_of_type, term_type, type_of_terms, value_type as type_of_values};
-ghost use Rattle.share.specs.Typings.{constant_part as part_of_constant, context as context_of, entry as entry_of, is_application, is_from_type, under_type, value_of, values_of, AreAnswers, IsAsked, IsContext, IsSameFor, Tells, Turns};
+ghost use Rattle.share.specs.Typings.{constant_part as part_of_constant, context as context_of, entry as entry_of, is_application, is_from_type, value_of, values_of, AreAnswers, IsAsked, IsContext, Tells, Turns, CanTurnUnder, IsSameContext, TellsNoted, TurnsBy, TurnsIn, TurnsUnder};
 
 use common::{Memory, Stack};
 use holide_sig::symbols::{ARR, TERM, TYPE};
@@ -65,8 +64,7 @@ fn terms_of(table: &LpTable, id: LpId) -> Option<LpId>
 fn constant(table: &LpTable, answers: &Answers, id: LpId) -> Option<Option<LpId>>
     requires known { id.0 < length table.now }
     requires answers { (m : List Declaration) × AreAnswers m table.now (get nat_eq answers.now) }
-    ensures told { (m : List Declaration) → AreAnswers m table.now (get nat_eq answers.now)
-        → IfSome result (λ r. Tells table.now r (constant_type m [] (tree_at table.now id.0))) }
+    ensures told { TellsNoted table.now (get nat_eq answers.now) id result }
     ensures asked { IfNone result ((m : List Declaration) → IsAsked m (tree_at table.now id.0)) }
 {
     match table.view(id) {
@@ -145,8 +143,8 @@ pub(crate) fn constant_call(
     requires argument { argument.0 < length table.old }
     requires answers { (m : List Declaration) × AreAnswers m table.old (get nat_eq answers.now) }
     ensures keeps { Keeps table.old table.new }
-    ensures turn { IfOk result (λ turn. (m : List Declaration) → AreAnswers m table.old (get nat_eq answers.now)
-        → Turns m table.new turn (constant_type m [] (App (tree_at table.old function.0) (tree_at table.old argument.0)))) }
+    ensures turn { IfOk result (TurnsBy table.old table.new (get nat_eq answers.now)
+        (λ m. constant_type m [] (App (tree_at table.old function.0) (tree_at table.old argument.0)))) }
 {
     match simple(table, answers, argument) {
         None => Ok(Turn::Needs(argument)),
@@ -185,8 +183,7 @@ fn context_for(table: &mut LpTable, context: LpId, tree: LpId) -> Result<LpId, M
     requires tree { tree.0 < length table.old }
     ensures keeps { Keeps table.old table.new }
     ensures known { IfOk result (λ c. c.0 < length table.new) }
-    ensures same { IfOk result (λ c. (m : List Declaration) → IsContext m (tree_at table.old context.0)
-        → IsSameFor m (tree_at table.old context.0) (tree_at table.old tree.0) (tree_at table.new c.0)) }
+    ensures same { IfOk result (IsSameContext table.old table.new context tree) }
 {
     if table.is_closed_under(tree, 0) {
         table.node(LpNode::SortType)
@@ -201,8 +198,7 @@ fn term(table: &mut LpTable, answers: &Answers, context: LpId, tree: LpId) -> Re
     requires tree { tree.0 < length table.old }
     requires answers { (m : List Declaration) × IsContext m (tree_at table.old context.0) × AreAnswers m table.old (get nat_eq answers.now) }
     ensures keeps { Keeps table.old table.new }
-    ensures turn { IfOk result (λ turn. (m : List Declaration) → IsContext m (tree_at table.old context.0) → AreAnswers m table.old (get nat_eq answers.now)
-        → Turns m table.new turn (term_type m (context_of (tree_at table.old context.0)) (tree_at table.old tree.0))) }
+    ensures turn { IfOk result (TurnsIn table.old table.new (get nat_eq answers.now) context (λ m c. term_type m (context_of c) (tree_at table.old tree.0))) }
 {
     let around = context_for(table, context, tree)?;
     let question = table.node(LpNode::Pi(around, tree))?;
@@ -274,8 +270,8 @@ fn value_call(
     requires argument { argument.0 < length table.old }
     requires answers { (m : List Declaration) × IsContext m (tree_at table.old context.0) × AreAnswers m table.old (get nat_eq answers.now) }
     ensures keeps { Keeps table.old table.new }
-    ensures turn { IfOk result (λ turn. (m : List Declaration) → IsContext m (tree_at table.old context.0) → AreAnswers m table.old (get nat_eq answers.now)
-        → Turns m table.new turn (value_of m (tree_at table.old context.0) (tree_at table.old functions.0) (tree_at table.old argument.0))) }
+    ensures turn { IfOk result (TurnsIn table.old table.new (get nat_eq answers.now) context
+        (λ m c. value_of m c (tree_at table.old functions.0) (tree_at table.old argument.0))) }
 {
     match term(table, answers, context, argument)? {
         Turn::Known(Some(ty)) => Ok(Turn::Known(value_type(table, functions, ty))),
@@ -297,8 +293,8 @@ fn function_call(
     requires argument { argument.0 < length table.old }
     requires answers { (m : List Declaration) × IsContext m (tree_at table.old context.0) × AreAnswers m table.old (get nat_eq answers.now) }
     ensures keeps { Keeps table.old table.new }
-    ensures turn { IfOk result (λ turn. (m : List Declaration) → IsContext m (tree_at table.old context.0) → AreAnswers m table.old (get nat_eq answers.now)
-        → Turns m table.new turn (values_of m (tree_at table.old context.0) (tree_at table.old function.0) (tree_at table.old argument.0))) }
+    ensures turn { IfOk result (TurnsIn table.old table.new (get nat_eq answers.now) context
+        (λ m c. values_of m c (tree_at table.old function.0) (tree_at table.old argument.0))) }
 {
     match term(table, answers, context, function)? {
         Turn::Known(Some(functions)) => value_call(table, answers, context, functions, argument),
@@ -322,8 +318,7 @@ fn term_call(
     requires argument { argument.0 < length table.old }
     requires answers { (m : List Declaration) × IsContext m (tree_at table.old context.0) × AreAnswers m table.old (get nat_eq answers.now) }
     ensures keeps { Keeps table.old table.new }
-    ensures turn { IfOk result (λ turn. (m : List Declaration) → IsContext m (tree_at table.old context.0) → AreAnswers m table.old (get nat_eq answers.now)
-        → Turns m table.new turn (term_type m (context_of (tree_at table.old context.0)) (tree_at table.old tree.0))) }
+    ensures turn { IfOk result (TurnsIn table.old table.new (get nat_eq answers.now) context (λ m c. term_type m (context_of c) (tree_at table.old tree.0))) }
 {
     match constant_part(table, answers, tree) {
         Turn::Known(Some(ty)) => Ok(Turn::Known(Some(ty))),
@@ -343,12 +338,9 @@ fn under(
     requires context { context.0 < length table.old }
     requires ty { ty.0 < length table.old }
     requires body { body.0 < length table.old }
-    requires answers { (m : List Declaration) × (is_simple m [] (tree_at table.old ty.0) ≡ true) × IsContext m (tree_at table.old context.0)
-        × AreAnswers m table.old (get nat_eq answers.now) }
+    requires answers { CanTurnUnder table.old (get nat_eq answers.now) ty context }
     ensures keeps { Keeps table.old table.new }
-    ensures turn { IfOk result (λ turn. (m : List Declaration) → is_simple m [] (tree_at table.old ty.0) ≡ true → IsContext m (tree_at table.old context.0)
-        → AreAnswers m table.old (get nat_eq answers.now)
-        → Turns m table.new turn (under_type m (tree_at table.old ty.0) (tree_at table.old context.0) (tree_at table.old body.0))) }
+    ensures turn { IfOk result (TurnsUnder table.old table.new (get nat_eq answers.now) ty context body) }
 {
     let inner = table.node(LpNode::Pi(ty, context))?;
     match term(table, answers, inner, body)? {
@@ -374,8 +366,8 @@ fn abstraction(
     requires body { body.0 < length table.old }
     requires answers { (m : List Declaration) × IsContext m (tree_at table.old context.0) × AreAnswers m table.old (get nat_eq answers.now) }
     ensures keeps { Keeps table.old table.new }
-    ensures turn { IfOk result (λ turn. (m : List Declaration) → IsContext m (tree_at table.old context.0) → AreAnswers m table.old (get nat_eq answers.now)
-        → Turns m table.new turn (term_type m (context_of (tree_at table.old context.0)) (Lam (tree_at table.old domain.0) (tree_at table.old body.0)))) }
+    ensures turn { IfOk result (TurnsIn table.old table.new (get nat_eq answers.now) context
+        (λ m c. term_type m (context_of c) (Lam (tree_at table.old domain.0) (tree_at table.old body.0)))) }
 {
     match simple_part(table, answers, domain) {
         Turn::Known(Some(ty)) => under(table, answers, context, ty, body),
@@ -395,8 +387,7 @@ pub(crate) fn term_turn(
     requires tree { tree.0 < length table.old }
     requires answers { (m : List Declaration) × IsContext m (tree_at table.old context.0) × AreAnswers m table.old (get nat_eq answers.now) }
     ensures keeps { Keeps table.old table.new }
-    ensures turn { IfOk result (λ turn. (m : List Declaration) → IsContext m (tree_at table.old context.0) → AreAnswers m table.old (get nat_eq answers.now)
-        → Turns m table.new turn (term_type m (context_of (tree_at table.old context.0)) (tree_at table.old tree.0))) }
+    ensures turn { IfOk result (TurnsIn table.old table.new (get nat_eq answers.now) context (λ m c. term_type m (context_of c) (tree_at table.old tree.0))) }
 {
     match table.view(tree) {
         LpNode::Var(variable) => Ok(Turn::Known(entry(table, context, variable))),

@@ -1,11 +1,9 @@
-use Rattle.std.proofs.Common.{◌∙◌, ap, ap₂, sym, subst, refl}
-use Rattle.hol_type.specs.Tables as type
-use Rattle.hol_term.specs.Substitutions.{term_pairs_at}
+use Rattle.std.proofs.Common.{◌∙◌, ap, sym, subst, refl}
 use Rattle.hol_defs.specs.Lists.{pairs_at}
 use Rattle.hol_rules.specs.Views.{parameters_view, AreParametersKnown}
 use Rattle.writing_spec.specs.Drafts.{say_name, write_list}
 use Rattle.writing_spec.specs.WrittenSteps.{write_given}
-use Rattle.article_steps.specs.Given.{AreClosed, substitution_writer, constant_pair_writer}
+use Rattle.article_steps.specs.Given.{put_writer, constant_pair_writer, AreClosed}
 use Rattle.article_steps.proofs.AddsLaws.{adds-nothing}
 use Rattle.article_steps.proofs.EachLaws.{adds-same}
 use Rattle.article_steps.proofs.given.write_given.Goals as goal
@@ -21,10 +19,8 @@ returns-in-Variable g c = adds-same c.args.terms.now _ _ _ _ _ _ _ _ _ _ (λ d. 
 
 pub returns-in-Subst : goal.returns-in-Subst
 returns-in-Subst g c =
-    let types = rw c.get-put.ensures at c.deref.ensures.value in
-    let terms = rw c.get-put.ensures at c.deref-in-Subst.ensures.value in
-    adds-same c.args.terms.now (substitution_writer c.args.number (type.pairs_at c.args.terms.now.types c.deref.result.now) (term_pairs_at c.args.terms.now c.deref-in-Subst.result.now)) _ _ _ _ _ _ _ _ _
-    (λ d. ap₂ (λ ts us. substitution_writer c.args.number (type.pairs_at c.args.terms.now.types ts) (term_pairs_at c.args.terms.now us) d) types terms ∙ ap (λ x. write_given c.args.number (parameters_view c.args.terms.now x) d) (sym c.in-Subst.is)) c.write_substitution.ensures
+    adds-same c.args.terms.now (put_writer c.args.terms.now c.args.number c.get.result.now) _ _ _ _ _ _ _ _ _
+    (λ d. ap (λ p. put_writer c.args.terms.now c.args.number p d) c.get.ensures ∙ ap (λ x. write_given c.args.number (parameters_view c.args.terms.now x) d) (sym c.in-Subst.is)) c.write_substitution.ensures
 
 pub returns-in-Sequent : goal.returns-in-Sequent
 returns-in-Sequent g c = adds-same c.args.terms.now _ _ _ _ _ _ _ _ _ _ (λ d. ap (λ x. write_given c.args.number (parameters_view c.args.terms.now x) d) (sym c.in-Sequent.is)) c.write_sequent.ensures
@@ -34,8 +30,8 @@ returns-in-Const g c = adds-same c.args.terms.now _ _ _ _ _ _ _ _ _ _ (λ d. ap 
 
 pub returns-in-List : goal.returns-in-List
 returns-in-List g c =
-    adds-same c.args.terms.now (write_list constant_pair_writer (pairs_at c.args.terms.now c.deref-in-List.result.now)) _ _ _ _ _ _ _ _ _
-    (λ d. ap (λ ps. write_list constant_pair_writer (pairs_at c.args.terms.now ps) d) c.deref-in-List.ensures.value ∙ ap (λ x. write_given c.args.number (parameters_view c.args.terms.now x) d) (sym c.in-List.is)) c.write_constant_pairs.ensures
+    adds-same c.args.terms.now (write_list constant_pair_writer (pairs_at c.args.terms.now c.deref.result.now)) _ _ _ _ _ _ _ _ _
+    (λ d. ap (λ ps. write_list constant_pair_writer (pairs_at c.args.terms.now ps) d) c.deref.ensures.value ∙ ap (λ x. write_given c.args.number (parameters_view c.args.terms.now x) d) (sym c.in-List.is)) c.write_constant_pairs.ensures
 
 pub returns-in-TypeOp : goal.returns-in-TypeOp
 returns-in-TypeOp g c =
@@ -64,13 +60,10 @@ pub write_constant-requires-clause-closed : goal.write_constant-requires-clause-
 write_constant-requires-clause-closed g c = (subst (λ x. AreClosed (parameters_view c.args.terms.now x)) c.in-Const.is c.requires.closed)
 
 pub write_constant_pairs-requires-clause-known : goal.write_constant_pairs-requires-clause-known
-write_constant_pairs-requires-clause-known g c = rw c.deref-in-List.ensures.value (subst (AreParametersKnown c.args.terms.now) c.in-List.is c.requires.known)
+write_constant_pairs-requires-clause-known g c = rw c.deref.ensures.value (subst (AreParametersKnown c.args.terms.now) c.in-List.is c.requires.known)
 
 pub write_substitution-requires-clause-closed : goal.write_substitution-requires-clause-closed
-write_substitution-requires-clause-closed g c = rw (c.deref-in-Subst.ensures.value, c.get-put.ensures) (subst (λ x. AreClosed (parameters_view c.args.terms.now x)) c.in-Subst.is c.requires.closed)
+write_substitution-requires-clause-closed g c = rw c.get.ensures (subst (λ x. AreClosed (parameters_view c.args.terms.now x)) c.in-Subst.is c.requires.closed)
 
-pub write_substitution-requires-clause-types : goal.write_substitution-requires-clause-types
-write_substitution-requires-clause-types g c = let known = subst (AreParametersKnown c.args.terms.now) c.in-Subst.is c.requires.known in rw (c.deref.ensures.value, c.get-put.ensures) known.known_types
-
-pub write_substitution-requires-clause-terms : goal.write_substitution-requires-clause-terms
-write_substitution-requires-clause-terms g c = let known = subst (AreParametersKnown c.args.terms.now) c.in-Subst.is c.requires.known in rw (c.deref-in-Subst.ensures.value, c.get-put.ensures) known.known_terms
+pub write_substitution-requires-clause-known : goal.write_substitution-requires-clause-known
+write_substitution-requires-clause-known g c = rw c.get.ensures (subst (AreParametersKnown c.args.terms.now) c.in-Subst.is c.requires.known)

@@ -2,7 +2,8 @@ use Rattle.std.proofs.Common.{◌≡◌, ◌++◌, sym, ap, ap₂, subst, ◌∙
 use Rattle.std.proofs.lemmas.Result.{on_ok_weaker}
 use Rattle.hol_rules.specs.Views.{step_at, parameters_view}
 use Rattle.sequent.specs.Sequents as numbers
-use Rattle.article_reach.specs.EarlierSteps.{premises-earlier, step-sequent}
+use Rattle.article_lines.specs.EarlierPremises.{premises-earlier}
+use Rattle.article_reach.proofs.StepSequents.{step-sequent}
 use Rattle.article_reach.specs.Found.{given_found, sequent_found, steps_found, step_found}
 use Rattle.article_reach.specs.Looked.{AreSteps, WalksOn}
 use Rattle.article_reach.proofs.Wanted.{trans-WalksOn}
@@ -10,7 +11,7 @@ use Rattle.article_reach.proofs.walk.Walk.want_step.Goals as goal
 
 pub want_steps-requires-clause-ids : goal.want_steps-requires-clause-ids
 want_steps-requires-clause-ids c =
-    let p = c.args.proof.now in subst (AreSteps p) (sym c.premises.ensures) (premises-earlier p c.is_proof.ensures c.args.id c.requires.id)
+    let p = c.args.proof.now in subst (AreSteps p) (sym c.premises.ensures) (premises-earlier p.made c.args.id _ c.is_proof.ensures c.requires.id)
 
 pub returns : goal.returns
 returns c = on_ok_weaker c.want_sequent.result

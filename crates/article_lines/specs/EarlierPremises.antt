@@ -1,15 +1,18 @@
 -- The premises of a proof's steps are steps of the proof.
 use Rattle.std.proofs.Common.{◌≡◌, ℕ, ◌<◌, ◌≤◌, List, [], ◌∷◌, ◌++◌, length, sym, ap, subst, ◌∙◌, arith}
+use Rattle.std.specs.Prelude.{slice_index_or}
 use Rattle.std.specs.List.{AllByRecursion}
+use Rattle.std.proofs.ByRecursion.{All-get_or}
 use Rattle.std.proofs.lemmas.List.{length-append}
-use Rattle.std.proofs.lemmas.Option.{slice_get-get_or}
 use Rattle.hol_laws.specs.Members.{All-append, All-weaker}
 use Rattle.hol_spec.specs.Proofs.{Made, Step, steps_of, IsProof}
 use Rattle.hol_spec.specs.Proofs as made
-use Rattle.proof_laws.specs.ProofGrowth.{steps_of-append, All-get}
-use Rattle.hol_rules.specs.Views.{step_in}
+use Rattle.proof_laws.specs.ProofGrowth.{steps_of-append}
 use Rattle.writing_laws.specs.Prefixes.{premises-below}
-use Rattle.article_count.specs.StepCounts.{ArePremisesBelow}
+
+-- the premises are among so many steps
+abbrev pub ArePremisesBelow : ℕ → Step → Type 0
+ArePremisesBelow n x = AllByRecursion (λ i. i < n) x.premises
 
 premises-within : (n : ℕ) (m : List Made) → IsProof m → length (steps_of m) ≤ n → AllByRecursion (ArePremisesBelow n) (steps_of m)
 premises-within n m made.Each.empty low = tt
@@ -23,9 +26,9 @@ premises-within n m (made.Each.more {made = before} x p h is) low =
     last (Made.type_definition names c f i) h fits = tt
     last (Made.step y) h fits = (All-weaker (λ i. i < length (steps_of before)) (λ i. i < n) (λ i low. omega (arith, low, fits)) y.premises (premises-below before y.premises h.premises h.earlier), tt {0})
 
--- those of one step
-pub premises-of : (m : List Made) (i : ℕ) → IsProof m → i < length (steps_of m) → ArePremisesBelow (length (steps_of m)) (step_in (steps_of m) i)
-premises-of m i h low = All-get (ArePremisesBelow (length (steps_of m))) (steps_of m) i (step_in (steps_of m) i) (premises-within (length (steps_of m)) m h (omega arith)) (slice_get-get_or (steps_of m) i _ low)
+-- those of the step with a number
+pub premises-earlier : (m : List Made) (i : ℕ) (d : Step) → IsProof m → i < length (steps_of m) → ArePremisesBelow (length (steps_of m)) (slice_index_or (steps_of m) i d)
+premises-earlier m i d h low = All-get_or (ArePremisesBelow (length (steps_of m))) (steps_of m) i d low (premises-within (length (steps_of m)) m h (omega arith))
 
 -- where there is room for all
 pub premises-room : (n k : ℕ) (xs ys : List ℕ) → xs ≡ ys → n ≡ k → AllByRecursion (λ i. i < k) ys → AllByRecursion (λ i. i < n) xs
