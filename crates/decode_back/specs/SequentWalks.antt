@@ -97,7 +97,7 @@ pub record IsMade (trees : Trees) (count : ℕ) (variables ids : List TermId) (c
   pub small : sequent_size (opened parameter_name s) ≤ greatest_size
   pub few : count + length variables + length ids ≤ greatest_parameter_count
 
--- and the hypotheses of a sequent are its hypotheses, each once
+-- the same, where these hypotheses, each once, are those of a sequent in the table
 abbrev pub IsMadeOnce : Trees → ℕ → List TermId → List TermId → SequentFound → ClosedSequent → Type 0
 IsMadeOnce trees count variables ids found s =
     IsMade trees count variables ids found.concl s × (terms_at trees found.hyps ≡ distinct term_eq (terms_at trees ids))
@@ -112,11 +112,11 @@ pub record IsFormula (t : Term) : Type 0 where
   pub typed : HasType t bool
   pub depth : term_depth t ≤ greatest_depth
 
--- the parameters of a sequent are so many type variables, with the names of the first numbers, and these free variables, in order
+-- names are those of so many parameters, in order, and free variables are these terms, in order
 abbrev pub AreNumbered : ℕ → List Name → List Variable → List Term → Type 0
 AreNumbered count names variables terms = (names ≡ map parameter_name (numbers 0 count)) × (map free_of variables ≡ terms)
 
--- the parameters of a sequent are so
+-- such are the type variables and the free variables of a sequent
 abbrev pub HasNumbered : Sequent → ℕ → List Term → Type 0
 HasNumbered s count terms = AreNumbered count (type_variables_of s) (free_variables_of s) terms
 

@@ -15,7 +15,7 @@ use Rattle.decode_back.specs.declared.sources.Source.{Source}
 use Rattle.decode_back.specs.Walks.{at_place, greatest_number}
 use Rattle.decode_back.specs.TermWalks.{AreVariables, IsHeadFound, IsTermFound}
 
--- its declarations
+-- the declarations of a source
 abbrev pub declared : Source → List Declaration
 declared s = declarations_of s.module.now
 
@@ -46,25 +46,25 @@ told s A = term_from (declared s) A (place_of s)
 abbrev pub told_type : Source → Tree → Option ClosedType
 told_type s A = type_of_tree (declared s) (place_of s) A
 
--- its module is held, and the type variables at its place have names
+-- the module of a source is held, and the type variables at its place have names
 pub record IsReadable (s : Source) : Type 0 where
   pub held : IsHeld s.module.now
   pub few : s.place.type_variables ≤ greatest_number
 
--- and its numbers are those of terms in the table: of as many free variables as there are at its place, and of the variable of the innermost
--- binder
+-- so it is with a source, whose numbers are those of terms in the table: of as many free variables as there are at its place, and of the
+-- variable of the innermost binder
 pub record IsSource (table : Trees) (s : Source) : Type 0 where
   pub readable : IsReadable s
   pub variables : AreKnown table s.variables.now
   pub all : length s.variables.now ≡ s.place.free_variables
   pub innermost : Holds table s.innermost.0 (term.bound 0)
 
--- where its free variables have types, the term is found that is told, at a cost of its size
+-- where the free variables of a source have types, the term is found that is told, and what is left and its size are what there was
 abbrev pub IsDecoded : Source → ℕ → Option ClosedTerm → Trees → ℕ → Trees → ℕ → Option TermId → Type 0
 IsDecoded s level told table there now left found =
     (types : List ClosedType) → AreVariables table s.variables.now types → IsTermFound level types there left told now found
 
--- of a head with its arguments, some of which it takes
+-- the same of a head with its arguments, of which it takes some and leaves the rest
 abbrev pub IsHeadDecoded : Source → ℕ → Tree → List LpId → List LpId → ℕ → ℕ → Trees → Option TermId → Type 0
 IsHeadDecoded s level H args rest there left now found =
     (types : List ClosedType) → IsHeadFound level types there left (declared s) (place_of s) H (trees_of s args) (trees_of s rest) now found

@@ -20,7 +20,6 @@ use Rattle.lp_spec.specs.Check.{Infer, Reach, Meet, Convert, Reply, Found, No, P
 use Rattle.lp_shape.specs.PlanLaws.{and_then, Leaves, leaves_equal, leaves_then, leaves_fewer, leaves_ask, leaves_found, leaves_no, over_then, over_leaves}
 use Rattle.lp_kernel.specs.declared.state.Application.{Application}
 use Rattle.lp_kernel.specs.declared.state.Argument.{Argument}
-use Rattle.lp_kernel.specs.declared.state.Expected.{Expected}
 use Rattle.lp_kernel.specs.declared.state.Frame.{Frame}
 use Rattle.lp_kernel.specs.declared.state.Frame.TheVariants as frame
 use Rattle.lp_kernel.specs.declared.state.Next.{Next}

@@ -24,7 +24,8 @@ IsReplied rechecks ds p E old new answer.Over = IsOver ds rechecks p old
 
 -- the check of a body, where there is one, ends as the answer says
 abbrev pub IsBodyChecked : Bool → Module → LpId → Option LpId → ℕ → ℕ → Answer → Type 0
-IsBodyChecked rechecks m ty body old new a = IsReplied rechecks (declarations_of m) (body_plan (tree_at m.table ty.0) (tree_if m.table body)) (tree_at m.table ty.0) old new a
+IsBodyChecked rechecks m ty body old new a =
+    IsReplied rechecks (declarations_of m) (body_plan (tree_at m.table ty.0) (tree_if m.table body)) (tree_at m.table ty.0) old new a
 
 -- the check of the declaration says yes, at a price that covers what was spent
 pub record SaysYes (rechecks : Bool) (ds : List Declaration) (i : ℕ) (spent : ℕ) : Type 0 where

@@ -54,7 +54,8 @@ after rechecks ds ts G (frame.Argument e) X =
     Ask (Meet G (filled ts e.domain e.count e.app.function) X) (λ _. Say (Found (filled ts e.body (suc e.count) e.app.whole)))
 after rechecks ds ts G (frame.Expected e) s =
     if_sort s (Ask (Convert (tree_at ts e.domain.0) (tree_at ts e.found.0)) (λ _. Say (Found (filled ts e.body e.count e.whole))))
-after rechecks ds ts G (frame.Domain a b) s = if_type s (Ask (Infer (tree_at ts a.0 ∷ G) (tree_at ts b.0)) (λ B. unless_kind B (Say (Found (Pi (tree_at ts a.0) B)))))
+after rechecks ds ts G (frame.Domain a b) s =
+    if_type s (Ask (Infer (tree_at ts a.0 ∷ G) (tree_at ts b.0)) (λ B. unless_kind B (Say (Found (Pi (tree_at ts a.0) B)))))
 after rechecks ds ts G (frame.Body a) B = unless_kind B (Say (Found (Pi (tree_at ts a.0) B)))
 after rechecks ds ts G (frame.ProductDomain a b) s = if_type s (Ask (Infer (tree_at ts a.0 ∷ G) (tree_at ts b.0)) (λ o. if_sort o (Say (Found o))))
 after rechecks ds ts G frame.ProductBody o = if_sort o (Say (Found o))
@@ -115,11 +116,15 @@ IsAsked rechecks m s id old new t n = IsTurned rechecks m (pending rechecks (dec
 
 -- after a turn that goes on with a type that was found for this frame
 abbrev pub IsTold : Bool → Module → Frame → State → LpId → ℕ → ℕ → State → Next → Type 0
-IsTold rechecks m f s found old new t n = IsTurned rechecks m (resume rechecks (declarations_of m) m.table s.context (f ∷ s.frames) (tree_at m.table found.0)) old new t n
+IsTold rechecks m f s found old new t n =
+    IsTurned rechecks m (resume rechecks (declarations_of m) m.table s.context (f ∷ s.frames) (tree_at m.table found.0)) old new t n
 
 -- after a turn that goes from a product, which the type of a function reaches, to the argument
 abbrev pub IsApplied : Bool → Module → State → LpId → LpId → ℕ → State → Next → Type 0
-IsApplied rechecks m s product x left t n = IsTurned rechecks m (and_then (applying m.table (trees_at m.table s.context) x (tree_at m.table product.0)) (resume rechecks (declarations_of m) m.table s.context s.frames)) left left t n
+IsApplied rechecks m s product x left t n =
+    IsTurned rechecks m
+    (and_then (applying m.table (trees_at m.table s.context) x (tree_at m.table product.0)) (resume rechecks (declarations_of m) m.table s.context s.frames))
+    left left t n
 
 -- what is left where the type of an argument is to be converted to the expected one
 abbrev pub conversion : Bool → Module → State → Expected → Plan
@@ -187,5 +192,7 @@ IsMade rechecks m s b k g left t n = IsTurned rechecks m (pending rechecks (decl
 
 -- the argument whose type is asked for, or nothing has changed
 abbrev pub IsAwaited : Module → State → LpId → ℕ → LpId → State → Option LpId → Type 0
-IsAwaited m s b k g t (Some x) = (x.0 < length m.table) × IsKnownState m.table t × (length t.frames ≡ length s.frames) × ((rechecks : Bool) (left : ℕ) → IsMade rechecks m s b k g left t (next.Ask x))
+IsAwaited m s b k g t (Some x) =
+    (x.0 < length m.table) × IsKnownState m.table t × (length t.frames ≡ length s.frames)
+    × ((rechecks : Bool) (left : ℕ) → IsMade rechecks m s b k g left t (next.Ask x))
 IsAwaited m s b k g t None = t ≡ s
