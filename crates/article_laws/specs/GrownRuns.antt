@@ -14,7 +14,7 @@ use Rattle.hol_spec.specs.DefinitionLists.{ConstantPairs, definitions_in}
 use Rattle.hol_spec.specs.Symbols.{Symbol, defined, input_constant, input_operator, is_input_operator, is_taken_constant, operator_arity, new_constant, new_operator}
 use Rattle.hol_spec.specs.Proofs.{Made, Step, symbols_of, sequent_at}
 use Rattle.hol_laws.specs.Members.{All-each}
-use Rattle.article_spec.specs.State.{Object, Objects, Place, State, version_at}
+use Rattle.article_spec.specs.State.{Object, Objects, Stage, State, version_at}
 use Rattle.article_spec.specs.State as object
 use Rattle.article_spec.specs.Changes.{with_step, with_type_definition, with_type, next_step}
 use Rattle.article_spec.specs.RuleSteps.{NewType, define_const_step, type_laws, type_measures, made_of_type, restate_step, restatement}
@@ -27,7 +27,7 @@ use Rattle.article_laws.specs.SoundDefining.{type_laws-made}
 abbrev pub names_alone : (Name → Type 0) → Parts
 names_alone N = record { name = N; type = λ a. Unit {0}; variable = λ v. Unit {0}; term = λ t. Unit {0}; step = λ i. Unit {0} }
 
-abbrev pub of_names : (Name → Type 0) → (Place → List Made → List ℕ → List ℕ → Type 0) → Invariant
+abbrev pub of_names : (Name → Type 0) → (Stage → List Made → List ℕ → List ℕ → Type 0) → Invariant
 of_names N run = record { parts = λ made. names_alone N; run = run }
 
 -- any objects have names of which nothing is asked
@@ -50,7 +50,7 @@ mutual
 pub any-objects : (stack : List Object) (d : FinMap int_cmp Object) → ObjectsHave (names_alone (λ n. Unit {0})) stack d
 any-objects stack d = record { stacked = All-each _ stack (λ x k. any-object x); kept = λ k x e. any-object x }
 
-pub record Grows (N : Name → Type 0) (run : Place → List Made → List ℕ → List ℕ → Type 0) (Q : Made → Type 0) : Type 0 where
+pub record Grows (N : Name → Type 0) (run : Stage → List Made → List ℕ → List ℕ → Type 0) (Q : Made → Type 0) : Type 0 where
   -- of a run: it grows by things that have the property, by assumptions and by exports
   pub made : (s : State) (ys : List Made) → RunHas (of_names N run) s → AllByRecursion Q ys → RunHas (of_names N run) (record s { made = s.made ++ ys })
   pub assumed : (s : State) (is : List ℕ) → RunHas (of_names N run) s → RunHas (of_names N run) (record s { assumptions = is })
@@ -67,7 +67,7 @@ pub record Grows (N : Name → Type 0) (run : Place → List Made → List ℕ �
   pub define_type_op : (edition : Version) (names : TypeNames) (j : ℕ) (c : HolType) (f : Term)
       → N names.operator × N names.abstraction × N names.representation → AllByRecursion IsWithin (type_measures edition names c f) → Q (Made.type_definition names c f j)
 
-module _ (N : Name → Type 0) (run : Place → List Made → List ℕ → List ℕ → Type 0) (Q : Made → Type 0) (grows : Grows N run Q) where
+module _ (N : Name → Type 0) (run : Stage → List Made → List ℕ → List ℕ → Type 0) (Q : Made → Type 0) (grows : Grows N run Q) where
   abbrev Has : State → Type 0
   Has s = RunHas (of_names N run) s
 

@@ -15,7 +15,7 @@ use Rattle.article_spec.specs.declared.commands.Item.TheVariants as item
 use Rattle.article_spec.specs.declared.commands.Word.{Word}
 use Rattle.article_spec.specs.declared.commands.Word.TheVariants as word
 use Rattle.article_spec.specs.Lines.{Lines, End, ended, refused}
-use Rattle.article_spec.specs.State.{Object, State, Place, start, version, body, initial}
+use Rattle.article_spec.specs.State.{Object, State, Stage, start, version, body, initial}
 use Rattle.article_spec.specs.Step.{in_body, obey_item, second_word, step_at, step, finish}
 use Rattle.article_spec.specs.Run.{machine, at_line, obey_all, obey_article, accepted_state, Outcome, accepted, refused_at, RunsFrom, finished, passed, stopped, Run}
 use Rattle.article_laws.specs.Binds.{bound}
@@ -32,7 +32,7 @@ ItemHas P (item.Word w) = Unit {0}
 
 -- a run has what it has at any place
 abbrev pub Placed : Invariant → Type 0
-Placed i = (s : State) (p : Place) → RunHas i s → RunHas i (record s { place = p })
+Placed i = (s : State) (p : Stage) → RunHas i s → RunHas i (record s { place = p })
 
 -- nothing is kept in a new dictionary
 no-objects : (p : Parts) → ObjectsHave p [] entries.empty
@@ -46,7 +46,7 @@ initial-holds i h = record { objects = no-objects (i.parts []); run = h }
 
 module _ (i : Invariant) (moves : Moves i) (placed : Placed i) where
   -- another stack and another place
-  moved : (s : State) (p : Place) (stack : List Object) → Holds i s → AllByRecursion (IsOf (i.parts s.made)) stack
+  moved : (s : State) (p : Stage) (stack : List Object) → Holds i s → AllByRecursion (IsOf (i.parts s.made)) stack
       → Holds i (record s { stack = stack; place = p })
   moved s p stack g h = record { objects = record { stacked = h; kept = g.objects.kept }; run = placed s p g.run }
 
@@ -70,7 +70,7 @@ module _ (i : Invariant) (moves : Moves i) (placed : Placed i) where
     | inr f ↦ obey-keeps i moves (in_body Five s) t w (in_body-holds s g) (sym f ∙ e)
   ]
 
-  step_at-keeps : (s t : State) (p : Place) (x : Item) → Holds i s → ItemHas (i.parts s.made).name x → step_at p s x ≡ Ok t → Holds i t
+  step_at-keeps : (s t : State) (p : Stage) (x : Item) → Holds i s → ItemHas (i.parts s.made).name x → step_at p s x ≡ Ok t → Holds i t
   step_at-keeps s t (start v) (item.Number z) g h e = answered i _ t e (moved s _ (Object.number z ∷ s.stack) g (tt {0}, g.objects.stacked))
   step_at-keeps s t (start v) (item.Name n) g h e = obey_item-keeps (in_body Five s) t (item.Name n) (in_body-holds s g) h e
   step_at-keeps s t (start v) (item.Word w) g h e = obey_item-keeps (in_body Five s) t (item.Word w) (in_body-holds s g) h e

@@ -14,7 +14,7 @@ use Rattle.hol_spec.specs.DefinitionLists.{ConstantPairs, definitions_in}
 use Rattle.hol_spec.specs.Symbols.{defined, generic_type, operator_arity, new_constant, new_operator}
 use Rattle.hol_spec.specs.Rules.{abstraction}
 use Rattle.hol_spec.specs.Proofs.{Made, Step, symbols_of, steps_of, sequent_at}
-use Rattle.article_spec.specs.State.{Object, Place, State, version_at}
+use Rattle.article_spec.specs.State.{Object, Stage, State, version_at}
 use Rattle.article_spec.specs.Conditions.{arity_fits, generic_fits}
 use Rattle.article_spec.specs.Changes.{with_symbols, with_step, with_type, next_step, first_same}
 use Rattle.article_spec.specs.RuleSteps.{NewType, define_const_step, define_const_list_step, type_laws, axiom_step, restate_step, restatement}
@@ -24,7 +24,7 @@ use Rattle.article_laws.specs.Parts.{Parts, IsOf}
 -- of the parts of objects, over what was made; and of a run, by its place, what it made, its exports and its assumptions
 pub record Invariant : Type 1 where
   pub parts : List Made → Parts
-  pub run : Place → List Made → List ℕ → List ℕ → Type 0
+  pub run : Stage → List Made → List ℕ → List ℕ → Type 0
 
 -- the run of a state
 abbrev pub RunHas : Invariant → State → Type 0

@@ -2,7 +2,7 @@
 use Rattle.std.proofs.Common.{◌≡◌, Result, Ok, refl}
 use Rattle.common.specs.declared.faults.Kind.{Kind}
 use Rattle.hol_laws.specs.Members.{All-each}
-use Rattle.article_spec.specs.State.{Place, State}
+use Rattle.article_spec.specs.State.{Stage, State}
 use Rattle.article_spec.specs.Step.{obey}
 use Rattle.article_spec.specs.declared.commands.Word.{Word}
 use Rattle.article_laws.specs.GrownRuns.{of_names, Grows, moves_of, any-objects}
@@ -13,7 +13,7 @@ use Rattle.article_laws.specs.Moves.{Invariant}
 abbrev Keeps : State → Result State Kind → Type 0
 Keeps s r = (t : State) → r ≡ Ok t → t.place ≡ s.place
 
-module _ (p : Place) where
+module _ (p : Stage) where
   abbrev at_place : Invariant
   at_place = of_names (λ n. Unit {0}) (λ q made exports assumptions. q ≡ p)
 

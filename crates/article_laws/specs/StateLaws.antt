@@ -9,7 +9,7 @@ use Rattle.hol_laws.specs.TypeLaws.{coded_name, coded_type}
 use Rattle.hol_laws.specs.TermLaws.{coded_term, coded_variable}
 use Rattle.hol_spec.specs.Proofs.{Made}
 use Rattle.proof_laws.specs.ProofCodes.{coded_made}
-use Rattle.article_spec.specs.State.{Object, Objects, number, name, list, type_operator, type, constant, variable, term, theorem, none, more, Place, start, version, body, State}
+use Rattle.article_spec.specs.State.{Object, Objects, number, name, list, type_operator, type, constant, variable, term, theorem, none, more, Stage, start, version, body, State}
 
 mutual
   pub object_code : Object → Gv
@@ -51,33 +51,33 @@ mutual
 abbrev pub coded_object : Coded Object
 coded_object = record { code = object_code; inj = object_inj }
 
-abbrev place_number : Place → ℕ
+abbrev place_number : Stage → ℕ
 place_number version = 0
 place_number (body Five) = 1
 place_number (body Six) = 2
 place_number (start Five) = 3
 place_number (start Six) = 4
 
-abbrev place_of : ℕ → Place
+abbrev place_of : ℕ → Stage
 place_of zero = version
 place_of (suc zero) = body Five
 place_of (suc (suc zero)) = body Six
 place_of (suc (suc (suc zero))) = start Five
 place_of (suc (suc (suc (suc n)))) = start Six
 
-pub place_of-number : (p : Place) → place_of (place_number p) ≡ p
+pub place_of-number : (p : Stage) → place_of (place_number p) ≡ p
 place_of-number version = refl
 place_of-number (body Five) = refl
 place_of-number (body Six) = refl
 place_of-number (start Five) = refl
 place_of-number (start Six) = refl
 
-abbrev pub coded_place : Coded Place
+abbrev pub coded_place : Coded Stage
 coded_place = code_by ℕ coded_ℕ place_number place_of place_of-number
 
 -- The code of a state, for a model whose value it is.
 abbrev pub coded_state : Coded State
-coded_state = code_by ((List Object × (entries.FinMap int_cmp Object × Place)) × ((List Made × List ℕ) × (List ℕ × List ℕ)))
+coded_state = code_by ((List Object × (entries.FinMap int_cmp Object × Stage)) × ((List Made × List ℕ) × (List ℕ × List ℕ)))
     (coded× (coded× (coded_list coded_object) (coded× (entries.code coded_ℤ coded_object) coded_place)) (coded× (coded× (coded_list coded_made) (coded_list coded_ℕ)) (coded× (coded_list coded_ℕ) (coded_list coded_ℕ))))
     (λ s. ((s.stack, (s.dictionary, s.place)), ((s.made, s.assumptions), (s.exports, s.pool))))
     (λ p. record { stack = p.0.0; dictionary = p.0.1.0; place = p.0.1.1; made = p.1.0.0; assumptions = p.1.0.1; exports = p.1.1.0; pool = p.1.1.1 })

@@ -21,7 +21,7 @@ pub enum Judgement {
 }
 
 /// What a line says.
-pub fn judge(alloc: Global, line: &[u8]) -> Judgement
+pub fn read_content(alloc: Global, line: &[u8]) -> Judgement
     ensures { Judges result (content line.now) }
 {
     match without_back(without_front(line)) {

@@ -8,7 +8,7 @@ ghost use Rattle.article_spec.specs.Lines.{max_line, max_article};
 ghost use Rattle.article_read.specs.declared.lines.LineFault.{LineFault};
 ghost use Rattle.article_read.specs.Reading.{IsFed, Feeds, EndsWith, StaysStopped, GivesLine, RefusesLine, IsKept, ReadsAs, fresh};
 
-use crate::content::{Judgement, judge};
+use crate::content::{Judgement, read_content};
 use article_spec::Command;
 use common::Kind;
 use std::alloc::Global;
@@ -164,7 +164,7 @@ impl Lines {
         ensures unchanged { OnErr result (commands.new.items ≡ commands.old.items) }
         ensures kept { IsKept self.old.number self.old.offset self.old.rest }
     {
-        match judge(*self.rest.allocator(), &self.rest) {
+        match read_content(*self.rest.allocator(), &self.rest) {
             Judgement::Skipped => Ok(()),
             Judgement::Command(item) => {
                 let line = self.number;

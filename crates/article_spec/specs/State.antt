@@ -29,19 +29,19 @@ mutual
 
 -- Where an article is: before its first command, after an article of this version; after the number 6 as its first; or later, in an article of
 -- version 5 or of version 6. Before the first article it is as after one of version 6.
-pub data Place : Type 0 where
-  start : Version → Place
-  version : Place
-  body : Version → Place
+pub data Stage : Type 0 where
+  start : Version → Stage
+  version : Stage
+  body : Version → Stage
 
 -- The version of an article so far.
-abbrev pub version_at : Place → Version
+abbrev pub version_at : Stage → Version
 version_at (start v) = Five
 version_at version = Five
 version_at (body v) = v
 
 -- The version of the last article that has begun, and 6 where none has.
-abbrev pub last_version : Place → Version
+abbrev pub last_version : Stage → Version
 last_version (start v) = v
 last_version version = Five
 last_version (body v) = v
@@ -50,7 +50,7 @@ pub record State : Type 0 where
   -- of the article: the objects from the top, what the numbers stand for, and the place
   pub stack : List Object
   pub dictionary : FinMap int_cmp Object
-  pub place : Place
+  pub place : Stage
   -- of the run: symbols and steps in order of making; the steps that are assumptions, that are exports, and that earlier articles exported
   pub made : List Made
   pub assumptions : List ℕ

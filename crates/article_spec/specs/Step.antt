@@ -12,7 +12,7 @@ use Rattle.article_spec.specs.declared.commands.Item.{Item}
 use Rattle.article_spec.specs.declared.commands.Item.TheVariants as item
 use Rattle.article_spec.specs.declared.commands.Word.{Word}
 use Rattle.article_spec.specs.declared.commands.Word.TheVariants as word
-use Rattle.article_spec.specs.State.{number, name, Place, start, version, body, State, version_at}
+use Rattle.article_spec.specs.State.{number, name, Stage, start, version, body, State, version_at}
 use Rattle.article_spec.specs.Changes.{with_stack}
 use Rattle.article_spec.specs.Building.{nil, cons, hd_tl, type_op, var_type, op_type, const, const_term, var, var_term, app_term, abs_term, def, ref, remove, drop_object}
 use Rattle.article_spec.specs.Inference.{refl_word, assume, eq_mp, abs_thm, app_thm, deduct_antisym, beta_conv, sym_word, trans_word, prove_hyp, subst_word}
@@ -71,7 +71,7 @@ second_word s word.Version = Ok (record s { stack = drop 1 s.stack; place = body
 second_word s w = obey (in_body Five s) w
 
 -- A command at a place. An article is of version 6 where its first two are the number 6 and `version`.
-abbrev pub step_at : Place → State → Item → Result State Kind
+abbrev pub step_at : Stage → State → Item → Result State Kind
 step_at (start v) s (item.Number z) = Ok (record s { stack = number z ∷ s.stack; place = if int_eq z (pos 6) then version else body Five })
 step_at (start v) s (item.Name n) = obey_item (in_body Five s) (item.Name n)
 step_at (start v) s (item.Word w) = obey_item (in_body Five s) (item.Word w)

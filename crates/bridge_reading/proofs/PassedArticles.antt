@@ -10,7 +10,7 @@ use Rattle.hol_spec.specs.Mangling.{AreBytes}
 use Rattle.hol_laws.specs.Members.{All-append}
 use Rattle.hol_spec.specs.declared.Version.{Version}
 use Rattle.hol_spec.specs.declared.Version.TheVariants.{Six}
-use Rattle.article_spec.specs.State.{State, Place, start, last_version, initial}
+use Rattle.article_spec.specs.State.{State, Stage, start, last_version, initial}
 use Rattle.article_spec.specs.Run.{Outcome, RunsFrom, machine, accepted, accepted_state, refused_at, finished, passed, stopped}
 use Rattle.bridge_spec.specs.Answers.{AreRead, IsRunOf, IsRunOfVersion, RunsTo, articles}
 use Rattle.writing_spec.specs.Versions.{version_of, IsLastVersion, no_article, last}

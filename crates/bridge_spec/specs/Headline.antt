@@ -13,7 +13,7 @@ use Rattle.lp_spec.specs.Weight.{bound}
 use Rattle.lp_spec.specs.Check.{Found}
 use Rattle.lp_spec.specs.FastCheck.{fast_bound}
 use Rattle.module_spec.specs.Image.{image}
-use Rattle.module_spec.specs.Stands.{Stands}
+use Rattle.module_spec.specs.Stands.{StandsForRun}
 use Rattle.share_spec.specs.Folded.{folded, places, entries_of, place_in}
 use Rattle.share_spec.specs.FoldedStands.{FoldedStands}
 use Rattle.share_spec.specs.MovedTrees.{moved}
@@ -24,7 +24,7 @@ use Rattle.bridge_spec.specs.Texts.{module_of, module_text}
 -- A run's module is well typed, leaves unproved only the run's inputs and assumptions, defines only what the run defined, and its exports stand,
 -- in order, for the closed forms of the run's. With shared abbreviations it defines these too.
 abbrev pub ModuleStands : Bool → Accepted → Type 0
-ModuleStands false run = Stands (image run) run
+ModuleStands false run = StandsForRun (image run) run
 ModuleStands true run = FoldedStands (folded (image run)) run
 
 -- With shared abbreviations no tree that is shared is written out more than once after the lemmas, the types of abbreviations aside.

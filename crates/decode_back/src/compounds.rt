@@ -33,7 +33,7 @@ pub(crate) fn apply(
     if !spend(budget, 1) {
         return Ok(false);
     }
-    made.push(table.application(function, argument)?)?;
+    made.push(table.raw_application(function, argument)?)?;
     Ok(true)
 }
 
@@ -106,7 +106,7 @@ fn over(table: &mut TermTable, variable: &Variable, body: TermId) -> Result<Opti
         Err(Fault::Memory) => return Err(Memory),
         Err(Fault::Refused(_)) => return Ok(None),
     };
-    let open = table.instance(body, outside)?;
-    let made = table.abstraction(variable, open)?;
+    let open = table.raw_instance(body, outside)?;
+    let made = table.raw_abstraction(variable, open)?;
     Ok(Some(made))
 }

@@ -20,7 +20,7 @@ use sequent::{Closed, Hyps, Params, Sequent};
 use std::alloc::Global;
 
 // The closed form of the sequent of these terms, where it is one within the limits and its parameters are numbered in order.
-pub(crate) fn judge(
+pub(crate) fn check_sequent(
     alloc: Global,
     table: &TermTable,
     count: usize,

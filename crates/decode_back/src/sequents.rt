@@ -13,7 +13,7 @@ ghost use Rattle.decode_back.specs.Walks.{greatest_number};
 ghost use Rattle.decode_back.specs.SequentWalks.{AreHypothesesDecoded, ArePartsKnown, AreTyped, AreVariablesFound, IsDecodedOf, IsStated};
 
 use crate::constants::GREATEST_DEPTH;
-use crate::judging::judge;
+use crate::judging::check_sequent;
 use crate::names::parameter_name;
 use crate::places::Place;
 use crate::products::{Parts, parts_of};
@@ -141,7 +141,7 @@ fn decode_terms(
     let Some(concl) = found else {
         return Ok(None);
     };
-    judge(alloc, table, parts.type_variables, variables, &hyps, concl)
+    check_sequent(alloc, table, parts.type_variables, variables, &hyps, concl)
 }
 
 // The term of the variable that the innermost binder binds.
@@ -159,7 +159,7 @@ fn innermost(alloc: Global, table: &mut TermTable) -> Result<TermId, Memory>
     let Ok(free) = table.free(&variable.name, ty) else {
         return Err(Memory);
     };
-    let made = table.abstraction(&variable, free)?;
+    let made = table.raw_abstraction(&variable, free)?;
     match table.view(made) {
         TermView::Lam(_, body) => Ok(body),
         TermView::Free(..) | TermView::Bound(_) | TermView::Const(..) | TermView::App(..) => Err(

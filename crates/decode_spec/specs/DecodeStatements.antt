@@ -8,7 +8,7 @@ use Rattle.hol_spec.specs.Proofs.{sequent_at, Accepted}
 use Rattle.lp_spec.specs.Trees.{Tree}
 use Rattle.lp_spec.specs.Modules.{Declaration}
 use Rattle.module_spec.specs.Enc.{IsClosedForm, Enc}
-use Rattle.module_spec.specs.Stands.{is_export_name, Stands}
+use Rattle.module_spec.specs.Stands.{is_export_name, StandsForRun}
 use Rattle.decode_spec.specs.Opened.{AreApart}
 use Rattle.decode_spec.specs.ClosedFormTest.{is_closed_form}
 use Rattle.decode_spec.specs.Decode.{decode}
@@ -35,4 +35,4 @@ closed_exports run = map (λ i. Some (closed_form (sequent_at run.made i))) run.
 
 -- The exports of a module that stands for a run are decoded, in order, to the closed forms of the run's exports.
 abbrev pub ExportsDecoded : Type 0
-ExportsDecoded = (declarations : List Declaration) (run : Accepted) → Stands declarations run → decoded_exports declarations ≡ closed_exports run
+ExportsDecoded = (declarations : List Declaration) (run : Accepted) → StandsForRun declarations run → decoded_exports declarations ≡ closed_exports run

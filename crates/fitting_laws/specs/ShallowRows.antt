@@ -25,7 +25,7 @@ use Rattle.hol_laws.specs.Members.{All-weaker, All-append, All-mapped, All-left,
 use Rattle.hol_laws.specs.TermInstances.{substitute-nothing}
 use Rattle.lp_spec.specs.Trees.{Tree, Var, Sym, App, Lam, depth}
 use Rattle.lp_spec.specs.Modules.{types, term_of, fun_ext_symbol, sub_abs_rep_symbol, sub_rep_abs_symbol}
-use Rattle.module_spec.specs.Scopes.{Symbols, type_tree, Scope, term_tree, lifted, under_term, under_proof, under_types, set_proof, unfilled, term_domains, proof_domains, scope_of_types, scope_of_terms, scope_of, domains_of, conclusion_tree, theorem_tree, images, filled}
+use Rattle.module_spec.specs.Scopes.{SymbolMap, type_tree, Scope, term_tree, lifted, under_term, under_proof, under_types, set_proof, unfilled, term_domains, proof_domains, scope_of_types, scope_of_terms, scope_of, domains_of, conclusion_tree, theorem_tree, images, filled}
 use Rattle.module_spec.specs.ProofTrees.{Premise, premise_tree, refl_tree, eq_mp_tree, fun_ext_tree, app_thm_tree, prop_ext_tree, sym_tree, trans_tree, prove_hyp_tree, subst_tree, self_proof, constants_scope, abs_tree, predicate, witness, part_tree, law_tree, sym_symbol, first_law_tree, second_law_tree, first_law_free_tree, second_law_free_tree}
 use Rattle.module_spec.specs.Rows.{type_or, equated_type, left_side, right_side, argument_type, result_type, of_one, of_two, proof_tree}
 use Rattle.module_laws.specs.BodyTyping.{IsIn-map}
@@ -130,7 +130,7 @@ conclusion-depth s h = (All-right (λ t. term_depth t ≤ greatest_depth) s.hypo
 hypotheses-depth : (s : Sequent) → SequentWithin s → AreShallowTerms greatest_depth s.hypotheses
 hypotheses-depth s h = All-left (λ t. term_depth t ≤ greatest_depth) s.hypotheses (s.conclusion ∷ []) (sequent-depth s h)
 
-module _ (symbols : Symbols) where
+module _ (symbols : SymbolMap) where
   -- a sequent has few parameters, and its scope is shallow
   pub length-term_domains : (vs : List Variable) (scope : Scope) → length (term_domains symbols vs scope) ≡ length vs
   length-term_domains [] scope = refl
@@ -158,7 +158,7 @@ module _ (symbols : Symbols) where
       under_proofs-shallow s.hypotheses (scope_of_terms symbols s) (under_terms-shallow (free_variables_of s) (scope_of_types symbols s)
       (filled-shallow symbols (under_types (type_variables_of s) unfilled) (under_types-shallow (type_variables_of s) unfilled (λ n. omega arith))))
 
-module _ (symbols : Symbols) (few : HasFewArguments symbols) where
+module _ (symbols : SymbolMap) (few : HasFewArguments symbols) where
   -- the telescope of a sequent
   term_domains-depth : (vs : List Variable) (scope : Scope) → IsShallowScope scope → AllByRecursion (λ (v : Variable). type_depth v.1 ≤ greatest_depth) vs → AreShallowTrees deepest_term (term_domains symbols vs scope)
   term_domains-depth [] scope h k = tt

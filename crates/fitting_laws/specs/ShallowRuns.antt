@@ -16,7 +16,7 @@ use Rattle.lp_spec.specs.Trees.{depth}
 use Rattle.lp_spec.specs.Modules.{products, types, term_of, sub_symbol, sub_abs_symbol, sub_rep_symbol}
 use Rattle.lp_spec.specs.Reading.{max_depth}
 use Rattle.lp_spec.specs.TextLaws.{IsBodyShallow, AreShallow}
-use Rattle.module_spec.specs.Scopes.{Symbols, type_tree, term_tree, under_types, unfilled, filled, generic_tree, scope_of, domains_of, conclusion_tree}
+use Rattle.module_spec.specs.Scopes.{SymbolMap, type_tree, term_tree, under_types, unfilled, filled, generic_tree, scope_of, domains_of, conclusion_tree}
 use Rattle.module_spec.specs.ProofTrees.{part_tree}
 use Rattle.module_spec.specs.Rows.{proof_tree}
 use Rattle.module_spec.specs.Items.{Content, Item, operator, constant, defined_constant, type_operator, type_abstraction, type_representation, unproved, step, definition_tree, part_definition_tree, declaration_of, declaration, symbols_of}
@@ -39,7 +39,7 @@ operator-depth (suc k) = let l = operator-depth k in omega (arith, l)
 under_types-depth : (ns : List Name) (n : Name) → depth (under_types ns unfilled n) ≤ 1
 under_types-depth ns n = under_types-shallow ns unfilled (λ n. omega arith) n
 
-module _ (symbols : Symbols) (few : HasFewArguments symbols) where
+module _ (symbols : SymbolMap) (few : HasFewArguments symbols) where
   generic_tree-depth : (a : HolType) → GenericWithin a → depth (generic_tree symbols a) ≤ max_depth
   generic_tree-depth a h =
       let own = type_tree-depth symbols (under_types (type_variables a) unfilled) (under_types-depth (type_variables a)) a in

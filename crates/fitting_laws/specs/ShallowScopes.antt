@@ -12,12 +12,12 @@ use Rattle.hol_spec.specs.Substitution.{TypePairs, image, read_off, read_off_all
 use Rattle.hol_spec.specs.Terms.{Term, free, bound, constant, app, lam, Variable, variable_eq, term_eq}
 use Rattle.hol_laws.specs.Members.{All-weaker, All-append}
 use Rattle.lp_spec.specs.Trees.{Tree, Var, Sym, lift, depth}
-use Rattle.module_spec.specs.Scopes.{Symbols, operator_symbol, constant_symbol, generic_type, TypeScope, type_tree, type_trees, Scope, inside, constant_tree, term_tree, under_type, under_types, lifted, under_term, under_terms, under_proof, under_proofs, filler, filled}
+use Rattle.module_spec.specs.Scopes.{SymbolMap, operator_symbol, constant_symbol, generic_type, TypeScope, type_tree, type_trees, Scope, inside, constant_tree, term_tree, under_type, under_types, lifted, under_term, under_terms, under_proof, under_proofs, filler, filled}
 use Rattle.module_laws.specs.ScopeTyping.{length-type_trees}
 use Rattle.fitting_laws.specs.Depths.{AreShallowTrees, depth-lift, applied-depth}
 
 -- each constant has few type arguments
-abbrev pub HasFewArguments : Symbols → Type 0
+abbrev pub HasFewArguments : SymbolMap → Type 0
 HasFewArguments symbols = (n : Name) → length (type_variables (generic_type symbols n)) ≤ greatest_parameter_count
 
 -- what stands for type variables, bound numbers and hypotheses is one node, and what stands for a free variable hardly deeper than its type
@@ -35,7 +35,7 @@ pub type_depth-positive : (t : HolType) → 1 ≤ type_depth t
 type_depth-positive (variable n) = omega arith
 type_depth-positive (operator n ts) = omega arith
 
-module _ (symbols : Symbols) (scope : TypeScope) (h : (n : Name) → depth (scope n) ≤ 1) where
+module _ (symbols : SymbolMap) (scope : TypeScope) (h : (n : Name) → depth (scope n) ≤ 1) where
   mutual
     pub type_tree-depth : (t : HolType) → depth (type_tree symbols scope t) ≤ type_depth t + 1
     type_tree-depth (variable n) = let l = h n in omega (arith, l)
@@ -78,7 +78,7 @@ image-depth d (p ∷ ps) n l h = go (name_eq n p.0) (image-depth d ps n l h.1)
     go true k = h.0
     go false k = k
 
-pub arguments-depth : (symbols : Symbols) (scope : TypeScope) → ((n : Name) → depth (scope n) ≤ 1) → (g t : HolType) (ns : List Name)
+pub arguments-depth : (symbols : SymbolMap) (scope : TypeScope) → ((n : Name) → depth (scope n) ≤ 1) → (g t : HolType) (ns : List Name)
     → AreShallowTrees (type_depth t + 1) (map (type_tree symbols scope) (map (image (read_off g t)) ns))
 arguments-depth symbols scope h g t [] = tt
 arguments-depth symbols scope h g t (n ∷ ns) =
@@ -86,7 +86,7 @@ arguments-depth symbols scope h g t (n ∷ ns) =
     let tree = type_tree-depth symbols scope h (image (read_off g t) n) in
     (omega (arith, put, tree), arguments-depth symbols scope h g t ns)
 
-pub constant_tree-depth : (symbols : Symbols) → HasFewArguments symbols → (scope : TypeScope) → ((n : Name) → depth (scope n) ≤ 1) → (n : Name) (t : HolType)
+pub constant_tree-depth : (symbols : SymbolMap) → HasFewArguments symbols → (scope : TypeScope) → ((n : Name) → depth (scope n) ≤ 1) → (n : Name) (t : HolType)
     → depth (constant_tree symbols scope n t) ≤ type_depth t + (greatest_parameter_count + 1)
 constant_tree-depth symbols few scope h n t =
     let g = generic_type symbols n in
@@ -157,7 +157,7 @@ under_proofs-shallow (p ∷ ps) scope h = under_proofs-shallow ps (under_proof p
 filler-depth : (a : Tree) (d : ℕ) → 1 ≤ d → depth a ≤ d → depth (filler a) ≤ d + 5
 filler-depth a d l h = let e = depth-lift 1 a in omega (arith, e, h, l)
 
-pub filled-shallow : (symbols : Symbols) (scope : TypeScope) → ((n : Name) → depth (scope n) ≤ 1) → IsShallowScope (filled symbols scope)
+pub filled-shallow : (symbols : SymbolMap) (scope : TypeScope) → ((n : Name) → depth (scope n) ≤ 1) → IsShallowScope (filled symbols scope)
 filled-shallow symbols scope h = record {
   types = h;
   terms = λ v. (let e = filler-depth (type_tree symbols scope v.1) (type_depth v.1 + 1) (omega arith) (type_tree-depth symbols scope h v.1) in omega (arith, e));
@@ -166,7 +166,7 @@ filled-shallow symbols scope h = record {
 }
 
 -- a term
-pub term_tree-depth : (symbols : Symbols) → HasFewArguments symbols → (scope : Scope) → IsShallowScope scope → (t : Term)
+pub term_tree-depth : (symbols : SymbolMap) → HasFewArguments symbols → (scope : Scope) → IsShallowScope scope → (t : Term)
     → depth (term_tree symbols scope t) ≤ term_depth t + (greatest_parameter_count + 1)
 term_tree-depth symbols few scope h (free n t) = let l = h.terms (n, t) in omega (arith, l)
 term_tree-depth symbols few scope h (bound k) = let l = h.bounds k in omega (arith, l)

@@ -10,7 +10,7 @@ use Rattle.hol_spec.specs.TypeDefinitions.{IsTypeDefinition, abstracted, represe
 use Rattle.hol_spec.specs.TypeDefinitions as type_definition
 use Rattle.lp_spec.specs.Trees.{Tree, Var, App, Lam}
 use Rattle.lp_spec.specs.Modules.{Declaration, term_of, sub_abs_rep_symbol, sub_rep_abs_symbol}
-use Rattle.module_spec.specs.Scopes.{Symbols, type_tree, Scope, term_tree, lifted, filled}
+use Rattle.module_spec.specs.Scopes.{SymbolMap, type_tree, Scope, term_tree, lifted, filled}
 use Rattle.module_spec.specs.ProofTrees.{predicate, witness, premise_tree, part_tree, law_tree, first_law_tree, second_law_tree, first_law_free_tree, second_law_free_tree}
 use Rattle.module_spec.specs.Rows.{type_or}
 use Rattle.module_laws.specs.ScopeTyping.{TypeOver-type_under}
@@ -27,7 +27,7 @@ use Rattle.fitting_laws.specs.SmallPremises.{premise_cost, row_cost, IsSmallTerm
 abbrev pub named_part_cost : ℕ
 named_part_cost = 62 * part_cost + 5 * premise_cost
 
-module _ (m : List Declaration) (symbols : Symbols) (names : TypeNames) (c : HolType) (f : Term) (j : ℕ) (one : Sequent) (d : IsTypeDefinition names c f one) (v : IsSmallPremise m symbols j one) where
+module _ (m : List Declaration) (symbols : SymbolMap) (names : TypeNames) (c : HolType) (f : Term) (j : ℕ) (one : Sequent) (d : IsTypeDefinition names c f one) (v : IsSmallPremise m symbols j one) where
   says : IsSmallTerm m symbols (app f d.witness)
   says = subst (IsSmallTerm m symbols) d.holds (conclusion-small m symbols one v.is.over v.within)
 

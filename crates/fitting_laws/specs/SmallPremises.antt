@@ -8,7 +8,7 @@ use Rattle.hol_spec.specs.Terms.{Term, bound, constant, app, Variable}
 use Rattle.hol_spec.specs.Sequents.{Sequent, terms_of, type_variables_of, free_variables_of, parameter_count}
 use Rattle.hol_laws.specs.Members.{All-left, All-right}
 use Rattle.lp_spec.specs.Modules.{Declaration}
-use Rattle.module_spec.specs.Scopes.{Symbols, type_tree, Scope, term_tree}
+use Rattle.module_spec.specs.Scopes.{SymbolMap, type_tree, Scope, term_tree}
 use Rattle.module_spec.specs.ProofTrees.{premise_tree}
 use Rattle.module_spec.specs.Rows.{equated_type, left_side, right_side, argument_type, result_type}
 use Rattle.module_laws.specs.ScopeTyping.{TypeOver, TermOver}
@@ -27,7 +27,7 @@ premise_cost = 3 * part_cost
 abbrev pub row_cost : ℕ
 row_cost = 30 * (greatest_parameter_count * greatest_size)
 
-module _ (m : List Declaration) (symbols : Symbols) where
+module _ (m : List Declaration) (symbols : SymbolMap) where
   -- a term, and a type, over the symbols and within the limits
   pub record IsSmallTerm (t : Term) : Type 0 where
     pub over : TermOver m symbols t

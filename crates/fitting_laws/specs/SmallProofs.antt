@@ -22,7 +22,7 @@ use Rattle.hol_laws.specs.TermInstances.{substitute-nothing}
 use Rattle.proof_laws.specs.RuleSequents.{constants-fit}
 use Rattle.lp_spec.specs.Trees.{size}
 use Rattle.lp_spec.specs.Modules.{Declaration, types}
-use Rattle.module_spec.specs.Scopes.{Symbols, type_tree, Scope, term_tree, images}
+use Rattle.module_spec.specs.Scopes.{SymbolMap, type_tree, Scope, term_tree, images}
 use Rattle.module_spec.specs.ProofTrees.{premise_tree, refl_tree, self_proof, constants_scope}
 use Rattle.module_spec.specs.Rows.{equated_type, left_side, right_side, argument_type, result_type, proof_tree}
 use Rattle.module_laws.specs.TermScopeLaws.{term_tree-substitution}
@@ -45,7 +45,7 @@ use Rattle.fitting_laws.specs.SmallParts.{first_law-cost, second_law-cost, first
 use Rattle.fitting_laws.specs.SmallRows.{refl-cost, eq_mp_row-cost, app_thm_row-cost, sym_row-cost, trans_row-cost, fun_ext_row-cost, prop_ext_row-cost, prove_hyp_row-cost, restate_row-cost, subst_row-cost}
 
 -- a term in which constants over the symbols are put for variables
-module _ (m : List Declaration) (symbols : Symbols) (terms : TermPairs) where
+module _ (m : List Declaration) (symbols : SymbolMap) (terms : TermPairs) where
   sub-over : (t : Term) → TermOver m symbols t → AllByRecursion (λ v. TermOver m symbols (term_image terms (v.0, substitute [] v.1))) (free_places t) → TermOver m symbols (sub [] terms t)
   sub-over (free n t) o k = k.0
   sub-over (bound i) o k = tt
@@ -54,7 +54,7 @@ module _ (m : List Declaration) (symbols : Symbols) (terms : TermPairs) where
       (sub-over f o.0 (All-left (λ v. TermOver m symbols (term_image terms (v.0, substitute [] v.1))) (free_places f) (free_places x) k), sub-over x o.1 (All-right (λ v. TermOver m symbols (term_image terms (v.0, substitute [] v.1))) (free_places f) (free_places x) k))
   sub-over (lam t b) o k = (subst (TypeOver m symbols) (sym (substitute-nothing t)) o.0, sub-over b o.1 k)
 
-module _ (m : List Declaration) (lemmas : HasLemmas m) (symbols : Symbols) (scope : Scope) (h : IsPlainScope symbols scope) where
+module _ (m : List Declaration) (lemmas : HasLemmas m) (symbols : SymbolMap) (scope : Scope) (h : IsPlainScope symbols scope) where
   -- a formula of a sequent, over the symbols
   record IsPut (one : Sequent) (t : Term) : Type 0 where
     over : TermOver m symbols t

@@ -15,7 +15,7 @@ use Rattle.hol_laws.specs.Members.{All-weaker, All-left, All-right}
 use Rattle.proof_laws.specs.SymbolGrowth.{symmetric}
 use Rattle.lp_spec.specs.Trees.{Tree, Lam, size}
 use Rattle.lp_spec.specs.Modules.{Declaration, term_of, proof_of}
-use Rattle.module_spec.specs.Scopes.{Symbols, type_tree, Scope, term_tree, under_term, under_proof, set_proof, images}
+use Rattle.module_spec.specs.Scopes.{SymbolMap, type_tree, Scope, term_tree, under_term, under_proof, set_proof, images}
 use Rattle.module_spec.specs.ProofTrees.{premise_tree, abs_tree, refl_tree, eq_mp_tree, fun_ext_tree, app_thm_tree, prop_ext_tree, sym_tree, trans_tree, prove_hyp_tree, subst_tree}
 use Rattle.module_laws.specs.ScopeLaws.{type_tree-substitute}
 use Rattle.module_laws.specs.TermScopeLaws.{term_tree-substitution}
@@ -58,7 +58,7 @@ module _ (m : List Declaration) (f : Term → Tree) (p : Term) (x : Tree) where
       go false e later = let same = ap (λ b. cost m [] (cond b x (f g))) e in omega (arith, same, later, h.0)
 
 -- the sizes of terms owe nothing to what stands for hypotheses
-term_sizes-proofs : (symbols : Symbols) (proofs : Term → Tree) (scope : Scope) (ts : List Term)
+term_sizes-proofs : (symbols : SymbolMap) (proofs : Term → Tree) (scope : Scope) (ts : List Term)
     → term_sizes symbols (with_proofs proofs scope) ts ≡ term_sizes symbols scope ts
 term_sizes-proofs symbols proofs scope [] = refl
 term_sizes-proofs symbols proofs scope (t ∷ ts) =
@@ -66,14 +66,14 @@ term_sizes-proofs symbols proofs scope (t ∷ ts) =
     let rest = term_sizes-proofs symbols proofs scope ts in
     omega (arith, same, rest)
 
-arguments-proofs : (m : List Declaration) (symbols : Symbols) (proofs : Term → Tree) (scope : Scope) (s : Sequent)
+arguments-proofs : (m : List Declaration) (symbols : SymbolMap) (proofs : Term → Tree) (scope : Scope) (s : Sequent)
     → argument_cost symbols (with_proofs proofs scope) m s ≡ argument_cost symbols scope m s
 arguments-proofs m symbols proofs scope s =
     let hypotheses = term_sizes-proofs symbols proofs scope s.hypotheses in
     let conclusion = ap size (term_tree-proofs symbols proofs scope s.conclusion) in
     omega (arith, hypotheses, conclusion)
 
-module _ (m : List Declaration) (lemmas : HasLemmas m) (symbols : Symbols) (scope : Scope) (h : IsPlainScope symbols scope) where
+module _ (m : List Declaration) (lemmas : HasLemmas m) (symbols : SymbolMap) (scope : Scope) (h : IsPlainScope symbols scope) where
   pub refl-cost : (a : HolType) (t : Term) → IsSmallType m symbols a → IsSmallTerm m symbols t → cost m [] (refl_tree symbols scope a t) ≤ row_cost
   refl-cost a t k l =
       let b = ty-cost m symbols scope h a k in

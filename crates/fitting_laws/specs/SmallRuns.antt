@@ -22,7 +22,7 @@ use Rattle.lp_spec.specs.Modules.{Declaration, signature, symbol_declaration, ty
 use Rattle.lp_spec.specs.Lemmas.{lemmas, sym_lemma, trans_lemma}
 use Rattle.lp_spec.specs.Weight.{weight, greatest, bound}
 use Rattle.lp_spec.specs.Check.{Found, Check}
-use Rattle.module_spec.specs.Scopes.{Symbols, type_tree, Scope, term_tree, under_term, under_proof, under_types, unfilled, filled, term_domains, proof_domains, scope_of_types, scope_of_terms, scope_of, domains_of, conclusion_tree, generic_tree}
+use Rattle.module_spec.specs.Scopes.{SymbolMap, type_tree, Scope, term_tree, under_term, under_proof, under_types, unfilled, filled, term_domains, proof_domains, scope_of_types, scope_of_terms, scope_of, domains_of, conclusion_tree, generic_tree}
 use Rattle.module_spec.specs.ProofTrees.{part_tree}
 use Rattle.module_spec.specs.Rows.{proof_tree}
 use Rattle.module_spec.specs.Items.{Content, Item, operator, constant, defined_constant, type_operator, type_abstraction, type_representation, unproved, step, definition_tree, part_definition_tree, declaration_of, declaration, symbols_of}
@@ -66,7 +66,7 @@ replicate-total m (suc k) =
     let rest = replicate-total m k in
     omega (arith, one, rest)
 
-module _ (m : List Declaration) (symbols : Symbols) where
+module _ (m : List Declaration) (symbols : SymbolMap) where
   variables-total : (vs : List Variable) (scope : Scope) → IsPlainScope symbols scope → AllByRecursion (λ v. TypeOver m symbols v.1) vs
       → total m (term_domains symbols vs scope) ≤ 4 * sums variable_size vs
   variables-total [] scope h o = omega arith
@@ -186,7 +186,7 @@ module _ (m : List Declaration) (symbols : Symbols) where
         let body = cost-abstractions m (domains_of symbols s) (proof_tree symbols (scope_of symbols s) kind js premises given) in
         omega (arith, whole, front, last, row, body)
 
-module _ (symbols : Symbols) where
+module _ (symbols : SymbolMap) where
   -- the module has what each of its items says
   items-hold : (m : List Declaration) (before xs : List Item) → length m ≡ length lemmas + length before → AllByRecursion (HoldsItem m symbols) before
       → AreItems symbols before xs

@@ -17,7 +17,7 @@ use Rattle.lp_spec.specs.Trees.{Tree, Var, Sym, lift, size}
 use Rattle.lp_spec.specs.Substitution.{sub, cons}
 use Rattle.lp_spec.specs.Modules.{Declaration, applied, products, types, term_of, term_symbol}
 use Rattle.lp_shape.specs.Sizes.{size-lift}
-use Rattle.module_spec.specs.Scopes.{Symbols, operator_symbol, constant_symbol, generic_type, TypeScope, type_tree, type_trees, Scope, lifted_types, inside, constant_tree, term_tree, under_type, under_types, lifted, under_term, under_terms, under_proof, under_proofs, filler, unfilled, filled, scope_of_types, scope_of_terms, scope_of}
+use Rattle.module_spec.specs.Scopes.{SymbolMap, operator_symbol, constant_symbol, generic_type, TypeScope, type_tree, type_trees, Scope, lifted_types, inside, constant_tree, term_tree, under_type, under_types, lifted, under_term, under_terms, under_proof, under_proofs, filler, unfilled, filled, scope_of_types, scope_of_terms, scope_of}
 use Rattle.hol_spec.specs.Sequents.{Sequent, type_variables_of, free_variables_of}
 use Rattle.module_laws.specs.ScopeLaws.{through_types, type_tree-sub, type_tree-lift, type_tree-substitute}
 use Rattle.module_laws.specs.TermScopeLaws.{type_tree-agrees}
@@ -52,18 +52,18 @@ module _ (pairs : TypePairs) where
       omega (arith, once, all)
 
 -- what stands for a free variable: a variable, or some term of its type
-pub data StandsFor (symbols : Symbols) (v : Variable) : Tree → Type 0 where
+pub data StandsFor (symbols : SymbolMap) (v : Variable) : Tree → Type 0 where
   entry : {n : ℕ} → StandsFor symbols v (Var n)
   filling : (scope : TypeScope) → ((n : Name) → Plain (scope n)) → StandsFor symbols v (filler (type_tree symbols scope v.1))
 
-pub record IsPlainScope (symbols : Symbols) (scope : Scope) : Type 0 where
+pub record IsPlainScope (symbols : SymbolMap) (scope : Scope) : Type 0 where
   pub types : (n : Name) → Plain (scope.types n)
   pub terms : (v : Variable) → StandsFor symbols v (scope.terms v)
   pub proofs : (h : Term) → Plain (scope.proofs h)
   pub bounds : (k : ℕ) → Plain (scope.bounds k)
 
 -- scopes under binders
-stands-lift : (symbols : Symbols) (v : Variable) (t : Tree) → StandsFor symbols v t → StandsFor symbols v (lift 1 t)
+stands-lift : (symbols : SymbolMap) (v : Variable) (t : Tree) → StandsFor symbols v t → StandsFor symbols v (lift 1 t)
 stands-lift symbols v (Var n) entry = entry
 stands-lift symbols v t (filling scope h) =
     subst (StandsFor symbols v) (sym (filler-lift (type_tree symbols scope v.1) ∙ ap filler (type_tree-lift symbols scope v.1)))
@@ -73,11 +73,11 @@ plain-cond : (b : Bool) (x y : Tree) → Plain x → Plain y → Plain (cond b x
 plain-cond true x y h k = h
 plain-cond false x y h k = k
 
-stands-cond : (symbols : Symbols) (v : Variable) (b : Bool) (x y : Tree) → StandsFor symbols v x → StandsFor symbols v y → StandsFor symbols v (cond b x y)
+stands-cond : (symbols : SymbolMap) (v : Variable) (b : Bool) (x y : Tree) → StandsFor symbols v x → StandsFor symbols v y → StandsFor symbols v (cond b x y)
 stands-cond symbols v true x y h k = h
 stands-cond symbols v false x y h k = k
 
-module _ (symbols : Symbols) where
+module _ (symbols : SymbolMap) where
   inside-plain : (scope : Scope) → IsPlainScope symbols scope → IsPlainScope symbols (inside scope)
   inside-plain scope h = record {
     types = λ n. plain-lift (scope.types n) (h.types n);
@@ -141,7 +141,7 @@ domain_sizes-types other [] s = refl
 domain_sizes-types other (n ∷ ns) s = let k = domain_sizes-types other ns (cons (other n) s) in omega (arith, k)
 
 -- a type has at most two nodes for each of its own
-module _ (symbols : Symbols) (scope : TypeScope) (h : (n : Name) → Plain (scope n)) where
+module _ (symbols : SymbolMap) (scope : TypeScope) (h : (n : Name) → Plain (scope n)) where
   mutual
     pub type_tree-size : (t : HolType) → size (type_tree symbols scope t) + 1 ≤ 2 * type_size t
     type_tree-size (variable n) = let l = plain-size (scope n) (h n) in omega (arith, l)
@@ -157,7 +157,7 @@ module _ (symbols : Symbols) (scope : TypeScope) (h : (n : Name) → Plain (scop
         let rest = type_trees-size ts in
         omega (arith, one, rest)
 
-module _ (m : List Declaration) (symbols : Symbols) (scope : TypeScope) (h : (n : Name) → Plain (scope n)) where
+module _ (m : List Declaration) (symbols : SymbolMap) (scope : TypeScope) (h : (n : Name) → Plain (scope n)) where
   mutual
     -- a type
     pub type_tree-cost : (args : List Tree) (t : HolType) → TypeOver m symbols t → cost m args (type_tree symbols scope t) + 2 ≤ 4 * type_size t
@@ -232,7 +232,7 @@ filler-cost m args a c h k =
     let one = size-lift 1 a in
     omega (arith, h, k, same, under, one)
 
-pub stands-cost : (m : List Declaration) (symbols : Symbols) (args : List Tree) (v : Variable) (t : Tree) → TypeOver m symbols v.1 → StandsFor symbols v t
+pub stands-cost : (m : List Declaration) (symbols : SymbolMap) (args : List Tree) (v : Variable) (t : Tree) → TypeOver m symbols v.1 → StandsFor symbols v t
     → cost m args t ≤ 24 * type_size v.1 + 24
 stands-cost m symbols args v (Var n) o entry = omega arith
 stands-cost m symbols args v t o (filling scope h) =
@@ -244,7 +244,7 @@ stands-cost m symbols args v t o (filling scope h) =
     omega (arith, whole, most)
 
 -- A term
-pub term_tree-cost : (m : List Declaration) (symbols : Symbols) (args : List Tree) (scope : Scope) → IsPlainScope symbols scope → (t : Term)
+pub term_tree-cost : (m : List Declaration) (symbols : SymbolMap) (args : List Tree) (scope : Scope) → IsPlainScope symbols scope → (t : Term)
     → TermOver m symbols t → cost m args (term_tree symbols scope t) ≤ 24 * term_size t
 term_tree-cost m symbols args scope h (free n t) o = let l = stands-cost m symbols args (n, t) (scope.terms (n, t)) o (h.terms (n, t)) in omega (arith, l)
 term_tree-cost m symbols args scope h (bound k) o = let l = plain-cost m args (scope.bounds k) (h.bounds k) in omega (arith, l)

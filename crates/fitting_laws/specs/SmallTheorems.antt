@@ -13,7 +13,7 @@ use Rattle.hol_laws.specs.RenamedSequents.{free_variables-known}
 use Rattle.lp_spec.specs.Trees.{Tree, Var, Sym, size}
 use Rattle.lp_spec.specs.Substitution.{sub, cons}
 use Rattle.lp_spec.specs.Modules.{Declaration, types, proof_symbol, symbol_type}
-use Rattle.module_spec.specs.Scopes.{Symbols, type_tree, Scope, term_tree, under_term, under_proof, unfilled, term_domains, proof_domains, scope_of_types, scope_of_terms, scope_of, domains_of, sequent_tree, theorem_tree}
+use Rattle.module_spec.specs.Scopes.{SymbolMap, type_tree, Scope, term_tree, under_term, under_proof, unfilled, term_domains, proof_domains, scope_of_types, scope_of_terms, scope_of, domains_of, sequent_tree, theorem_tree}
 use Rattle.module_laws.specs.ScopeLaws.{through_types, type_tree-sub}
 use Rattle.module_laws.specs.TermScopeLaws.{type_tree-agrees}
 use Rattle.module_laws.specs.SimultaneousArguments.{after, after-append}
@@ -28,7 +28,7 @@ use Rattle.fitting_laws.specs.SmallScopes.{domain_sizes-types}
 abbrev pub part_cost : ℕ
 part_cost = 24 * greatest_size + 8
 
-module _ (symbols : Symbols) (scope : Scope) where
+module _ (symbols : SymbolMap) (scope : Scope) where
   -- the sizes of the types of variables, and of terms
   abbrev pub variable_sizes : List Variable → ℕ
   variable_sizes vs = sums (λ v. size (type_tree symbols scope.types v.1)) vs
@@ -54,7 +54,7 @@ domain_sizes-append s [] es (u ∷ us) vs e = absurd (omega (arith, e))
 domain_sizes-append s (d ∷ ds) es [] vs e = absurd (omega (arith, e))
 domain_sizes-append s (d ∷ ds) es (u ∷ us) vs e = let l = domain_sizes-append (cons u s) ds es us vs (omega (arith, e)) in omega (arith, l)
 
-module _ (m : List Declaration) (G : List Tree) (symbols : Symbols) (other : Scope) (P : Name → Type 0) (Q : Variable → Type 0) where
+module _ (m : List Declaration) (G : List Tree) (symbols : SymbolMap) (other : Scope) (P : Name → Type 0) (Q : Variable → Type 0) where
   terms-sizes : (vs : List Variable) (scope : Scope) (s : ℕ → Tree) → TypesAgree m G symbols other P Q s scope → AllByRecursion (λ v. AllByRecursion P (variable_places v.1)) vs
       → domain_sizes s (term_domains symbols vs scope) (map other.terms vs) ≡ variable_sizes symbols other vs + 2 * length vs
   terms-sizes [] scope s a k = omega arith
@@ -73,7 +73,7 @@ module _ (m : List Declaration) (G : List Tree) (symbols : Symbols) (other : Sco
       omega (arith, same, rest)
 
 -- A theorem in a scope
-pub theorem_tree-cost : (m : List Declaration) (symbols : Symbols) (scope : Scope) (s : Sequent) (symbol : ℕ)
+pub theorem_tree-cost : (m : List Declaration) (symbols : SymbolMap) (scope : Scope) (s : Sequent) (symbol : ℕ)
     → symbol_type m symbol ≡ Some (sequent_tree symbols s) → IsSequent s → HasInstances symbols s
     → cost m [] (theorem_tree scope symbol s) ≤ argument_cost symbols scope m s + total m (map scope.proofs s.hypotheses) + 2 * parameter_count s + 3
 theorem_tree-cost m symbols scope s symbol declared is instances =

@@ -2,14 +2,14 @@
 use Rattle.std.proofs.Common.{ℕ, List, [], ◌∷◌}
 use Rattle.hol_spec.specs.Proofs.{Made, Accepted}
 use Rattle.hol_laws.specs.Members.{All-append}
-use Rattle.article_spec.specs.State.{Place}
+use Rattle.article_spec.specs.State.{Stage}
 use Rattle.article_spec.specs.Run.{accepted, Run}
 use Rattle.article_laws.specs.GrownRuns.{of_names, Grows, moves_of}
 use Rattle.article_laws.specs.KeptRuns.{any_item, every_run}
 use Rattle.fitting_laws.specs.SymbolLimits.{MadeWithin, AreWithin}
 use Rattle.fitting_laws.specs.WithinDefining.{arguments-few, define_const-within, define_const_list-within, define_type_op-within}
 
-abbrev within : Place → List Made → List ℕ → List ℕ → Type 0
+abbrev within : Stage → List Made → List ℕ → List ℕ → Type 0
 within place made exports assumptions = AreWithin made
 
 -- each step is within the limits, and so is what is taken and what is defined

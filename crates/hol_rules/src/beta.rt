@@ -65,6 +65,6 @@ impl Proof {
         ensures made { IfOk result (λ id. IsNumberOf self.new.trees id (put_term (term_at self.old.trees redex.arg.0) (term_at self.old.trees redex.body.0))) }
         ensures grows { Grows self.old self.new }
     {
-        self.terms.instance(redex.body, redex.arg)
+        self.terms.raw_instance(redex.body, redex.arg)
     }
 }

@@ -11,7 +11,7 @@ ghost use Rattle.hol_rules.specs.Conclusions.{Concludes};
 ghost use Rattle.hol_rules.specs.Kept.{step_count};
 ghost use Rattle.hol_rules.specs.Views.{step_view, new_step, AreParametersKnown, IsStepKnown};
 
-use crate::judge::judge;
+use crate::limits::check_limits;
 use crate::made::{Made, Parameters, Step, StepId};
 use crate::proof::Proof;
 use common::{Fault, Memory};
@@ -88,7 +88,7 @@ fn judged_premises(
     ensures refused { IfErr result (λ fault. Fails fault (sequent_in_limits (sequent_at terms.now sequent.now))) }
     ensures noted { AreNoted terms.now params.new }
 {
-    judge(terms, params, sequent)?;
+    check_limits(terms, params, sequent)?;
     let copy = Vec::from_slice(alloc, premises)?;
     Ok(copy)
 }

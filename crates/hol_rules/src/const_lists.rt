@@ -290,7 +290,7 @@ fn with_constants_of(
     ensures keeps { Keeps terms.old terms.new }
 {
     let put = constants_of(alloc, terms, pairs)?;
-    let made = terms.substituted(&[], &put, term);
+    let made = terms.raw_subst(&[], &put, term);
     drop(put);
     made
 }

@@ -221,7 +221,7 @@ pub(crate) fn constant_of(
     };
     let mut pairs = Vec::new(alloc);
     pairs.push((variable, ty))?;
-    let made = terms.substituted(&pairs, &[], constant);
+    let made = terms.raw_subst(&pairs, &[], constant);
     drop(pairs);
     made
 }

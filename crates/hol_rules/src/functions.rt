@@ -88,7 +88,7 @@ impl Proof {
         ensures made { IfOk result (λ id. IsNumberOf self.new.trees id (app_tree (term_at self.old.trees f.0) (term_at self.old.trees x.0))) }
         ensures grows { Grows self.old self.new }
     {
-        self.terms.application(f, x)
+        self.terms.raw_application(f, x)
     }
 
     // The abstraction of a tree over a free variable.
@@ -98,7 +98,7 @@ impl Proof {
         ensures made { IfOk result (λ r. IsNumberOf self.new.trees r (abstraction_tree (variable_view self.old.trees var.now) (term_at self.old.trees id.0))) }
         ensures grows { Grows self.old self.new }
     {
-        self.terms.abstraction(var, id)
+        self.terms.raw_abstraction(var, id)
     }
 
     // Whether a tree has a type.

@@ -162,8 +162,8 @@ fn composed(
     ensures made { IfOk result (λ id. IsNumberOf terms.new id (app (term_at terms.old outer.0) (app (term_at terms.old inner.0) (term_at terms.old x.0)))) }
     ensures keeps { Keeps terms.old terms.new }
 {
-    let part = terms.application(inner, x)?;
-    terms.application(outer, part)
+    let part = terms.raw_application(inner, x)?;
+    terms.raw_application(outer, part)
 }
 
 // The abstractions of two trees over a variable, in an equation at this type.
@@ -183,9 +183,9 @@ fn abstractions(
         (abstraction_tree (variable_view terms.old variable.now) (term_at terms.old right.0)))) }
     ensures keeps { Keeps terms.old terms.new }
 {
-    let left = terms.abstraction(variable, left)?;
-    let right = terms.abstraction(variable, right)?;
-    terms.equation(ty, left, right)
+    let left = terms.raw_abstraction(variable, left)?;
+    let right = terms.raw_abstraction(variable, right)?;
+    terms.raw_equation(ty, left, right)
 }
 
 // The conclusion of the first law in an article of a version, over the variable `a`.
@@ -226,7 +226,7 @@ fn first_law_free(
         return Err(Memory);
     };
     let both = composed(terms, part.abs, part.rep, own)?;
-    terms.equation(variable.ty, both, own)
+    terms.raw_equation(variable.ty, both, own)
 }
 
 // The first law over abstractions of this variable, `(\a. abs (rep a)) = (\a. a)`.
@@ -297,10 +297,10 @@ fn second_law_free(
         return Err(Memory);
     };
     let both = composed(terms, part.rep, part.abs, own)?;
-    let back = terms.equation(variable.ty, both, own)?;
-    let holds = terms.application(predicate, own)?;
+    let back = terms.raw_equation(variable.ty, both, own)?;
+    let holds = terms.raw_application(predicate, own)?;
     let truth = truth_type(alloc, terms)?;
-    terms.equation(truth, holds, back)
+    terms.raw_equation(truth, holds, back)
 }
 
 // The second law over abstractions of this variable, `(\r. rep (abs r) = r) = (\r. f r)`.
@@ -323,8 +323,8 @@ fn second_law_closed(
         return Err(Memory);
     };
     let both = composed(terms, part.rep, part.abs, own)?;
-    let back = terms.equation(variable.ty, both, own)?;
-    let holds = terms.application(predicate, own)?;
+    let back = terms.raw_equation(variable.ty, both, own)?;
+    let holds = terms.raw_application(predicate, own)?;
     let truth = truth_type(alloc, terms)?;
     let ty = function_type(alloc, terms, variable.ty, truth)?;
     abstractions(terms, variable, back, holds, ty)

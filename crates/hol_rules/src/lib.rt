@@ -46,7 +46,7 @@ mod const_lists;
 mod definitions;
 mod functions;
 mod hypotheses;
-mod judge;
+mod limits;
 mod laws;
 mod made;
 mod premises;

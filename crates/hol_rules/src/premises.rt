@@ -116,6 +116,6 @@ impl Proof {
         ensures grows { Grows self.old self.new }
     {
         let ty = self.terms.type_of(left);
-        self.terms.equation(ty, left, right)
+        self.terms.raw_equation(ty, left, right)
     }
 }

@@ -153,7 +153,7 @@ fn linked(terms: &mut TermTable, ids: &[TermId], last: TermId) -> Result<TermId,
     let mut whole = last;
     let mut rest = ids;
     while let [front @ .., id] = rest {
-        whole = terms.application(*id, whole)?;
+        whole = terms.raw_application(*id, whole)?;
         rest = front;
     }
     Ok(whole)

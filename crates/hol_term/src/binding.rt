@@ -62,7 +62,7 @@ impl TermTable {
         ensures unchanged { OnErr result (self.new ≡ self.old) }
     {
         let mark = self.mark();
-        let made = self.instance(body, arg);
+        let made = self.raw_instance(body, arg);
         self.settle(mark, made)
     }
 }

@@ -4,7 +4,7 @@
 //! trees are. A call that makes a term keeps every number that was given before, and after a refusal or want of memory
 //! the table is as before. A term that is made is within the limits of size and depth, or refused for exactly the limit
 //! that it passes; where types do not fit, that is told first. What makes several terms before it judges any calls
-//! `application`, `abstraction`, `instance`, `equation`, `substituted` and `image`, which judge nothing and refuse nothing.
+//! `raw_application` and its like (`raw_abstraction`, `raw_instance`, `raw_equation`, `raw_subst`), or `image`, which judge nothing and refuse nothing.
 //! No binder captures: to put a term into what closed a variable is to substitute it. `subst` puts types and then terms,
 //! each list all at once; pairs that are put many times are made ready once, as a `PutIndex`, for `image`. The free
 //! variables and the type variables of a term are listed in order of first occurrence, each once. Walks come once to each

@@ -132,7 +132,7 @@ impl TermTable {
         let Some(_ty) = self.applied(self.ty(f), self.ty(x)) else {
             return Err(Fault::Refused(Kind::TypeMismatch));
         };
-        let made = self.application(f, x);
+        let made = self.raw_application(f, x);
         self.settle(mark, made)
     }
 
@@ -153,7 +153,7 @@ impl TermTable {
         ensures unchanged { OnErr result (self.new ≡ self.old) }
     {
         let mark = self.mark();
-        let made = self.abstraction(var, id);
+        let made = self.raw_abstraction(var, id);
         self.settle(mark, made)
     }
 
@@ -172,7 +172,7 @@ impl TermTable {
         ensures unchanged { OnErr result (self.new ≡ self.old) }
     {
         let mark = self.mark();
-        let made = self.instance(body, arg);
+        let made = self.raw_instance(body, arg);
         self.settle(mark, made)
     }
 
@@ -195,7 +195,7 @@ impl TermTable {
         if ty != self.type_of(r) {
             return Err(Fault::Refused(Kind::TypeMismatch));
         }
-        let made = self.equation(ty, l, r);
+        let made = self.raw_equation(ty, l, r);
         self.settle(mark, made)
     }
 
@@ -230,7 +230,7 @@ impl TermTable {
     }
 
     /// The application of a tree to another, whatever its size and depth. Where the types do not fit it has none.
-    pub fn application(&mut self, f: TermId, x: TermId) -> Result<TermId, Memory>
+    pub fn raw_application(&mut self, f: TermId, x: TermId) -> Result<TermId, Memory>
         requires function { f.0 < length self.old.terms }
         requires argument { x.0 < length self.old.terms }
         ensures known { IfOk result (λ id. id.0 < length self.new.terms) }
@@ -241,7 +241,7 @@ impl TermTable {
     }
 
     /// The abstraction of a tree over a free variable, whatever its size and depth.
-    pub fn abstraction(&mut self, var: &Variable, id: TermId) -> Result<TermId, Memory>
+    pub fn raw_abstraction(&mut self, var: &Variable, id: TermId) -> Result<TermId, Memory>
         requires variable { var.now.ty.0 < length self.old.types }
         requires body { id.0 < length self.old.terms }
         ensures known { IfOk result (λ r. r.0 < length self.new.terms) }
@@ -282,7 +282,7 @@ impl TermTable {
     }
 
     /// The body of a binder with `arg` put for its variable, whatever its size and depth.
-    pub fn instance(&mut self, body: TermId, arg: TermId) -> Result<TermId, Memory>
+    pub fn raw_instance(&mut self, body: TermId, arg: TermId) -> Result<TermId, Memory>
         requires body { body.0 < length self.old.terms }
         requires arg { arg.0 < length self.old.terms }
         ensures known { IfOk result (λ id. id.0 < length self.new.terms) }
@@ -293,7 +293,7 @@ impl TermTable {
     }
 
     /// The equation of two trees at a type, whatever its size and depth.
-    pub fn equation(&mut self, ty: TypeId, l: TermId, r: TermId) -> Result<TermId, Memory>
+    pub fn raw_equation(&mut self, ty: TypeId, l: TermId, r: TermId) -> Result<TermId, Memory>
         requires ty { ty.0 < length self.old.types }
         requires left { l.0 < length self.old.terms }
         requires right { r.0 < length self.old.terms }
@@ -376,7 +376,7 @@ impl TermTable {
         ensures unchanged { OnErr result ((before : Trees) → IsEarlier before self.old mark → self.new ≡ before) }
     {
         match made {
-            Ok(id) => match self.measures_of(id).judge() {
+            Ok(id) => match self.measures_of(id).check_limits() {
                 Ok(()) => {
                     let _distinct = self.mark();
                     Ok(id)

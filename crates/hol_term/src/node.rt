@@ -46,7 +46,7 @@ pub(crate) struct Entry {
 
 impl Measures {
     // Refuses what passes a limit: for its size, or else for its depth.
-    pub(crate) fn judge(self) -> Result<(), Fault>
+    pub(crate) fn check_limits(self) -> Result<(), Fault>
         ensures size { OnOk result (self.size ≤ greatest_size) }
         ensures depth { OnOk result (self.depth ≤ greatest_depth) }
         ensures refusal { IfErr result (λ fault. Refuses fault self.size self.depth) }

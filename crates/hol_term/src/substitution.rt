@@ -138,7 +138,7 @@ impl TermTable {
         if !self.fits(term_pairs) {
             return Err(Fault::Refused(Kind::BadSubst));
         }
-        let made = self.substituted(type_pairs, term_pairs, id);
+        let made = self.raw_subst(type_pairs, term_pairs, id);
         self.settle(mark, made)
     }
 
@@ -156,7 +156,7 @@ impl TermTable {
     }
 
     /// What the pairs make of a tree, whatever its size and depth.
-    pub fn substituted(
+    pub fn raw_subst(
         &mut self,
         type_pairs: &[(Name, TypeId)],
         term_pairs: &[(Variable, TermId)],
@@ -449,6 +449,6 @@ impl TermTable {
         ensures terms { self.new.terms ≡ self.old.terms }
         ensures keeps { Keeps self.old self.new }
     {
-        self.types.instance(pairs, ty)
+        self.types.raw_subst(pairs, ty)
     }
 }

@@ -36,7 +36,7 @@ pub(crate) struct Entry {
 
 impl Measures {
     // Refuses what passes a limit: for its size, or else for its depth.
-    pub(crate) fn judge(self) -> Result<(), Fault>
+    pub(crate) fn check_limits(self) -> Result<(), Fault>
         ensures within { OnOk result ((t : HolType) → IsMeasured self t → TypeWithin t) }
         ensures refusal { IfErr result (λ fault. (t : HolType) → IsMeasured self t → RefusesType fault t) }
         ensures limit { IfErr result (λ fault. fault ≡ the_fault.Memory → ⊥) }

@@ -39,14 +39,14 @@ impl TypeTable {
         ensures keeps { Keeps self.old self.new }
         ensures refusal { IfErr result (λ fault. RefusesType fault (substitute (pairs_at self.old pairs.now) (tree_at self.old id.0))) }
     {
-        let made = self.instance(pairs, id)?;
-        self.measures_of(made).judge()?;
+        let made = self.raw_subst(pairs, id)?;
+        self.measures_of(made).check_limits()?;
         Ok(made)
     }
 
     /// The type with every variable replaced, all at once, by what the first pair of its name gives, whatever its size
     /// and depth. After want of memory the table may have more types.
-    pub fn instance(&mut self, pairs: &[(Name, TypeId)], root: TypeId) -> Result<TypeId, Memory>
+    pub fn raw_subst(&mut self, pairs: &[(Name, TypeId)], root: TypeId) -> Result<TypeId, Memory>
         requires pairs { ArePairsKnown self.old pairs.now }
         requires root { root.0 < length self.old }
         ensures known { IfOk result (λ r. r.0 < length self.new) }

@@ -102,7 +102,7 @@ impl TypeTable {
         ensures unchanged { OnErr result (self.new ≡ self.old) }
     {
         let measures = self.measures(args);
-        measures.judge()?;
+        measures.check_limits()?;
         let node = Node::Op(name.clone()?, Vec::from_slice(self.alloc, args)?);
         let id = self.add(node, measures)?;
         Ok(id)

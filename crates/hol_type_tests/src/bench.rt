@@ -198,7 +198,7 @@ impl Bench {
         let (general, instance) = self.take_two()?;
         match self.table.match_to(general, instance)? {
             Some(map) => {
-                let made = self.table.instance(map.pairs(), general);
+                let made = self.table.raw_subst(map.pairs(), general);
                 drop(map);
                 Ok(made?)
             }

@@ -13,7 +13,7 @@ use Rattle.lp_spec.specs.Shaped.{IsTerm, IsProof}
 use Rattle.lp_shape.specs.ShapedRows.{shaped-fun_ext}
 use Rattle.hol_spec.specs.Lists.{IsIn}
 use Rattle.hol_laws.specs.Members.{All-each, All-at}
-use Rattle.module_spec.specs.Scopes.{Symbols, type_tree, Scope, lifted, term_tree, under_term, theorem_tree}
+use Rattle.module_spec.specs.Scopes.{SymbolMap, type_tree, Scope, lifted, term_tree, under_term, theorem_tree}
 use Rattle.module_laws.specs.ScopeLaws.{type_tree-lift, term_tree-lift}
 use Rattle.module_laws.specs.TermScopeLaws.{term_tree-close, term_tree-agrees, Agrees}
 use Rattle.module_laws.specs.ScopeTyping.{TermOver, AreInstances-over}
@@ -25,9 +25,9 @@ use Rattle.module_laws.specs.ShapeLaws as laws
 use Rattle.module_laws.specs.ShapeLaws.{IsEntry, entry-weaken, entry-proof}
 use Rattle.module_laws.specs.ShapedScopes.{term_tree-shaped}
 use Rattle.module_laws.specs.ShapedSequents.{HasEntry, under_term-shaped, premise-shaped}
-use Rattle.module_laws.specs.ShapedRows.{Stands, type-here}
+use Rattle.module_laws.specs.ShapedRows.{HasHypotheses, type-here}
 
-module _ (m : List Declaration) (closed : IsClosed m) (symbols : Symbols) (G : List Tree) (scope : Scope) (hypotheses : List Term) (stands : Stands m symbols G scope hypotheses) where
+module _ (m : List Declaration) (closed : IsClosed m) (symbols : SymbolMap) (G : List Tree) (scope : Scope) (hypotheses : List Term) (stands : HasHypotheses m symbols G scope hypotheses) where
   -- under the binder of a variable that isn't free in it, a hypothesis keeps its entry
   fresh-HasEntry : (v : Variable) (h : Term) → TermOver m symbols h → IsFresh v h → HasEntry symbols G scope h
       → HasEntry symbols (term_of (type_tree symbols scope.types v.1) ∷ G) (under_term v scope) h

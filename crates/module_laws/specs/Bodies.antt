@@ -7,7 +7,7 @@ use Rattle.hol_spec.specs.Terms.{Term, constant, app, HasType, type_under, equat
 use Rattle.hol_laws.specs.TermSubstitutionLaws.{application_type-is}
 use Rattle.lp_spec.specs.Modules.{Declaration, symbol_type}
 use Rattle.lp_spec.specs.Lemmas.{sym_lemma, trans_lemma}
-use Rattle.module_spec.specs.Scopes.{Symbols}
+use Rattle.module_spec.specs.Scopes.{SymbolMap}
 use Rattle.module_laws.specs.ScopeTyping.{TypeOver, TermOver}
 use Rattle.module_spec.specs.ProofTrees.{sym_symbol, trans_symbol}
 
@@ -37,12 +37,12 @@ equation-sides a x y h =
     record { left = q.1.1 ∙ ap Some (sym first); right = p.1.1 ∙ ap Some (sym second) }
 
 -- the parts of an equation over the symbols
-pub record PartsOver (m : List Declaration) (symbols : Symbols) (a : HolType) (x y : Term) : Type 0 where
+pub record PartsOver (m : List Declaration) (symbols : SymbolMap) (a : HolType) (x y : Term) : Type 0 where
   pub ty : TypeOver m symbols a
   pub left : TermOver m symbols x
   pub right : TermOver m symbols y
 
-pub equation-over : (m : List Declaration) (symbols : Symbols) (a : HolType) (x y : Term) → TermOver m symbols (equation a x y) → PartsOver m symbols a x y
+pub equation-over : (m : List Declaration) (symbols : SymbolMap) (a : HolType) (x y : Term) → TermOver m symbols (equation a x y) → PartsOver m symbols a x y
 equation-over m symbols a x y h = record { ty = h.0.0.ty.1.0; left = h.0.1; right = h.1 }
 
 -- a module that begins with the two lemmas

@@ -11,7 +11,7 @@ use Rattle.lp_spec.specs.Trees.{Tree}
 use Rattle.lp_spec.specs.Modules.{Declaration}
 use Rattle.lp_spec.specs.Typing.{Typed}
 use Rattle.hol_laws.specs.Members.{is_in-IsIn}
-use Rattle.module_spec.specs.Scopes.{Symbols, Scope, scope_of, conclusion_tree}
+use Rattle.module_spec.specs.Scopes.{SymbolMap, Scope, scope_of, conclusion_tree}
 use Rattle.module_laws.specs.SequentScope.{context_of, IsPremise}
 use Rattle.module_laws.specs.ComputingBodies.{IsDefinition, DefinesPart, DefinesConstant, StandsForVariable}
 use Rattle.hol_spec.specs.Rules.{Parameters}
@@ -21,14 +21,14 @@ use Rattle.module_spec.specs.Rows.{type_or}
 use Rattle.hol_spec.specs.DefinitionLists.{constants_put}
 
 -- these symbols are declared as the theorems of these sequents
-abbrev pub ArePremises : List Declaration → Symbols → List ℕ → List Sequent → Type 0
+abbrev pub ArePremises : List Declaration → SymbolMap → List ℕ → List Sequent → Type 0
 ArePremises m symbols [] [] = Unit {0}
 ArePremises m symbols (k ∷ ks) (s ∷ ss) = IsPremise m symbols k s × ArePremises m symbols ks ss
 ArePremises m symbols [] (s ∷ ss) = ⊥
 ArePremises m symbols (k ∷ ks) [] = ⊥
 
 -- what an inference that defines asks of the module
-abbrev pub Defined : List Declaration → Symbols → StepKind → List ℕ → List Sequent → Parameters → Type 0
+abbrev pub Defined : List Declaration → SymbolMap → StepKind → List ℕ → List Sequent → Parameters → Type 0
 Defined m symbols kinds.DefineConst js premises (Parameters.constant n t) = IsDefinition m symbols n (type_or t) t
 Defined m symbols kinds.DefineConstList js (one ∷ []) (Parameters.constants pairs) =
     AllByRecursion (DefinesConstant m symbols (constants_put pairs)) one.hypotheses × AllByRecursion (StandsForVariable m symbols (constants_put pairs)) (free_variables_of one)
@@ -36,24 +36,24 @@ Defined m symbols kinds.FirstLaw (j ∷ []) (one ∷ []) (Parameters.type_operat
 Defined m symbols kinds.SecondLaw (j ∷ []) (one ∷ []) (Parameters.type_operator names version) = DefinesPart m symbols names j one
 Defined m symbols kind js premises given = Unit {0}
 
-pub record One (m : List Declaration) (symbols : Symbols) (js : List ℕ) (one : Sequent) : Type 0 where
+pub record One (m : List Declaration) (symbols : SymbolMap) (js : List ℕ) (one : Sequent) : Type 0 where
   pub j : ℕ
   pub is : js ≡ j ∷ []
   pub first : IsPremise m symbols j one
 
-pub record Two (m : List Declaration) (symbols : Symbols) (js : List ℕ) (one two : Sequent) : Type 0 where
+pub record Two (m : List Declaration) (symbols : SymbolMap) (js : List ℕ) (one two : Sequent) : Type 0 where
   pub j : ℕ
   pub k : ℕ
   pub is : js ≡ j ∷ k ∷ []
   pub first : IsPremise m symbols j one
   pub second : IsPremise m symbols k two
 
-pub one_premise : (m : List Declaration) (symbols : Symbols) (js : List ℕ) (one : Sequent) → ArePremises m symbols js (one ∷ []) → One m symbols js one
+pub one_premise : (m : List Declaration) (symbols : SymbolMap) (js : List ℕ) (one : Sequent) → ArePremises m symbols js (one ∷ []) → One m symbols js one
 one_premise m symbols [] one h = absurd h
 one_premise m symbols (j ∷ []) one h = record { j = j; is = refl; first = h.0 }
 one_premise m symbols (j ∷ k ∷ js) one h = absurd h.1
 
-pub two_premises : (m : List Declaration) (symbols : Symbols) (js : List ℕ) (one two : Sequent) → ArePremises m symbols js (one ∷ two ∷ [])
+pub two_premises : (m : List Declaration) (symbols : SymbolMap) (js : List ℕ) (one two : Sequent) → ArePremises m symbols js (one ∷ two ∷ [])
     → Two m symbols js one two
 two_premises m symbols [] one two h = absurd h
 two_premises m symbols (j ∷ []) one two h = absurd h.1
@@ -87,5 +87,5 @@ all_are_in gs (g ∷ hs) h e (inl is) = subst (IsIn gs) (sym is) (is_in-IsIn ter
 all_are_in gs (g ∷ hs) h e (inr k) = all_are_in gs hs h (and_parts (is_in term_eq g gs) (list_all (λ h. is_in term_eq h gs) hs) e).1 k
 
 -- a proof in the scope of its sequent
-abbrev pub HasBody : List Declaration → Symbols → (Scope → Tree) → Sequent → Type 0
+abbrev pub HasBody : List Declaration → SymbolMap → (Scope → Tree) → Sequent → Type 0
 HasBody m symbols t s = Typed m (context_of symbols s) (t (scope_of symbols s)) (conclusion_tree symbols s)

@@ -25,7 +25,7 @@ use Rattle.lp_shape.specs.ShapedCalls.{shaped-refl}
 use Rattle.lp_shape.specs.ShapedRows.{near-definition}
 use Rattle.hol_spec.specs.Lists.{IsIn}
 use Rattle.hol_laws.specs.Members.{All-each, All-at}
-use Rattle.module_spec.specs.Scopes.{Symbols, TypeScope, type_tree, Scope, constant_symbol, constant_tree, term_tree, under_types, unfilled, filled, theorem_tree, images}
+use Rattle.module_spec.specs.Scopes.{SymbolMap, TypeScope, type_tree, Scope, constant_symbol, constant_tree, term_tree, under_types, unfilled, filled, theorem_tree, images}
 use Rattle.module_laws.specs.ScopeLaws.{through, term_tree-sub, type_tree-substitute}
 use Rattle.module_laws.specs.TermScopeLaws.{AreInstances, AreClosed, Agrees, term_tree-agrees, term_tree-substitution}
 use Rattle.module_laws.specs.SimultaneousArguments.{after}
@@ -41,7 +41,7 @@ use Rattle.module_laws.specs.ShapeLaws.{Argument}
 use Rattle.module_laws.specs.ShapedScopes.{constant_tree-shaped, term_tree-shaped}
 use Rattle.module_laws.specs.ShapedSequents.{under_types-shaped, filled-shaped}
 use Rattle.module_laws.specs.ShapedTheorems.{ShapedFits, theorem_tree-shaped}
-use Rattle.module_laws.specs.ShapedRows.{Stands, term-here, type-here}
+use Rattle.module_laws.specs.ShapedRows.{HasHypotheses, term-here, type-here}
 
 -- a proof whose found type is near the proofs of a formula's tree
 pub record Shown (m : List Declaration) (G : List Tree) (t p : Tree) : Type 0 where
@@ -82,7 +82,7 @@ given-abstractions {t = t} other [] before h = given-term before h ∙ ap (λ l.
 given-abstractions {t = t} other (n ∷ ns) before h = given-abstractions other ns (before ++ other n ∷ []) h ∙ ap (λ l. Some (put_all l t)) (append_assoc before (other n ∷ []) (map other ns))
 
 -- the definition of a constant, under the binders of its type variables, is a term
-module _ (m : List Declaration) (closed : IsClosed m) (symbols : Symbols) (n : Name) (a : HolType) (t : Term) (d : IsDefinition m symbols n a t) where
+module _ (m : List Declaration) (closed : IsClosed m) (symbols : SymbolMap) (n : Name) (a : HolType) (t : Term) (d : IsDefinition m symbols n a t) where
   -- the constant at its generic type becomes its definition by a head step
   pub constant-head : (scope : Scope) → head_step m (constant_tree symbols scope.types n a) ≡ Some (term_tree symbols scope t)
   constant-head scope =
@@ -104,7 +104,7 @@ module _ (m : List Declaration) (closed : IsClosed m) (symbols : Symbols) (n : N
       ∙ given-abstractions scope.types names [] term
       ∙ ap Some (put_all-after xs (term_tree symbols outer t) ∙ becomes)
 
-module _ (m : List Declaration) (closed : IsClosed m) (symbols : Symbols) (G : List Tree) (scope : Scope) (hypotheses : List Term) (stands : Stands m symbols G scope hypotheses) where
+module _ (m : List Declaration) (closed : IsClosed m) (symbols : SymbolMap) (G : List Tree) (scope : Scope) (hypotheses : List Term) (stands : HasHypotheses m symbols G scope hypotheses) where
   -- reflexivity of what the left side becomes
   refl-computed : (a : HolType) (x y : Term) → TermOver m symbols (equation a x y) → HasType (equation a x y) bool
       → head_step m (term_tree symbols scope x) ≡ Some (term_tree symbols scope y)

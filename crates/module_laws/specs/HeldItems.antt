@@ -8,9 +8,9 @@ use Rattle.lp_spec.specs.Modules.{Declaration, signature, symbol_declaration}
 use Rattle.module_laws.specs.ItemConditions.{AreItems}
 use Rattle.module_laws.specs.ModuleTyping.{HoldsItem, Holds-append, slice_get-last, content-holds}
 use Rattle.module_spec.specs.Items.{Item, declaration, module_of}
-use Rattle.module_spec.specs.Scopes.{Symbols}
+use Rattle.module_spec.specs.Scopes.{SymbolMap}
 
-module _ (symbols : Symbols) where
+module _ (symbols : SymbolMap) where
   abbrev D : Item → Declaration
   D = declaration symbols
 

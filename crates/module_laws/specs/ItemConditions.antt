@@ -11,7 +11,7 @@ use Rattle.hol_spec.specs.Sequents.{Sequent, IsSequent, free_variables_of}
 use Rattle.lp_spec.specs.Modules.{signature}
 use Rattle.lp_spec.specs.Lemmas.{lemmas}
 use Rattle.hol_spec.specs.Lists.{IsIn}
-use Rattle.module_spec.specs.Scopes.{Symbols, operator_symbol, constant_symbol, generic_type}
+use Rattle.module_spec.specs.Scopes.{SymbolMap, operator_symbol, constant_symbol, generic_type}
 use Rattle.hol_spec.specs.Rules.{Rule, Parameters}
 use Rattle.hol_spec.specs.declared.StepKind.{StepKind}
 use Rattle.hol_spec.specs.declared.StepKind.TheVariants as kinds
@@ -134,7 +134,7 @@ IsContent items (unproved s) = SequentTaken items s
 IsContent items (step kind js premises given s) = IsStep items kind js premises given s × DefinesAmong items kind js premises given
 
 -- the symbols tell an item's symbol, and the generic type that it gives
-abbrev pub Tells : Symbols → ℕ → Content → Type 0
+abbrev pub Tells : SymbolMap → ℕ → Content → Type 0
 Tells symbols i (operator n k) = operator_symbol symbols n k ≡ i
 Tells symbols i (constant n a) = (constant_symbol symbols n ≡ i) × (generic_type symbols n ≡ a)
 Tells symbols i (defined_constant n a t) = (constant_symbol symbols n ≡ i) × (generic_type symbols n ≡ a)
@@ -145,7 +145,7 @@ Tells symbols i (unproved s) = Unit {0}
 Tells symbols i (step kind js premises given s) = Unit {0}
 
 -- items after others, each with what it asks of those before it; symbols are counted after the signature and the lemmas
-abbrev pub AreItems : Symbols → List Item → List Item → Type 0
+abbrev pub AreItems : SymbolMap → List Item → List Item → Type 0
 AreItems symbols before [] = Unit {0}
 AreItems symbols before (x ∷ xs) =
     (x.symbol ≡ length signature + (length lemmas + length before)) × Tells symbols x.symbol x.content × IsContent before x.content × AreItems symbols (before ++ x ∷ []) xs

@@ -20,7 +20,7 @@ use Rattle.lp_spec.specs.Shaped.{type_variable, constant, at_type, IsSimple, IsT
 use Rattle.lp_shape.specs.ShapedCalls.{shaped-equation, shaped-refl, shaped-app_thm, shaped-eq_mp, sym_lemma-shaped}
 use Rattle.lp_shape.specs.ShapedPasses.{AreShaped, shaped-WellTyped}
 use Rattle.hol_laws.specs.Members.{All-append, All-weaker}
-use Rattle.module_spec.specs.Scopes.{Symbols, generic_tree, under_types, unfilled, filled, domains_of, scope_of, term_tree, sequent_tree}
+use Rattle.module_spec.specs.Scopes.{SymbolMap, generic_tree, under_types, unfilled, filled, domains_of, scope_of, term_tree, sequent_tree}
 use Rattle.module_laws.specs.ScopeTyping.{TypeOver, TermOver, TypeOver-type_under}
 use Rattle.module_spec.specs.ProofTrees.{sym_symbol, trans_symbol}
 use Rattle.module_laws.specs.Bodies.{HasLemmas}
@@ -98,7 +98,7 @@ module _ (m : List Declaration) where
   operator_type-shaped zero = of_types
   operator_type-shaped (suc k) = of_products of_types (operator_type-shaped k)
 
-module _ (m : List Declaration) (symbols : Symbols) (before : List Item) (holds : AllByRecursion (HoldsItem m symbols) before) (closed : IsClosed m) (has : HasLemmas m) where
+module _ (m : List Declaration) (symbols : SymbolMap) (before : List Item) (holds : AllByRecursion (HoldsItem m symbols) before) (closed : IsClosed m) (has : HasLemmas m) where
   -- the type of a constant is declared
   generic_tree-shaped : (a : HolType) → TypeOver m symbols a → IsDeclared m [] (generic_tree symbols a)
   generic_tree-shaped a o =
@@ -175,7 +175,7 @@ AreShaped-append before [] es h k = subst (λ b. AreShaped b es) (append-nil bef
 AreShaped-append before (d ∷ ds) es h k =
     (h.0, AreShaped-append (before ++ d ∷ []) ds es h.1 (subst (λ b. AreShaped b es) (sym (append_assoc before (d ∷ []) ds)) k))
 
-module _ (symbols : Symbols) where
+module _ (symbols : SymbolMap) where
   -- each of the items is shaped after those before it
   items-shaped : (m : List Declaration) (before xs : List Item) → IsSound m → HasLemmas m → length m ≡ length lemmas + length before
       → AllByRecursion (HoldsItem m symbols) before → AreItems symbols before xs

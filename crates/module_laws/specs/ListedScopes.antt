@@ -15,13 +15,13 @@ use Rattle.lp_binding.specs.Binding.{lift-lift}
 use Rattle.lp_binding.specs.SubstitutionLaws.{lift_one, ren-lift}
 use Rattle.lp_spec.specs.Modules.{select_symbol, bools, term_of, eq_of}
 use Rattle.module_spec.specs.TypeEnc.{parameter}
-use Rattle.module_spec.specs.Scopes.{Symbols, TypeScope, type_tree, Scope, under_type, under_types, under_term, under_terms, under_proof, under_proofs, filler}
+use Rattle.module_spec.specs.Scopes.{SymbolMap, TypeScope, type_tree, Scope, under_type, under_types, under_term, under_terms, under_proof, under_proofs, filler}
 
 -- the scope that lists tell
 abbrev pub told_types : List (Name × Tree) → TypeScope
 told_types entries n = unwrap_or (lookup (name_eq n) entries) bools
 
-abbrev pub told : Symbols → List (Name × Tree) → List (Variable × Tree) → Scope
+abbrev pub told : SymbolMap → List (Name × Tree) → List (Variable × Tree) → Scope
 told symbols entries terms = record {
   types = told_types entries;
   terms = λ v. unwrap_or (lookup (variable_eq v) terms) (filler (type_tree symbols (told_types entries) v.1));

@@ -9,7 +9,7 @@ use Rattle.hol_laws.specs.NameEqualityLaws.{name_eq-refl}
 use Rattle.hol_spec.specs.Primitives.{generic, equality_type, select_type, primitive_arity, primitive_type, arrow_name, bool_name, ind_name, equality_name, select_name}
 use Rattle.lp_spec.specs.Modules.{signature}
 use Rattle.lp_spec.specs.Lemmas.{lemmas}
-use Rattle.module_spec.specs.Scopes.{Symbols, operator_symbol, constant_symbol, generic_type}
+use Rattle.module_spec.specs.Scopes.{SymbolMap, operator_symbol, constant_symbol, generic_type}
 use Rattle.module_spec.specs.Items.{Content, operator, constant, defined_constant, type_operator, type_abstraction, type_representation, unproved, step, Item, is_operator, is_constant, generic_of, first_symbol, first_type, symbols_of}
 use Rattle.module_laws.specs.ItemConditions.{IsContent, Tells, AreItems}
 
@@ -53,7 +53,7 @@ first_type-new test (y ∷ ys) xs x h e = go (test y.content) h (λ k. first_typ
     go true h f = absurd (cc)
     go false h f = f h
 
-module _ (symbols : Symbols) where
+module _ (symbols : SymbolMap) where
   -- a name that isn't primitive has the symbol that the symbols give
   operator-input : (n : Name) (k : ℕ) → primitive_arity n ≡ None → operator_symbol symbols n k ≡ symbols.operator n k
   operator-input n k h = first (name_eq n arrow_name) refl

@@ -21,7 +21,7 @@ use Rattle.lp_spec.specs.Modules.{Declaration, symbol_name, products, term_of}
 use Rattle.module_spec.specs.TypeEnc.{place}
 use Rattle.module_spec.specs.ConstantMeaning.{parameter_places, parameter_places_of_all, numbers, MeansConstant, defined}
 use Rattle.hol_laws.specs.Members.{IsIn-distinct, All-each, All-weaker, map-each, map-twice}
-use Rattle.module_spec.specs.Scopes.{Symbols, constant_symbol, generic_type, type_tree, under_types, unfilled}
+use Rattle.module_spec.specs.Scopes.{SymbolMap, constant_symbol, generic_type, type_tree, under_types, unfilled}
 use Rattle.module_laws.specs.ScopeTyping.{DeclaresConstant}
 use Rattle.module_laws.specs.ToldParameters.{TypesTold, TypesTold-own}
 use Rattle.module_laws.specs.SequentEncoding.{TypeMeant, type_stands, placed-types, types-are}
@@ -87,7 +87,7 @@ generic-in_order g =
     ∙ in-order vs (distinct-IsDistinct name_eq (symmetric name_eq name_eq-Decides) (variable_places g))
 
 -- A symbol means its constant: named by `c_` and the name, and declared at its generic type
-pub constant-means : (d : List Declaration) (symbols : Symbols) (n : Name) → DeclaresConstant d symbols n → IsName n → primitive_type n ≡ None
+pub constant-means : (d : List Declaration) (symbols : SymbolMap) (n : Name) → DeclaresConstant d symbols n → IsName n → primitive_type n ≡ None
     → symbol_name d (constant_symbol symbols n) ≡ codes "c_" ++ mangled n → TypeMeant d symbols (generic_type symbols n)
     → MeansConstant d (constant_symbol symbols n) n (length (type_variables (generic_type symbols n))) (close_type (type_variables (generic_type symbols n)) (generic_type symbols n))
 constant-means d symbols n declared is not_primitive text meant =

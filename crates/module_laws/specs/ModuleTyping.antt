@@ -15,7 +15,7 @@ use Rattle.lp_spec.specs.Modules.{Declaration, symbol_type, symbol_declaration, 
 use Rattle.lp_spec.specs.Conversion.{symbol_definition, definition_of}
 use Rattle.lp_typing.specs.ConversionLaws.{symbol_type-append, symbol_definition-append}
 use Rattle.hol_laws.specs.Members.{All-at, All-weaker}
-use Rattle.module_spec.specs.Scopes.{Symbols, operator_symbol, constant_symbol, generic_type, generic_tree, sequent_tree}
+use Rattle.module_spec.specs.Scopes.{SymbolMap, operator_symbol, constant_symbol, generic_type, generic_tree, sequent_tree}
 use Rattle.module_laws.specs.ScopeTyping.{DeclaresOperator, DeclaresConstant, TypeOver, TypesOver, TermOver}
 use Rattle.module_laws.specs.SequentScope.{SequentOver, IsPremise}
 use Rattle.module_laws.specs.ComputingBodies.{IsDefinition, IsPartPremise, IsPartOperator, IsPartConstant, DefinesPart, DefinesConstant, StandsForVariable}
@@ -33,7 +33,7 @@ use Rattle.hol_spec.specs.Definitions.{TypeNames}
 use Rattle.hol_spec.specs.NewTypes.{abstraction_type, representation_type}
 
 -- what the module has of an item
-abbrev pub Holds : List Declaration → Symbols → ℕ → Content → Type 0
+abbrev pub Holds : List Declaration → SymbolMap → ℕ → Content → Type 0
 Holds m symbols i (operator n k) = DeclaresOperator m symbols n k
 Holds m symbols i (constant n a) = DeclaresConstant m symbols n × (generic_type symbols n ≡ a)
 Holds m symbols i (defined_constant n a t) = DeclaresConstant m symbols n × IsDefinition m symbols n a t
@@ -43,11 +43,11 @@ Holds m symbols i (type_representation names c u j one) = IsPartPremise m symbol
 Holds m symbols i (unproved s) = IsPremise m symbols i s
 Holds m symbols i (step kind js premises given s) = IsPremise m symbols i s
 
-abbrev pub HoldsItem : List Declaration → Symbols → Item → Type 0
+abbrev pub HoldsItem : List Declaration → SymbolMap → Item → Type 0
 HoldsItem m symbols x = Holds m symbols x.symbol x.content
 
 -- further declarations keep what is declared
-module _ (m rest : List Declaration) (symbols : Symbols) where
+module _ (m rest : List Declaration) (symbols : SymbolMap) where
   mutual
     TypeOver-append : (t : HolType) → TypeOver m symbols t → TypeOver (m ++ rest) symbols t
     TypeOver-append (HolType.variable n) h = tt
@@ -101,7 +101,7 @@ module _ (m rest : List Declaration) (symbols : Symbols) where
   Holds-append i (step kind js premises given s) h = IsPremise-append i s h
 
 -- the signature declares the primitive operators and constants
-operator_declared : (m : List Declaration) (symbols : Symbols) (n : Name) (k : ℕ) → primitive_arity n ≡ Some k → DeclaresOperator m symbols n k
+operator_declared : (m : List Declaration) (symbols : SymbolMap) (n : Name) (k : ℕ) → primitive_arity n ≡ Some k → DeclaresOperator m symbols n k
 operator_declared m symbols n k h = first (name_eq n arrow_name) refl
   where
     at : (s j : ℕ) → primitive_arity n ≡ Some j → ((i : ℕ) → operator_symbol symbols n i ≡ s) → symbol_type m s ≡ Some (products (replicate j types) types)
@@ -123,11 +123,11 @@ operator_declared m symbols n k h = first (name_eq n arrow_name) refl
     first false g = second (name_eq n bool_name) refl g
 
 -- a primitive constant is declared at its generic type
-record PrimitiveDeclared (m : List Declaration) (symbols : Symbols) (n : Name) (g : HolType) : Type 0 where
+record PrimitiveDeclared (m : List Declaration) (symbols : SymbolMap) (n : Name) (g : HolType) : Type 0 where
   declared : DeclaresConstant m symbols n
   is : generic_type symbols n ≡ g
 
-constant_declared : (m : List Declaration) (symbols : Symbols) (n : Name) (g : HolType) → primitive_type n ≡ Some g → PrimitiveDeclared m symbols n g
+constant_declared : (m : List Declaration) (symbols : SymbolMap) (n : Name) (g : HolType) → primitive_type n ≡ Some g → PrimitiveDeclared m symbols n g
 constant_declared m symbols n g h = first (name_eq n equality_name) refl
   where
     own : generic_type symbols n ≡ g
@@ -148,7 +148,7 @@ constant_declared m symbols n g h = first (name_eq n equality_name) refl
     first false e = second (name_eq n select_name) refl e
 
 -- what is over what is taken is over what is declared
-module _ (m : List Declaration) (symbols : Symbols) (before : List Item) (holds : AllByRecursion (HoldsItem m symbols) before) where
+module _ (m : List Declaration) (symbols : SymbolMap) (before : List Item) (holds : AllByRecursion (HoldsItem m symbols) before) where
   pub held : (c : Content) → (h : Has before c) → Holds m symbols h.0.symbol c
   held c h = subst (Holds m symbols h.0.symbol) h.2 (All-at (HoldsItem m symbols) before h.0 holds h.1)
 
@@ -304,7 +304,7 @@ slice_get-last (x ∷ xs) ys d =
     let e : suc (length xs) + length ys ≡ suc (length xs + length ys) = omega arith in
     ap (slice_get (x ∷ (xs ++ (ys ++ d ∷ [])))) e ∙ slice_get-last xs ys d
 
-module _ (symbols : Symbols) where
+module _ (symbols : SymbolMap) where
   IsPremise-new : (m : List Declaration) (before : List Item) (i : ℕ) (s : Sequent) (d : Declaration) → AllByRecursion (HoldsItem m symbols) before
       → SequentTaken before s
       → symbol_type (m ++ d ∷ []) i ≡ Some (sequent_tree symbols s) → IsPremise (m ++ d ∷ []) symbols i s

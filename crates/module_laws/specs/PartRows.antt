@@ -38,7 +38,7 @@ use Rattle.lp_spec.specs.Shaped.{IsTerm, IsProof, Close, close_same, IsLaw, IsCa
 use Rattle.lp_spec.specs.Shaped as shape
 use Rattle.lp_shape.specs.Found.{simple-weaken}
 use Rattle.lp_shape.specs.ShapedParts.{IsPartAt, operator-definition, abstraction-definition, representation-definition, first_law-shaped, second_law-shaped, first_law_free-shaped, first_law_free-close, second_law_free-shaped}
-use Rattle.module_spec.specs.Scopes.{Symbols, TypeScope, type_tree, Scope, lifted_types, lifted, inside, constant_tree, term_tree, under_types, under_terms, under_proofs, unfilled, filled, scope_of_types, scope_of_terms, scope_of, theorem_tree, operator_symbol, generic_tree}
+use Rattle.module_spec.specs.Scopes.{SymbolMap, TypeScope, type_tree, Scope, lifted_types, lifted, inside, constant_tree, term_tree, under_types, under_terms, under_proofs, unfilled, filled, scope_of_types, scope_of_terms, scope_of, theorem_tree, operator_symbol, generic_tree}
 use Rattle.module_spec.specs.ProofTrees.{predicate, witness, part_tree, sym_symbol, first_law_tree, second_law_tree, first_law_free_tree, second_law_free_tree}
 use Rattle.module_spec.specs.Items.{part_definition_tree}
 use Rattle.module_spec.specs.Rows.{type_or}
@@ -60,7 +60,7 @@ is_law SecondLaw = true
 is_law kind = false
 
 -- the parts of a premise |- f t
-pub record PartFacts (m : List Declaration) (symbols : Symbols) (c : HolType) (f p : Term) : Type 0 where
+pub record PartFacts (m : List Declaration) (symbols : SymbolMap) (c : HolType) (f p : Term) : Type 0 where
   pub predicate_is : predicate p ≡ f
   pub whole : p ≡ app (predicate p) (witness p)
   pub predicate_typed : HasType (predicate p) (function c bool)
@@ -68,7 +68,7 @@ pub record PartFacts (m : List Declaration) (symbols : Symbols) (c : HolType) (f
   pub predicate_over : TermOver m symbols (predicate p)
   pub witness_over : TermOver m symbols (witness p)
 
-pub part-facts : (m : List Declaration) (symbols : Symbols) (names : TypeNames) (c : HolType) (j : ℕ) (one : Sequent) (d : IsPartPremise m symbols names c j one)
+pub part-facts : (m : List Declaration) (symbols : SymbolMap) (names : TypeNames) (c : HolType) (j : ℕ) (one : Sequent) (d : IsPartPremise m symbols names c j one)
     → PartFacts m symbols c d.f one.conclusion
 part-facts m symbols names c j one d =
     let o : TermOver m symbols (app d.f d.defines.witness) = subst (TermOver m symbols) d.defines.holds d.premise.over.conclusion in
@@ -82,7 +82,7 @@ part-facts m symbols names c j one d =
       witness_over = o.1;
     })
 
-pub part-shut : (m : List Declaration) (symbols : Symbols) (names : TypeNames) (c : HolType) (j : ℕ) (one : Sequent) → IsPartPremise m symbols names c j one
+pub part-shut : (m : List Declaration) (symbols : SymbolMap) (names : TypeNames) (c : HolType) (j : ℕ) (one : Sequent) → IsPartPremise m symbols names c j one
     → IsShut one
 part-shut m symbols names c j one d =
     let k = part-facts m symbols names c j one d in
@@ -194,7 +194,7 @@ pub record ShownLaw (m : List Declaration) (G : List Tree) (t p : Tree) : Type 0
   pub law : IsLaw m G t found
   pub close : Close m 3 (proof_of p) found
 
-module _ (m : List Declaration) (closed : IsClosed m) (symbols : Symbols) (names : TypeNames) (c : HolType) (j : ℕ) (one : Sequent) (d : IsPartPremise m symbols names c j one) where
+module _ (m : List Declaration) (closed : IsClosed m) (symbols : SymbolMap) (names : TypeNames) (c : HolType) (j : ℕ) (one : Sequent) (d : IsPartPremise m symbols names c j one) where
   facts : PartFacts m symbols c d.f one.conclusion
   facts = part-facts m symbols names c j one d
 
@@ -409,7 +409,7 @@ module _ (m : List Declaration) (closed : IsClosed m) (symbols : Symbols) (names
           }
 
 -- The scope of a law: it has type variables alone
-law-scope : (symbols : Symbols) (s : Sequent) → free_variables_of s ≡ [] → s.hypotheses ≡ []
+law-scope : (symbols : SymbolMap) (s : Sequent) → free_variables_of s ≡ [] → s.hypotheses ≡ []
     → scope_of symbols s ≡ filled symbols (under_types (type_variables_of s) unfilled)
 law-scope symbols s e h i = under_proofs (h i) (under_terms (e i) (scope_of_types symbols s))
 
@@ -477,7 +477,7 @@ shut-places (v ∷ vs) e = let l : length (v ∷ vs) ≡ 0 = (Decides-eqb (lengt
 second-free : (names : TypeNames) (c : HolType) (f : Term) → free_places f ≡ [] → free_variables_of (second_law names c f) ≡ []
 second-free names c f e = rw e refl
 
-module _ (m : List Declaration) (closed : IsClosed m) (symbols : Symbols) (names : TypeNames) (j : ℕ) (one : Sequent) (part : DefinesPart m symbols names j one) (s : Sequent) (is : IsSequent s) (over : SequentOver m symbols s) where
+module _ (m : List Declaration) (closed : IsClosed m) (symbols : SymbolMap) (names : TypeNames) (j : ℕ) (one : Sequent) (part : DefinesPart m symbols names j one) (s : Sequent) (is : IsSequent s) (over : SequentOver m symbols s) where
   premise : IsPartPremise m symbols names part.c j one
   premise = part.operator.is
 
@@ -581,7 +581,7 @@ call-size : (ns : List Name) (t : Tree) → 3 ≤ size t → 3 ≤ size (abstrac
 call-size [] t h = h
 call-size (n ∷ ns) t h = omega (arith, call-size ns t h)
 
-module _ (m : List Declaration) (closed : IsClosed m) (symbols : Symbols) (names : TypeNames) (c : HolType) (j : ℕ) (one : Sequent) (d : IsPartPremise m symbols names c j one) where
+module _ (m : List Declaration) (closed : IsClosed m) (symbols : SymbolMap) (names : TypeNames) (c : HolType) (j : ℕ) (one : Sequent) (d : IsPartPremise m symbols names c j one) where
   pub part_definition-big : (ns : List Name) (s : ℕ) → 3 ≤ size (part_definition_tree symbols ns s c j one)
   part_definition-big ns s = call-size ns (part_tree symbols (filled symbols (under_types ns unfilled)) s c (j, one)) (omega arith)
 

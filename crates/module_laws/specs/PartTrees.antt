@@ -28,7 +28,7 @@ use Rattle.lp_spec.specs.Modules.{Declaration, applied, abstractions, types, boo
 use Rattle.lp_spec.specs.Conversion.{symbol_definition}
 use Rattle.lp_spec.specs.HeadSteps.{given, spine_step, head_step}
 use Rattle.lp_shape.specs.ShapedParts.{part_of}
-use Rattle.module_spec.specs.Scopes.{Symbols, operator_symbol, constant_symbol, generic_type, TypeScope, type_tree, type_trees, Scope, lifted_types, lifted, constant_tree, term_tree, under_type, under_types, filler, unfilled, filled, theorem_tree, inside, under_term, under_terms, under_proof, under_proofs}
+use Rattle.module_spec.specs.Scopes.{SymbolMap, operator_symbol, constant_symbol, generic_type, TypeScope, type_tree, type_trees, Scope, lifted_types, lifted, constant_tree, term_tree, under_type, under_types, filler, unfilled, filled, theorem_tree, inside, under_term, under_terms, under_proof, under_proofs}
 use Rattle.module_spec.specs.ProofTrees.{Premise, predicate, witness, part_tree}
 use Rattle.module_spec.specs.Items.{part_definition_tree}
 use Rattle.module_laws.specs.ScopeLaws.{sub-applied, lift_sub, through, same_scope, type_tree-sub, type_tree-lift, term_tree-sub}
@@ -50,7 +50,7 @@ pub record IsShut (one : Sequent) : Type 0 where
   pub predicate : loose (predicate one.conclusion) ≡ 0
   pub witness : loose (witness one.conclusion) ≡ 0
 
-module _ (symbols : Symbols) where
+module _ (symbols : SymbolMap) where
   theorem_tree-sub : (s : ℕ → Tree) (scope : Scope) (j : ℕ) (one : Sequent) → sub s (theorem_tree scope j one) ≡ theorem_tree (through s scope) j one
   theorem_tree-sub s scope j one =
       let A = map scope.types (type_variables_of one) in
@@ -98,7 +98,7 @@ module _ (symbols : Symbols) where
       (same_scope (with_bounds Var (lifted (filled symbols scope))) (filled symbols (lifted_types scope)) (λ n. refl) (λ v. filler-lift (type_tree symbols scope v.1) ∙ ap filler (type_tree-lift symbols scope v.1)) (λ h. refl) (λ k. refl))
 
 -- a term without free variables and loose numbers is alike in scopes that are alike in types
-module _ (symbols : Symbols) where
+module _ (symbols : SymbolMap) where
   pub closed-agree : (d : ℕ) (scope other : Scope) → scope.types ≡ other.types → ((k : ℕ) → k < d → scope.bounds k ≡ other.bounds k) → (t : Term) → AllByRecursion (λ (v : Variable). ⊥) (free_places t) → loose t ≤ d
       → term_tree symbols scope t ≡ term_tree symbols other t
   closed-agree d scope other e b (term.Term.free n t) h l = absurd h.0
@@ -155,11 +155,11 @@ given-part r C F W H other [] before rest = ap (λ l. Some (applied (put_all l (
 given-part r C F W H other (n ∷ ns) before rest =
     given-part r C F W H other ns (before ++ other n ∷ []) rest ∙ ap (λ l. Some (applied (put_all l (part_of r C F W H)) rest)) (append_assoc before (other n ∷ []) (map other ns))
 
-variable_trees : (symbols : Symbols) (other : TypeScope) (ns : List Name) → type_trees symbols other (types_of (map variable ns)) ≡ map other ns
+variable_trees : (symbols : SymbolMap) (other : TypeScope) (ns : List Name) → type_trees symbols other (types_of (map variable ns)) ≡ map other ns
 variable_trees symbols other [] = refl
 variable_trees symbols other (n ∷ ns) = ap (λ l. other n ∷ l) (variable_trees symbols other ns)
 
-module _ (m : List Declaration) (symbols : Symbols) (c : HolType) (j : ℕ) (one : Sequent) (shut : IsShut one) where
+module _ (m : List Declaration) (symbols : SymbolMap) (c : HolType) (j : ℕ) (one : Sequent) (shut : IsShut one) where
   -- the definition with types put for its binders
   part-put : (ns : List Name) (other : TypeScope) → Covers ns other → (r : ℕ)
       → put_all (map other ns) (part_tree symbols (filled symbols (under_types ns unfilled)) r c (j, one)) ≡ part_tree symbols (filled symbols other) r c (j, one)

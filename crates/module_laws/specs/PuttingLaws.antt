@@ -11,12 +11,12 @@ use Rattle.lp_binding.specs.Composition.{sub_var, put_is, ups_put_all, put_all_a
 use Rattle.lp_spec.specs.Substitution.{ups, sub, cons}
 use Rattle.lp_spec.specs.Modules.{term_of}
 use Rattle.lp_binding.specs.Arguments.{put-put_all}
-use Rattle.module_spec.specs.Scopes.{Symbols, type_tree, Scope, inside, term_tree}
+use Rattle.module_spec.specs.Scopes.{SymbolMap, type_tree, Scope, inside, term_tree}
 use Rattle.module_laws.specs.ScopeLaws.{same_scope, through, term_tree-sub, term_tree-lift}
 use Rattle.module_laws.specs.TermScopeLaws.{with_bounds}
 use Rattle.module_laws.specs.SimultaneousArguments.{after, after-append, put-ups, sub-cons_lift}
 
-module _ (symbols : Symbols) where
+module _ (symbols : SymbolMap) where
   -- the tree of a term whose numbers are renamed
   term_tree-rename : (r : ℕ → ℕ) (scope : Scope) (t : Term) → term_tree symbols scope (rename r t) ≡ term_tree symbols (with_bounds (λ k. scope.bounds (r k)) scope) t
   term_tree-rename r scope (free n t) = refl

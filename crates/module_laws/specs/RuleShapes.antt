@@ -15,7 +15,7 @@ use Rattle.lp_spec.specs.Trees.{Tree}
 use Rattle.lp_spec.specs.Modules.{Declaration}
 use Rattle.lp_typing.specs.ConversionLaws.{IsClosed}
 use Rattle.hol_laws.specs.Members.{All-each, All-at, All-append, IsIn-union_left, IsIn-union_right, IsIn-distinct}
-use Rattle.module_spec.specs.Scopes.{Symbols, Scope, term_tree, scope_of, theorem_tree}
+use Rattle.module_spec.specs.Scopes.{SymbolMap, Scope, term_tree, scope_of, theorem_tree}
 use Rattle.module_laws.specs.ScopeTyping.{TermOver}
 use Rattle.module_laws.specs.SequentScope.{context_of, SequentOver}
 use Rattle.module_spec.specs.ProofTrees.{refl_tree, eq_mp_tree, fun_ext_tree, app_thm_tree, prop_ext_tree, sym_tree, trans_tree, prove_hyp_tree, subst_tree, constants_scope}
@@ -28,7 +28,7 @@ use Rattle.module_spec.specs.Rows.{type_or, equated_type, left_side, right_side,
 use Rattle.hol_spec.specs.Rules as rule
 use Rattle.module_laws.specs.BodyTyping.{ArePremises, Defined, one_premise, two_premises, IsIn-without, IsIn-map, all_are_in}
 use Rattle.module_laws.specs.ShapedSequents.{own_shape}
-use Rattle.module_laws.specs.ShapedRows.{Stands, refl-row, assume-row, trans-row, eq_mp-row, sym-row, app_thm-row, restate-row, prop_ext-row, prove_hyp-row}
+use Rattle.module_laws.specs.ShapedRows.{HasHypotheses, refl-row, assume-row, trans-row, eq_mp-row, sym-row, app_thm-row, restate-row, prop_ext-row, prove_hyp-row}
 use Rattle.module_laws.specs.AbstractionRow.{abs_thm-row}
 use Rattle.module_laws.specs.SubstitutionRow.{subst-row}
 use Rattle.module_laws.specs.ComputingRows.{Shown, shown, beta-row, define_const-row, define_const_list-row}
@@ -50,13 +50,13 @@ fresh-all v (h ∷ hs) e =
     (fresh_places v (free_places h) both.0, fresh-all v hs both.1)
 
 -- a shaped proof in the scope of its sequent
-abbrev pub HasShapedBody : List Declaration → Symbols → (Scope → Tree) → Sequent → Type 0
+abbrev pub HasShapedBody : List Declaration → SymbolMap → (Scope → Tree) → Sequent → Type 0
 HasShapedBody m symbols t s = Shown m (context_of symbols s) (t (scope_of symbols s)) (term_tree symbols (scope_of symbols s) s.conclusion)
 
-module _ (m : List Declaration) (closed : IsClosed m) (lemmas : HasLemmas m) (symbols : Symbols) where
+module _ (m : List Declaration) (closed : IsClosed m) (lemmas : HasLemmas m) (symbols : SymbolMap) where
   -- what proves a conclusion wherever the hypotheses are entries proves it in the scope of the sequent
   in_scope : (t : Scope → Tree) (s : Sequent) → IsSequent s → SequentOver m symbols s → (hypotheses : List Term) (conclusion : Term) → s ≡ record { hypotheses = hypotheses; conclusion = conclusion }
-      → ((G : List Tree) (scope : Scope) → Stands m symbols G scope hypotheses → TermOver m symbols conclusion → HasType conclusion bool → Shown m G (t scope) (term_tree symbols scope conclusion)) → HasShapedBody m symbols t s
+      → ((G : List Tree) (scope : Scope) → HasHypotheses m symbols G scope hypotheses → TermOver m symbols conclusion → HasType conclusion bool → Shown m G (t scope) (term_tree symbols scope conclusion)) → HasShapedBody m symbols t s
   in_scope t s is over hypotheses conclusion e f =
       let own = own_shape m closed symbols s is over in
       let hs : s.hypotheses ≡ hypotheses = ap (λ (x : Sequent). x.hypotheses) e in

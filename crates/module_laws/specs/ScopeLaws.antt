@@ -12,7 +12,7 @@ use Rattle.lp_binding.specs.SubstitutionLaws.{lift_one, sub-lift}
 use Rattle.lp_spec.specs.Modules.{applied, term_of}
 use Rattle.hol_laws.specs.Members.{map-twice}
 use Rattle.hol_laws.specs.GenericInstances.{count-substitute_all}
-use Rattle.module_spec.specs.Scopes.{Symbols, operator_symbol, constant_symbol, generic_type, TypeScope, type_tree, type_trees, Scope, lifted_types, lifted, inside, term_tree}
+use Rattle.module_spec.specs.Scopes.{SymbolMap, operator_symbol, constant_symbol, generic_type, TypeScope, type_tree, type_trees, Scope, lifted_types, lifted, inside, term_tree}
 
 -- a tree at arguments after a substitution
 pub sub-applied : (s : ℕ → Tree) (f : Tree) (xs : List Tree) → sub s (applied f xs) ≡ applied (sub s f) (map (sub s) xs)
@@ -47,7 +47,7 @@ inside-through s scope = same_scope (through (ups s) (inside scope)) (inside (th
     go zero = refl
     go (suc k) = sub-lift s (scope.bounds k)
 
-module _ (symbols : Symbols) where
+module _ (symbols : SymbolMap) where
   mutual
     -- substitution in the tree of a type is substitution in its scope
     pub type_tree-sub : (s : ℕ → Tree) (scope : TypeScope) (t : HolType) → sub s (type_tree symbols scope t) ≡ type_tree symbols (through_types s scope) t

@@ -16,47 +16,47 @@ use Rattle.lp_spec.specs.Modules.{Declaration, products, types, symbol_type}
 use Rattle.hol_spec.specs.Lists.{IsIn}
 use Rattle.hol_laws.specs.Members.{IsIn-either}
 use Rattle.hol_laws.specs.GenericInstances.{filled_in, filled_in_all}
-use Rattle.module_spec.specs.Scopes.{Symbols, operator_symbol, constant_symbol, generic_type, TypeScope, type_trees, under_type, under_types, generic_tree}
+use Rattle.module_spec.specs.Scopes.{SymbolMap, operator_symbol, constant_symbol, generic_type, TypeScope, type_trees, under_type, under_types, generic_tree}
 use Rattle.module_laws.specs.TermScopeLaws.{AreInstances}
 use Rattle.module_laws.specs.SimultaneousArguments.{after, sub-cons_lift}
 
 -- a module declares the symbol of an operator with so many arguments, and that of a constant
-abbrev pub DeclaresOperator : List Declaration → Symbols → Name → ℕ → Type 0
+abbrev pub DeclaresOperator : List Declaration → SymbolMap → Name → ℕ → Type 0
 DeclaresOperator m symbols n k = symbol_type m (operator_symbol symbols n k) ≡ Some (products (replicate k types) types)
 
-abbrev pub DeclaresConstant : List Declaration → Symbols → Name → Type 0
+abbrev pub DeclaresConstant : List Declaration → SymbolMap → Name → Type 0
 DeclaresConstant m symbols n = symbol_type m (constant_symbol symbols n) ≡ Some (generic_tree symbols (generic_type symbols n))
 
 -- a type and a term over symbols that a module declares
 abbrev mutual
-  pub TypeOver : List Declaration → Symbols → HolType → Type 0
+  pub TypeOver : List Declaration → SymbolMap → HolType → Type 0
   TypeOver m symbols (variable n) = Unit {0}
   TypeOver m symbols (operator n ts) = DeclaresOperator m symbols n (count ts) × TypesOver m symbols ts
 
-  pub TypesOver : List Declaration → Symbols → HolTypes → Type 0
+  pub TypesOver : List Declaration → SymbolMap → HolTypes → Type 0
   TypesOver m symbols none = Unit {0}
   TypesOver m symbols (more t ts) = TypeOver m symbols t × TypesOver m symbols ts
 
-pub record ConstantOver (m : List Declaration) (symbols : Symbols) (n : Name) (t : HolType) : Type 0 where
+pub record ConstantOver (m : List Declaration) (symbols : SymbolMap) (n : Name) (t : HolType) : Type 0 where
   pub declared : DeclaresConstant m symbols n
   pub instance : Instance (generic_type symbols n) t
   pub ty : TypeOver m symbols t
 
-abbrev pub TermOver : List Declaration → Symbols → Term → Type 0
+abbrev pub TermOver : List Declaration → SymbolMap → Term → Type 0
 TermOver m symbols (free n t) = TypeOver m symbols t
 TermOver m symbols (bound k) = Unit {0}
 TermOver m symbols (constant n t) = ConstantOver m symbols n t
 TermOver m symbols (app f x) = TermOver m symbols f × TermOver m symbols x
 TermOver m symbols (lam t b) = TypeOver m symbols t × TermOver m symbols b
 
-pub AreInstances-over : (m : List Declaration) (symbols : Symbols) (t : Term) → TermOver m symbols t → AreInstances symbols t
+pub AreInstances-over : (m : List Declaration) (symbols : SymbolMap) (t : Term) → TermOver m symbols t → AreInstances symbols t
 AreInstances-over m symbols (free n t) h = tt
 AreInstances-over m symbols (bound k) h = tt
 AreInstances-over m symbols (constant n t) h = h.instance
 AreInstances-over m symbols (app f x) h = (AreInstances-over m symbols f h.0, AreInstances-over m symbols x h.1)
 AreInstances-over m symbols (lam t b) h = AreInstances-over m symbols b h.1
 
-module _ (m : List Declaration) (symbols : Symbols) where
+module _ (m : List Declaration) (symbols : SymbolMap) where
   mutual
     -- the types filled in one over the symbols are over them
     pub TypeOver-filled_in : (f : Name → HolType) (t : HolType) (n : Name) → IsIn (variable_places t) n → TypeOver m symbols (filled_in f t)
@@ -89,7 +89,7 @@ module _ (m : List Declaration) (symbols : Symbols) where
       under t b h zero a e = subst (TypeOver m symbols) (same_Some _ _ e) h
       under t b h (suc k) a e = b k a e
 
-pub length-type_trees : (symbols : Symbols) (scope : TypeScope) (ts : HolTypes) → count ts ≡ length (type_trees symbols scope ts)
+pub length-type_trees : (symbols : SymbolMap) (scope : TypeScope) (ts : HolTypes) → count ts ≡ length (type_trees symbols scope ts)
 length-type_trees symbols scope none = refl
 length-type_trees symbols scope (more t ts) = omega (arith, length-type_trees symbols scope ts)
 

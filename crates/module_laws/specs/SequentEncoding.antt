@@ -29,7 +29,7 @@ use Rattle.module_spec.specs.Enc.{StandsForConstant, StandsForTerm, StandForVari
 use Rattle.hol_spec.specs.Lists.{IsIn}
 use Rattle.hol_laws.specs.Members.{IsIn-left, IsIn-right, IsIn-either, IsIn-distinct, IsIn-distinct_of, All-each, All-at, All-left, All-right, All-append, All-mapped}
 use Rattle.hol_laws.specs.GenericInstances.{filled_in, filled_in_all, Instance-filled_in, type_arguments-filled_in}
-use Rattle.module_spec.specs.Scopes.{Symbols, operator_symbol, constant_symbol, generic_type, TypeScope, type_tree, type_trees, Scope, constant_tree, term_tree, under_term, under_proof, under_proofs, term_domains, proof_domains, scope_of_types, scope_of_terms, scope_of, sequent_tree}
+use Rattle.module_spec.specs.Scopes.{SymbolMap, operator_symbol, constant_symbol, generic_type, TypeScope, type_tree, type_trees, Scope, constant_tree, term_tree, under_term, under_proof, under_proofs, term_domains, proof_domains, scope_of_types, scope_of_terms, scope_of, sequent_tree}
 use Rattle.module_spec.specs.Scopes as scopes
 use Rattle.module_laws.specs.TheoremTyping.{IsFormula, HasInstances, term-IsFormula}
 use Rattle.module_laws.specs.ToldParameters.{TypesTold, TypesTold-lifted, TypesTold-own, TypesTold-terms, TermsTold, TermsTold-lifted, TermsTold-own, parameter-lift}
@@ -95,27 +95,27 @@ module _ (names vs : List Name) (f : Name → HolType) where
 
 -- the symbols of a type and of a term mean what they stand for
 abbrev mutual
-  pub TypeMeant : List Declaration → Symbols → HolType → Type 0
+  pub TypeMeant : List Declaration → SymbolMap → HolType → Type 0
   TypeMeant d symbols (type.HolType.variable n) = Unit {0}
   TypeMeant d symbols (type.HolType.operator n ts) = MeansOperator d (operator_symbol symbols n (count ts)) n (count ts) × TypesMeant d symbols ts
 
-  pub TypesMeant : List Declaration → Symbols → HolTypes → Type 0
+  pub TypesMeant : List Declaration → SymbolMap → HolTypes → Type 0
   TypesMeant d symbols type.HolTypes.none = Unit {0}
   TypesMeant d symbols (type.HolTypes.more t ts) = TypeMeant d symbols t × TypesMeant d symbols ts
 
-pub record ConstantMeant (d : List Declaration) (symbols : Symbols) (n : Name) (t : HolType) : Type 0 where
+pub record ConstantMeant (d : List Declaration) (symbols : SymbolMap) (n : Name) (t : HolType) : Type 0 where
   pub means : MeansConstant d (constant_symbol symbols n) n (length (type_variables (generic_type symbols n))) (close_type (type_variables (generic_type symbols n)) (generic_type symbols n))
   pub instance : Instance (generic_type symbols n) t
   pub ty : TypeMeant d symbols t
 
-abbrev pub TermMeant : List Declaration → Symbols → Term → Type 0
+abbrev pub TermMeant : List Declaration → SymbolMap → Term → Type 0
 TermMeant d symbols (term.Term.free n t) = TypeMeant d symbols t
 TermMeant d symbols (term.Term.bound k) = Unit {0}
 TermMeant d symbols (term.Term.constant n t) = ConstantMeant d symbols n t
 TermMeant d symbols (term.Term.app f x) = TermMeant d symbols f × TermMeant d symbols x
 TermMeant d symbols (term.Term.lam t b) = TypeMeant d symbols t × TermMeant d symbols b
 
-module _ (d : List Declaration) (symbols : Symbols) (names : List Name) where
+module _ (d : List Declaration) (symbols : SymbolMap) (names : List Name) where
   -- what stands for each of these type variables is the binder of its place
   abbrev pub TypesPlaced : Place → TypeScope → Type 0
   TypesPlaced at scope = (n : Name) → IsIn names n → (position_or_len (name_eq n) names < at.type_variables) × (scope n ≡ parameter (depth_of at) (position_or_len (name_eq n) names))
@@ -233,31 +233,31 @@ module _ (d : List Declaration) (symbols : Symbols) (names : List Name) where
     )
 
 -- the free variables of a term whose symbols mean what they stand for have such types
-free_types-meant : (d : List Declaration) (symbols : Symbols) (t : Term) → TermMeant d symbols t → AllByRecursion (λ (v : Variable). TypeMeant d symbols v.1) (free_places t)
+free_types-meant : (d : List Declaration) (symbols : SymbolMap) (t : Term) → TermMeant d symbols t → AllByRecursion (λ (v : Variable). TypeMeant d symbols v.1) (free_places t)
 free_types-meant d symbols (term.Term.free n t) h = (h, tt {0})
 free_types-meant d symbols (term.Term.bound k) h = tt
 free_types-meant d symbols (term.Term.constant n t) h = tt
 free_types-meant d symbols (term.Term.app f x) h = All-append _ (free_places f) (free_places x) (free_types-meant d symbols f h.0) (free_types-meant d symbols x h.1)
 free_types-meant d symbols (term.Term.lam t b) h = free_types-meant d symbols b h.1
 
-all_free_types-meant : (d : List Declaration) (symbols : Symbols) (ts : List Term) → AllByRecursion (TermMeant d symbols) ts → AllByRecursion (λ (v : Variable). TypeMeant d symbols v.1) (flat_map free_places ts)
+all_free_types-meant : (d : List Declaration) (symbols : SymbolMap) (ts : List Term) → AllByRecursion (TermMeant d symbols) ts → AllByRecursion (λ (v : Variable). TypeMeant d symbols v.1) (flat_map free_places ts)
 all_free_types-meant d symbols [] h = tt
 all_free_types-meant d symbols (t ∷ ts) h = All-append _ (free_places t) (flat_map free_places ts) (free_types-meant d symbols t h.0) (all_free_types-meant d symbols ts h.1)
 
 -- the trees of the domains
-abbrev variable_trees : Symbols → List Variable → Scope → List Tree
+abbrev variable_trees : SymbolMap → List Variable → Scope → List Tree
 variable_trees symbols [] scope = []
 variable_trees symbols (v ∷ vs) scope = type_tree symbols scope.types v.1 ∷ variable_trees symbols vs (under_term v scope)
 
-abbrev formula_trees : Symbols → List Term → Scope → List Tree
+abbrev formula_trees : SymbolMap → List Term → Scope → List Tree
 formula_trees symbols [] scope = []
 formula_trees symbols (h ∷ hs) scope = term_tree symbols scope h ∷ formula_trees symbols hs (under_proof h scope)
 
-term_domains-are : (symbols : Symbols) (vs : List Variable) (scope : Scope) → term_domains symbols vs scope ≡ map term_of (variable_trees symbols vs scope)
+term_domains-are : (symbols : SymbolMap) (vs : List Variable) (scope : Scope) → term_domains symbols vs scope ≡ map term_of (variable_trees symbols vs scope)
 term_domains-are symbols [] scope = refl
 term_domains-are symbols (v ∷ vs) scope = ap (λ l. term_of (type_tree symbols scope.types v.1) ∷ l) (term_domains-are symbols vs (under_term v scope))
 
-proof_domains-are : (symbols : Symbols) (hs : List Term) (scope : Scope) → proof_domains symbols hs scope ≡ map proof_of (formula_trees symbols hs scope)
+proof_domains-are : (symbols : SymbolMap) (hs : List Term) (scope : Scope) → proof_domains symbols hs scope ≡ map proof_of (formula_trees symbols hs scope)
 proof_domains-are symbols [] scope = refl
 proof_domains-are symbols (h ∷ hs) scope = ap (λ l. proof_of (term_tree symbols scope h) ∷ l) (proof_domains-are symbols hs (under_proof h scope))
 
@@ -265,15 +265,15 @@ pub types-are : (ns : List Name) → map (λ n. types) ns ≡ replicate (length 
 types-are [] = refl
 types-are (n ∷ ns) = ap (λ l. types ∷ l) (types-are ns)
 
-length-variable_trees : (symbols : Symbols) (vs : List Variable) (scope : Scope) → length vs ≡ length (variable_trees symbols vs scope)
+length-variable_trees : (symbols : SymbolMap) (vs : List Variable) (scope : Scope) → length vs ≡ length (variable_trees symbols vs scope)
 length-variable_trees symbols [] scope = refl
 length-variable_trees symbols (v ∷ vs) scope = ap suc (length-variable_trees symbols vs (under_term v scope))
 
-length-formula_trees : (symbols : Symbols) (hs : List Term) (scope : Scope) → length hs ≡ length (formula_trees symbols hs scope)
+length-formula_trees : (symbols : SymbolMap) (hs : List Term) (scope : Scope) → length hs ≡ length (formula_trees symbols hs scope)
 length-formula_trees symbols [] scope = refl
 length-formula_trees symbols (h ∷ hs) scope = ap suc (length-formula_trees symbols hs (under_proof h scope))
 
-module _ (d : List Declaration) (symbols : Symbols) (names : List Name) where
+module _ (d : List Declaration) (symbols : SymbolMap) (names : List Name) where
   pub placed-types : (at : Place) (scope : TypeScope) → at.type_variables ≡ length names → TypesTold names (depth_of at) scope
       → TypesPlaced d symbols names at scope
   placed-types at scope many told n k =
@@ -353,7 +353,7 @@ module _ (d : List Declaration) (symbols : Symbols) (names : List Name) where
         (conclusion_stands hs (suc l) (under_proof h scope) c (under-types l h scope told) (under-terms l h scope terms) m f)
 
 -- The tree of a sequent stands for its closed form
-pub sequent_tree-Enc : (d : List Declaration) (symbols : Symbols) (s : Sequent) → IsSequent s → SequentWithin s → HasInstances symbols s
+pub sequent_tree-Enc : (d : List Declaration) (symbols : SymbolMap) (s : Sequent) → IsSequent s → SequentWithin s → HasInstances symbols s
     → AllByRecursion (TermMeant d symbols) (terms_of s) → Enc d (closed_form s) (sequent_tree symbols s)
 sequent_tree-Enc d symbols s is within instances meant =
     let names = type_variables_of s in

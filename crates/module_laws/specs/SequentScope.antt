@@ -14,22 +14,22 @@ use Rattle.lp_typing.specs.TypingLaws.{weaken}
 use Rattle.lp_typing.specs.Telescopes.{under}
 use Rattle.lp_typing.specs.SignatureForms.{Typed-arr_of, Typed-term_of}
 use Rattle.hol_laws.specs.Members.{IsIn-distinct_of, All-each, All-at, All-append, All-weaker}
-use Rattle.module_spec.specs.Scopes.{Symbols, type_tree, Scope, inside, term_tree, domains_of, sequent_tree}
+use Rattle.module_spec.specs.Scopes.{SymbolMap, type_tree, Scope, inside, term_tree, domains_of, sequent_tree}
 use Rattle.module_laws.specs.TermScopeLaws.{AreInstances}
 use Rattle.module_laws.specs.ScopeTyping.{TypeOver, TermOver, AreInstances-over}
 use Rattle.module_laws.specs.TheoremTyping.{HasInstances}
 
 -- the context under a sequent's binders
-abbrev pub context_of : Symbols → Sequent → List Tree
+abbrev pub context_of : SymbolMap → Sequent → List Tree
 context_of symbols s = under [] (domains_of symbols s)
 
 -- each symbol of a sequent is declared
-pub record SequentOver (m : List Declaration) (symbols : Symbols) (s : Sequent) : Type 0 where
+pub record SequentOver (m : List Declaration) (symbols : SymbolMap) (s : Sequent) : Type 0 where
   pub hypotheses : AllByRecursion (TermOver m symbols) s.hypotheses
   pub conclusion : TermOver m symbols s.conclusion
 
 -- a symbol of the module is declared as the theorem of a sequent over the symbols
-pub record IsPremise (m : List Declaration) (symbols : Symbols) (symbol : ℕ) (s : Sequent) : Type 0 where
+pub record IsPremise (m : List Declaration) (symbols : SymbolMap) (symbol : ℕ) (s : Sequent) : Type 0 where
   pub declared : symbol_type m symbol ≡ Some (sequent_tree symbols s)
   pub is : IsSequent s
   pub over : SequentOver m symbols s
@@ -38,7 +38,7 @@ pub record IsPremise (m : List Declaration) (symbols : Symbols) (symbol : ℕ) (
 abbrev pub with_proofs : (Term → Tree) → Scope → Scope
 with_proofs proofs scope = record { types = scope.types; terms = scope.terms; proofs = proofs; bounds = scope.bounds }
 
-pub term_tree-proofs : (symbols : Symbols) (proofs : Term → Tree) (scope : Scope) (t : Term)
+pub term_tree-proofs : (symbols : SymbolMap) (proofs : Term → Tree) (scope : Scope) (t : Term)
     → term_tree symbols scope t ≡ term_tree symbols (with_proofs proofs scope) t
 term_tree-proofs symbols proofs scope (free n t) = refl
 term_tree-proofs symbols proofs scope (bound k) = refl
@@ -47,19 +47,19 @@ term_tree-proofs symbols proofs scope (app f x) = ap₂ App (term_tree-proofs sy
 term_tree-proofs symbols proofs scope (lam t b) = ap (Lam (term_of (type_tree symbols scope.types t))) (term_tree-proofs symbols (λ h. lift 1 (proofs h)) (inside scope) b)
 
 -- the free variables of a term over the symbols have types over them
-free_types-over : (m : List Declaration) (symbols : Symbols) (t : Term) → TermOver m symbols t → AllByRecursion (λ v. TypeOver m symbols v.1) (free_places t)
+free_types-over : (m : List Declaration) (symbols : SymbolMap) (t : Term) → TermOver m symbols t → AllByRecursion (λ v. TypeOver m symbols v.1) (free_places t)
 free_types-over m symbols (free n t) h = (h, tt {0})
 free_types-over m symbols (bound k) h = tt
 free_types-over m symbols (constant n t) h = tt
 free_types-over m symbols (app f x) h = All-append _ (free_places f) (free_places x) (free_types-over m symbols f h.0) (free_types-over m symbols x h.1)
 free_types-over m symbols (lam t b) h = free_types-over m symbols b h.1
 
-all_free_types-over : (m : List Declaration) (symbols : Symbols) (ts : List Term) → AllByRecursion (TermOver m symbols) ts
+all_free_types-over : (m : List Declaration) (symbols : SymbolMap) (ts : List Term) → AllByRecursion (TermOver m symbols) ts
     → AllByRecursion (λ v. TypeOver m symbols v.1) (flat_map free_places ts)
 all_free_types-over m symbols [] h = tt
 all_free_types-over m symbols (t ∷ ts) h = All-append _ (free_places t) (flat_map free_places ts) (free_types-over m symbols t h.0) (all_free_types-over m symbols ts h.1)
 
-module _ (m : List Declaration) (symbols : Symbols) (s : Sequent) (over : SequentOver m symbols s) where
+module _ (m : List Declaration) (symbols : SymbolMap) (s : Sequent) (over : SequentOver m symbols s) where
   pub terms-over : AllByRecursion (TermOver m symbols) (terms_of s)
   terms-over = All-append (TermOver m symbols) s.hypotheses (s.conclusion ∷ []) over.hypotheses (over.conclusion, tt {0})
 

@@ -9,7 +9,7 @@ use Rattle.lp_typing.specs.ConversionLaws.{IsClosed}
 use Rattle.lp_spec.specs.Typing.{WellTyped}
 use Rattle.lp_spec.specs.Shaped.{IsTerm, IsProof}
 use Rattle.lp_shape.specs.ShapedPasses.{AreShaped}
-use Rattle.module_spec.specs.Scopes.{Symbols, type_tree, Scope, term_tree, scope_of, sequent_tree, theorem_tree}
+use Rattle.module_spec.specs.Scopes.{SymbolMap, type_tree, Scope, term_tree, scope_of, sequent_tree, theorem_tree}
 use Rattle.module_laws.specs.ScopeTyping.{TermOver}
 use Rattle.module_laws.specs.TheoremTyping.{HasInstances}
 use Rattle.module_laws.specs.SequentScope.{context_of, SequentOver}
@@ -34,7 +34,7 @@ use Rattle.module_laws.specs.PricedModules.{reached-priced}
 -- Translated terms are shaped.
 abbrev pub TermsShaped : Type 0
 TermsShaped =
-    (m : List Declaration) → IsClosed m → (symbols : Symbols) (G : List Tree) (scope : Scope) → ShapedScope m symbols G scope → (t : Term) (a : HolType)
+    (m : List Declaration) → IsClosed m → (symbols : SymbolMap) (G : List Tree) (scope : Scope) → ShapedScope m symbols G scope → (t : Term) (a : HolType)
     → TermOver m symbols t → HasType t a → IsTerm m G (term_tree symbols scope t) (type_tree symbols scope.types a)
 
 pub terms_shaped : TermsShaped
@@ -42,7 +42,7 @@ terms_shaped m closed symbols G scope is t a o h = term_tree-shaped m closed sym
 
 -- The telescope of a sequent is declared, and its scope is shaped.
 abbrev pub SequentsShaped : Type 0
-SequentsShaped = (m : List Declaration) → IsClosed m → (symbols : Symbols) (s : Sequent) → IsSequent s → SequentOver m symbols s → OwnShape m symbols s
+SequentsShaped = (m : List Declaration) → IsClosed m → (symbols : SymbolMap) (s : Sequent) → IsSequent s → SequentOver m symbols s → OwnShape m symbols s
 
 pub sequents_shaped : SequentsShaped
 sequents_shaped m closed symbols s is over = own_shape m closed symbols s is over
@@ -50,7 +50,7 @@ sequents_shaped m closed symbols s is over = own_shape m closed symbols s is ove
 -- A theorem in a scope is a shaped proof of its conclusion.
 abbrev pub TheoremsShaped : Type 0
 TheoremsShaped =
-    (m : List Declaration) (symbols : Symbols) (G : List Tree) (scope : Scope) (s : Sequent) (symbol : ℕ)
+    (m : List Declaration) (symbols : SymbolMap) (G : List Tree) (scope : Scope) (s : Sequent) (symbol : ℕ)
     → symbol_type m symbol ≡ Some (sequent_tree symbols s) → IsSequent s → HasInstances symbols s → ShapedFits m symbols G scope s
     → IsProof m false G (theorem_tree scope symbol s) (proof_of (term_tree symbols scope s.conclusion))
 
@@ -61,7 +61,7 @@ theorems_shaped m symbols G scope s symbol declared is instances fits = theorem_
 -- type definition, whose found type is close to it.
 abbrev pub RulesShaped : Type 0
 RulesShaped =
-    (m : List Declaration) → IsClosed m → HasLemmas m → (symbols : Symbols) (kind : StepKind) (js : List ℕ) (premises : List Sequent) (given : Parameters) (s : Sequent)
+    (m : List Declaration) → IsClosed m → HasLemmas m → (symbols : SymbolMap) (kind : StepKind) (js : List ℕ) (premises : List Sequent) (given : Parameters) (s : Sequent)
     → Rule kind premises given s → has_row kind ≡ true → ArePremises m symbols js premises → Defined m symbols kind js premises given → IsSequent s → SequentOver m symbols s
     → Shown m (context_of symbols s) (proof_tree symbols (scope_of symbols s) kind js premises given) (term_tree symbols (scope_of symbols s) s.conclusion)
     ⊎ ShownLaw m (context_of symbols s) (proof_tree symbols (scope_of symbols s) kind js premises given) (term_tree symbols (scope_of symbols s) s.conclusion)

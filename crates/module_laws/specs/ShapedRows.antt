@@ -13,7 +13,7 @@ use Rattle.lp_typing.specs.ConversionLaws.{IsClosed}
 use Rattle.lp_spec.specs.Shaped.{IsSimple, IsTerm, of_proofs, IsProof, called, under_binder}
 use Rattle.lp_shape.specs.ShapedCalls.{a_type, a_term, a_proof, shaped-call, shaped-refl, shaped-eq_mp, shaped-app_thm}
 use Rattle.hol_spec.specs.Lists.{IsIn}
-use Rattle.module_spec.specs.Scopes.{Symbols, type_tree, Scope, lifted, term_tree, under_proof, set_proof, theorem_tree}
+use Rattle.module_spec.specs.Scopes.{SymbolMap, type_tree, Scope, lifted, term_tree, under_proof, set_proof, theorem_tree}
 use Rattle.module_laws.specs.ScopeLaws.{term_tree-lift}
 use Rattle.module_laws.specs.ScopeTyping.{TypeOver, TermOver}
 use Rattle.module_spec.specs.ProofTrees.{sym_symbol, trans_symbol, trans_tree, eq_mp_tree, sym_tree, app_thm_tree, prop_ext_tree, prove_hyp_tree}
@@ -51,11 +51,11 @@ module _ (m : List Declaration) where
         called (simp lift_zero at c)
 
 -- Under the binders of a sequent: a shaped scope, in which each of these hypotheses is an entry.
-pub record Stands (m : List Declaration) (symbols : Symbols) (G : List Tree) (scope : Scope) (hypotheses : List Term) : Type 0 where
+pub record HasHypotheses (m : List Declaration) (symbols : SymbolMap) (G : List Tree) (scope : Scope) (hypotheses : List Term) : Type 0 where
   pub is : ShapedScope m symbols G scope
   pub proofs : (h : Term) → IsIn hypotheses h → HasEntry symbols G scope h
 
-module _ (m : List Declaration) (closed : IsClosed m) (symbols : Symbols) (G : List Tree) (scope : Scope) (hypotheses : List Term) (stands : Stands m symbols G scope hypotheses) where
+module _ (m : List Declaration) (closed : IsClosed m) (symbols : SymbolMap) (G : List Tree) (scope : Scope) (hypotheses : List Term) (stands : HasHypotheses m symbols G scope hypotheses) where
   -- what proves a formula here
   abbrev pub Proves : Tree → Term → Type 0
   Proves t p = IsProof m false G t (proof_of (term_tree symbols scope p))

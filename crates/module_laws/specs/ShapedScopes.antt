@@ -24,7 +24,7 @@ use Rattle.lp_shape.specs.Found.{simple-weaken}
 use Rattle.hol_spec.specs.Lists.{IsIn}
 use Rattle.hol_laws.specs.Members.{IsIn-distinct, IsIn-distinct_of, All-each, map-twice}
 use Rattle.hol_laws.specs.GenericInstances.{filled_in, substitute-is, type_arguments-filled_in}
-use Rattle.module_spec.specs.Scopes.{Symbols, operator_symbol, constant_symbol, generic_type, TypeScope, type_tree, type_trees, Scope, lifted_types, lifted, inside, constant_tree, term_tree, under_types, unfilled, generic_tree}
+use Rattle.module_spec.specs.Scopes.{SymbolMap, operator_symbol, constant_symbol, generic_type, TypeScope, type_tree, type_trees, Scope, lifted_types, lifted, inside, constant_tree, term_tree, under_types, unfilled, generic_tree}
 use Rattle.module_laws.specs.ScopeLaws.{through_types, type_tree-sub, type_tree-lift, type_tree-substitute}
 use Rattle.module_laws.specs.TermScopeLaws.{type_tree-agrees}
 use Rattle.module_laws.specs.SimultaneousArguments.{after}
@@ -35,18 +35,18 @@ use Rattle.module_laws.specs.ShapeLaws.{term-weaken, Solid-products, constant-at
 abbrev pub ShapedTypes : List Declaration → List Tree → TypeScope → Type 0
 ShapedTypes m G scope = (n : Name) → IsSimple m G (scope n)
 
-pub record ShapedScope (m : List Declaration) (symbols : Symbols) (G : List Tree) (scope : Scope) : Type 0 where
+pub record ShapedScope (m : List Declaration) (symbols : SymbolMap) (G : List Tree) (scope : Scope) : Type 0 where
   pub types : ShapedTypes m G scope.types
   pub terms : (v : Variable) → TypeOver m symbols v.1 → IsTerm m G (scope.terms v) (type_tree symbols scope.types v.1)
 
 -- what stands for each bound number is a term of its binder's type
-abbrev pub ShapedBounds : List Declaration → Symbols → List Tree → Scope → List HolType → Type 0
+abbrev pub ShapedBounds : List Declaration → SymbolMap → List Tree → Scope → List HolType → Type 0
 ShapedBounds m symbols G scope binders = (k : ℕ) (a : HolType) → slice_get binders k ≡ Some a → IsTerm m G (scope.bounds k) (type_tree symbols scope.types a)
 
 Solid-replicate : (k : ℕ) → Solid (products (replicate k types) types)
 Solid-replicate k = Solid-products (replicate k types) types tt
 
-module _ (m : List Declaration) (G : List Tree) (symbols : Symbols) (scope : TypeScope) (is : ShapedTypes m G scope) where
+module _ (m : List Declaration) (G : List Tree) (symbols : SymbolMap) (scope : TypeScope) (is : ShapedTypes m G scope) where
   mutual
     -- the tree of a type is a simple type
     pub type_tree-shaped : (t : HolType) → TypeOver m symbols t → IsSimple m G (type_tree symbols scope t)
@@ -60,7 +60,7 @@ module _ (m : List Declaration) (G : List Tree) (symbols : Symbols) (scope : Typ
     type_trees-shaped none h = tt
     type_trees-shaped (more t ts) h = (type_tree-shaped t h.0, type_trees-shaped ts h.1)
 
-module _ (m : List Declaration) (closed : IsClosed m) (symbols : Symbols) where
+module _ (m : List Declaration) (closed : IsClosed m) (symbols : SymbolMap) where
   -- a scope under a binder more
   pub lifted-shaped : (G : List Tree) (A : Tree) (scope : Scope) → ShapedScope m symbols G scope → ShapedScope m symbols (A ∷ G) (lifted scope)
   lifted-shaped G A scope h = record {

@@ -18,7 +18,7 @@ use Rattle.lp_shape.specs.ShapedCalls.{shaped-equation}
 use Rattle.lp_shape.specs.Found.{simple-weaken}
 use Rattle.hol_spec.specs.Lists.{IsIn}
 use Rattle.hol_laws.specs.Members.{All-each, All-weaker}
-use Rattle.module_spec.specs.Scopes.{Symbols, TypeScope, type_tree, Scope, lifted_types, lifted, term_tree, under_type, under_types, under_term, under_terms, under_proof, under_proofs, unfilled, filler, filled, term_domains, proof_domains, scope_of_types, scope_of_terms, scope_of, domains_of, conclusion_tree, theorem_tree}
+use Rattle.module_spec.specs.Scopes.{SymbolMap, TypeScope, type_tree, Scope, lifted_types, lifted, term_tree, under_type, under_types, under_term, under_terms, under_proof, under_proofs, unfilled, filler, filled, term_domains, proof_domains, scope_of_types, scope_of_terms, scope_of, domains_of, conclusion_tree, theorem_tree}
 use Rattle.module_laws.specs.ScopeLaws.{type_tree-lift, term_tree-lift}
 use Rattle.module_laws.specs.SimultaneousArguments.{under-append}
 use Rattle.module_laws.specs.ScopeTyping.{TypeOver, TermOver}
@@ -28,11 +28,11 @@ use Rattle.module_laws.specs.ShapedScopes.{ShapedTypes, ShapedScope, lifted-shap
 use Rattle.module_laws.specs.ShapedTheorems.{theorem_tree-shaped}
 
 -- what stands for a hypothesis is an entry of the context that proves it
-abbrev pub HasEntry : Symbols → List Tree → Scope → Term → Type 0
+abbrev pub HasEntry : SymbolMap → List Tree → Scope → Term → Type 0
 HasEntry symbols G scope h = IsEntry G (scope.proofs h) (term_tree symbols scope h)
 
 -- what a sequent's own scope has
-pub record OwnShape (m : List Declaration) (symbols : Symbols) (s : Sequent) : Type 0 where
+pub record OwnShape (m : List Declaration) (symbols : SymbolMap) (s : Sequent) : Type 0 where
   pub domains : AreDeclared m [] (domains_of symbols s)
   pub scope : ShapedScope m symbols (context_of symbols s) (scope_of symbols s)
   pub proofs : (h : Term) → IsIn s.hypotheses h → HasEntry symbols (context_of symbols s) (scope_of symbols s) h
@@ -51,7 +51,7 @@ module _ (m : List Declaration) (closed : IsClosed m) where
       of_function (of_constant select functions)
       (of_binder ha bool (shaped-equation m inner (of_entry refl refl inner) (of_entry refl refl inner)))
 
-  module _ (symbols : Symbols) where
+  module _ (symbols : SymbolMap) where
     under_type-shaped : (G : List Tree) (n : Name) (scope : TypeScope) → ShapedTypes m G scope → ShapedTypes m (types ∷ G) (under_type n scope)
     under_type-shaped G n scope h k = go (name_eq k n)
       where

@@ -13,7 +13,7 @@ use Rattle.lp_spec.specs.Shaped.{IsSimple, IsTerm, IsProof, call, called}
 use Rattle.hol_spec.specs.Lists.{IsIn}
 use Rattle.hol_laws.specs.Members.{IsIn-left, IsIn-right, All-each, All-at}
 use Rattle.hol_laws.specs.RenamedSequents.{free_variables-known}
-use Rattle.module_spec.specs.Scopes.{Symbols, type_tree, Scope, term_tree, under_term, under_proof, unfilled, term_domains, proof_domains, scope_of_types, scope_of_terms, scope_of, domains_of, conclusion_tree, sequent_tree, theorem_tree}
+use Rattle.module_spec.specs.Scopes.{SymbolMap, type_tree, Scope, term_tree, under_term, under_proof, unfilled, term_domains, proof_domains, scope_of_types, scope_of_terms, scope_of, domains_of, conclusion_tree, sequent_tree, theorem_tree}
 use Rattle.module_laws.specs.ScopeLaws.{through_types, type_tree-sub}
 use Rattle.module_laws.specs.TermScopeLaws.{type_tree-agrees}
 use Rattle.module_laws.specs.SimultaneousArguments.{after, after-append}
@@ -22,12 +22,12 @@ use Rattle.module_laws.specs.TheoremTyping.{IsFormula, HasInstances, TypesAgree,
 use Rattle.module_laws.specs.ShapeLaws.{Argument, a_type, a_term, AreAfter, AreAfter-append, shaped-at, Solid-products}
 
 -- what stands for a sequent's type variables, free variables and hypotheses is shaped as it has to be
-pub record ShapedFits (m : List Declaration) (symbols : Symbols) (G : List Tree) (scope : Scope) (s : Sequent) : Type 0 where
+pub record ShapedFits (m : List Declaration) (symbols : SymbolMap) (G : List Tree) (scope : Scope) (s : Sequent) : Type 0 where
   pub types : AllByRecursion (λ n. IsSimple m G (scope.types n)) (type_variables_of s)
   pub terms : AllByRecursion (λ v. IsTerm m G (scope.terms v) (type_tree symbols scope.types v.1)) (free_variables_of s)
   pub proofs : AllByRecursion (λ h. Argument m G (scope.proofs h) (proof_of (term_tree symbols scope h))) s.hypotheses
 
-module _ (m : List Declaration) (G : List Tree) (symbols : Symbols) (other : Scope) (P : Name → Type 0) (Q : Variable → Type 0) where
+module _ (m : List Declaration) (G : List Tree) (symbols : SymbolMap) (other : Scope) (P : Name → Type 0) (Q : Variable → Type 0) where
   types-after : (ns : List Name) (s : ℕ → Tree) → AllByRecursion (λ n. IsSimple m G (other.types n)) ns → AreAfter m G s (map (λ n. types) ns) (map other.types ns)
   types-after [] s h = tt
   types-after (n ∷ ns) s h = (a_type h.0, types-after ns (cons (other.types n) s) h.1)
@@ -50,7 +50,7 @@ module _ (m : List Declaration) (G : List Tree) (symbols : Symbols) (other : Sco
     proofs-after ps (under_proof p scope) (cons (other.proofs p) s) (TypesAgree-under m G symbols other P Q s (other.proofs p) scope a) (TermsAgree-under m G symbols other P Q s (other.proofs p) scope b) f.1 h.1,
   )
 
-pub theorem_tree-shaped : (m : List Declaration) (symbols : Symbols) (G : List Tree) (scope : Scope) (s : Sequent) (symbol : ℕ)
+pub theorem_tree-shaped : (m : List Declaration) (symbols : SymbolMap) (G : List Tree) (scope : Scope) (s : Sequent) (symbol : ℕ)
     → symbol_type m symbol ≡ Some (sequent_tree symbols s) → IsSequent s → HasInstances symbols s → ShapedFits m symbols G scope s
     → IsProof m false G (theorem_tree scope symbol s) (proof_of (term_tree symbols scope s.conclusion))
 theorem_tree-shaped m symbols G scope s symbol declared is instances fits =

@@ -19,7 +19,7 @@ use Rattle.lp_spec.specs.declared.form.Form.{Form}
 use Rattle.lp_spec.specs.declared.form.Form.TheVariants.{Symbol, Def, Thm}
 use Rattle.lp_spec.specs.HeadSteps.{head_step}
 use Rattle.lp_shape.specs.HeadStepLaws.{head_step-Steps}
-use Rattle.module_spec.specs.Scopes.{Symbols, domains_of}
+use Rattle.module_spec.specs.Scopes.{SymbolMap, domains_of}
 use Rattle.module_laws.specs.SequentScope.{SequentOver, Typed-abstraction}
 use Rattle.module_laws.specs.Bodies.{HasLemmas}
 use Rattle.hol_spec.specs.Rules.{Rule, Parameters}
@@ -200,7 +200,7 @@ module _ (m : List Declaration) where
     declared-context (a ∷ domains) c h = declared-context domains (entry c (declared-typed (IsSound-closed m sound) h.0)) h.1
 
     -- Bodies typed, by the shapes
-    pub body-typed : HasLemmas m → (symbols : Symbols) (kind : StepKind) (js : List ℕ) (premises : List Sequent) (given : Parameters) (s : Sequent)
+    pub body-typed : HasLemmas m → (symbols : SymbolMap) (kind : StepKind) (js : List ℕ) (premises : List Sequent) (given : Parameters) (s : Sequent)
         → Rule kind premises given s → has_row kind ≡ true → ArePremises m symbols js premises → Defined m symbols kind js premises given → IsSequent s → SequentOver m symbols s
         → HasBody m symbols (λ scope. proof_tree symbols scope kind js premises given) s
     body-typed lemmas symbols kind js premises given s r row p d is over =

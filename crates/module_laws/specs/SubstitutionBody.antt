@@ -9,11 +9,11 @@ use Rattle.hol_spec.specs.TermSubstitution.{TermPairs, term_image, sub, AreFitti
 use Rattle.hol_laws.specs.TermSubstitutionLaws.{type_under-term_image}
 use Rattle.lp_spec.specs.Modules.{Declaration}
 use Rattle.hol_laws.specs.Members.{All-append}
-use Rattle.module_spec.specs.Scopes.{Symbols}
+use Rattle.module_spec.specs.Scopes.{SymbolMap}
 use Rattle.module_laws.specs.TermScopeLaws.{AreClosed}
 use Rattle.module_laws.specs.ScopeTyping.{TypeOver, TypesOver, TermOver, TypeOver-type_under}
 
-module _ (m : List Declaration) (symbols : Symbols) (pairs : TypePairs) (terms : TermPairs) (fitting : AreFitting terms) where
+module _ (m : List Declaration) (symbols : SymbolMap) (pairs : TypePairs) (terms : TermPairs) (fitting : AreFitting terms) where
   mutual
     -- where a type with types put is over the symbols, so are the types put
     pub images-over : (t : HolType) → TypeOver m symbols (substitute pairs t) → AllByRecursion (λ n. TypeOver m symbols (image pairs n)) (variable_places t)

@@ -14,7 +14,7 @@ use Rattle.lp_typing.specs.ConversionLaws.{IsClosed}
 use Rattle.lp_spec.specs.Shaped.{IsTerm, IsProof}
 use Rattle.hol_spec.specs.Lists.{IsIn}
 use Rattle.hol_laws.specs.Members.{IsIn-distinct_of, All-each, All-at}
-use Rattle.module_spec.specs.Scopes.{Symbols, Scope, term_tree, images}
+use Rattle.module_spec.specs.Scopes.{SymbolMap, Scope, term_tree, images}
 use Rattle.module_laws.specs.ScopeLaws.{type_tree-substitute}
 use Rattle.module_laws.specs.TermScopeLaws.{term_tree-substitution}
 use Rattle.module_laws.specs.ScopeTyping.{TermOver, AreInstances-over}
@@ -24,9 +24,9 @@ use Rattle.module_laws.specs.SequentScope.{SequentOver, SequentOver-instances, I
 use Rattle.module_laws.specs.ShapeLaws as laws
 use Rattle.module_laws.specs.ShapeLaws.{entry-proof, Argument}
 use Rattle.module_laws.specs.ShapedTheorems.{ShapedFits, theorem_tree-shaped}
-use Rattle.module_laws.specs.ShapedRows.{Stands, term-here, type-here}
+use Rattle.module_laws.specs.ShapedRows.{HasHypotheses, term-here, type-here}
 
-module _ (m : List Declaration) (closed : IsClosed m) (symbols : Symbols) (G : List Tree) (scope : Scope) (hypotheses : List Term) (stands : Stands m symbols G scope hypotheses) where
+module _ (m : List Declaration) (closed : IsClosed m) (symbols : SymbolMap) (G : List Tree) (scope : Scope) (hypotheses : List Term) (stands : HasHypotheses m symbols G scope hypotheses) where
   -- the images fit the premise
   images-fit : (pairs : TypePairs) (terms : TermPairs) → AreFitting terms → (one : Sequent) → SequentOver m symbols one → AllByRecursion (λ t. TermOver m symbols (sub pairs terms t)) (terms_of one)
       → ((h : Term) → IsIn one.hypotheses h → IsIn hypotheses (sub pairs terms h)) → ShapedFits m symbols G (images symbols pairs terms scope) one

@@ -15,7 +15,7 @@ use Rattle.lp_binding.specs.SubstitutionLaws.{sub-lift}
 use Rattle.lp_spec.specs.Modules.{Declaration, products, proof_of}
 use Rattle.hol_spec.specs.Lists.{IsIn}
 use Rattle.hol_laws.specs.Members.{IsIn-left, IsIn-right, All-each, All-at}
-use Rattle.module_spec.specs.Scopes.{Symbols, Scope, lifted, term_tree, under_proof, under_proofs, unfilled, scope_of_types, scope_of_terms, proof_domains, conclusion_tree, images, TypeScope, type_tree, under_types, under_terms, filled}
+use Rattle.module_spec.specs.Scopes.{SymbolMap, Scope, lifted, term_tree, under_proof, under_proofs, unfilled, scope_of_types, scope_of_terms, proof_domains, conclusion_tree, images, TypeScope, type_tree, under_types, under_terms, filled}
 use Rattle.module_laws.specs.ScopeLaws.{same_scope, through, type_tree-lift, term_tree-sub, term_tree-lift, type_tree-sub, type_tree-substitute}
 use Rattle.module_laws.specs.TermScopeLaws.{AreClosed, AreInstances, Agrees, term_tree-agrees, term_tree-substitution, type_tree-agrees}
 use Rattle.module_laws.specs.SimultaneousArguments.{after, after-append}
@@ -26,15 +26,15 @@ use Rattle.module_laws.specs.PuttingLaws.{put_all-after}
 use Rattle.hol_spec.specs.Types.{HolType, variable_places}
 
 -- the product over the proofs of formulas, which ends in the proofs of a conclusion
-abbrev pub statement_tree : Symbols → List Term → Term → Scope → Tree
+abbrev pub statement_tree : SymbolMap → List Term → Term → Scope → Tree
 statement_tree symbols [] c scope = proof_of (term_tree symbols scope c)
 statement_tree symbols (h ∷ hs) c scope = Pi (proof_of (term_tree symbols scope h)) (statement_tree symbols hs c (lifted scope))
 
 -- what follows a sequent's products over type variables and free variables
-abbrev pub rest_tree : Symbols → Sequent → Tree
+abbrev pub rest_tree : SymbolMap → Sequent → Tree
 rest_tree symbols s = products (proof_domains symbols s.hypotheses (scope_of_terms symbols s)) (conclusion_tree symbols s)
 
-module _ (symbols : Symbols) where
+module _ (symbols : SymbolMap) where
   -- a statement owes nothing to what stands for hypotheses
   statement-proofs : (hs : List Term) (c : Term) (scope : Scope) (proofs : Term → Tree) → statement_tree symbols hs c scope ≡ statement_tree symbols hs c (record { types = scope.types; terms = scope.terms; proofs = proofs; bounds = scope.bounds })
   statement-proofs [] c scope proofs = ap proof_of (term_tree-proofs symbols proofs scope c)
@@ -68,7 +68,7 @@ module _ (symbols : Symbols) where
         (statement-agrees hs c (lifted scope) (lifted other) (record { types = λ n p. ap (lift 1) (a.types n p); terms = λ v q. ap (lift 1) (a.terms v q); bounds = λ k l. absurd (omega (arith, l)) }) f.1 g)
 
 -- what a statement is in a scope that fits a sequent: its rest with what stands there for its variables put in
-pub rest-put_all : (m : List Declaration) (symbols : Symbols) (other : Scope) (s : Sequent) → IsSequent s → HasInstances symbols s
+pub rest-put_all : (m : List Declaration) (symbols : SymbolMap) (other : Scope) (s : Sequent) → IsSequent s → HasInstances symbols s
     → put_all (map other.types (type_variables_of s) ++ map other.terms (free_variables_of s)) (rest_tree symbols s) ≡ statement_tree symbols s.hypotheses s.conclusion other
 rest-put_all m symbols other s is instances =
     let P = IsIn (type_variables_of s) in
@@ -91,13 +91,13 @@ rest-put_all m symbols other s is instances =
     (record { types = types_two; terms = terms_two; bounds = λ k l. absurd (omega (arith, l)) }) formulas conclusion
 
 -- under a binder more, what stands for the images is lifted
-images-lifted : (symbols : Symbols) (pairs : TypePairs) (terms : TermPairs) (scope : Scope)
+images-lifted : (symbols : SymbolMap) (pairs : TypePairs) (terms : TermPairs) (scope : Scope)
     → lifted (images symbols pairs terms scope) ≡ images symbols pairs terms (lifted scope)
 images-lifted symbols pairs terms scope =
     same_scope (lifted (images symbols pairs terms scope)) (images symbols pairs terms (lifted scope))
     (λ n. type_tree-lift symbols scope.types (image pairs n)) (λ v. term_tree-lift symbols scope (term_image terms (v.0, substitute pairs v.1))) (λ h. refl) (λ k. refl)
 
-substituted-statement : (symbols : Symbols) (pairs : TypePairs) (terms : TermPairs) → AreClosed terms → (hs : List Term) (c : Term) (scope : Scope)
+substituted-statement : (symbols : SymbolMap) (pairs : TypePairs) (terms : TermPairs) → AreClosed terms → (hs : List Term) (c : Term) (scope : Scope)
     → AllByRecursion (AreInstances symbols) hs → AreInstances symbols c
     → statement_tree symbols hs c (images symbols pairs terms scope) ≡ statement_tree symbols (map (sub pairs terms) hs) (sub pairs terms c) scope
 substituted-statement symbols pairs terms closed [] c scope i j = ap proof_of (sym (term_tree-substitution symbols pairs terms closed scope c j))
@@ -108,7 +108,7 @@ substituted-statement symbols pairs terms closed (h ∷ hs) c scope i j =
 -- Translation of substitution for a sequent: what follows its products over type variables and free variables, with the translated images put
 -- in, is the product over the proofs of the substituted hypotheses, one for each also where two become equal, which ends in the proofs of the
 -- substituted conclusion.
-pub sequent-substitution : (m : List Declaration) (symbols : Symbols) (pairs : TypePairs) (terms : TermPairs) → AreClosed terms → (scope : Scope) (s : Sequent)
+pub sequent-substitution : (m : List Declaration) (symbols : SymbolMap) (pairs : TypePairs) (terms : TermPairs) → AreClosed terms → (scope : Scope) (s : Sequent)
     → IsSequent s → HasInstances symbols s
     → put_all (map (images symbols pairs terms scope).types (type_variables_of s) ++ map (images symbols pairs terms scope).terms (free_variables_of s)) (rest_tree symbols s)
     ≡ statement_tree symbols (map (sub pairs terms) s.hypotheses) (sub pairs terms s.conclusion) scope
@@ -118,7 +118,7 @@ sequent-substitution m symbols pairs terms closed scope s is instances =
 
 -- Translation of substitution for a type and for a term under the binders of their variables: to put the translated images in its tree is to
 -- translate what was substituted.
-pub type-put_all : (symbols : Symbols) (pairs : TypePairs) (scope : TypeScope) (names : List Name) (t : HolType)
+pub type-put_all : (symbols : SymbolMap) (pairs : TypePairs) (scope : TypeScope) (names : List Name) (t : HolType)
     → AllByRecursion (IsIn names) (variable_places t)
     → put_all (map (λ n. type_tree symbols scope (image pairs n)) names) (type_tree symbols (under_types names unfilled) t) ≡ type_tree symbols scope (substitute pairs t)
 type-put_all symbols pairs scope names t h =
@@ -129,7 +129,7 @@ type-put_all symbols pairs scope names t h =
     ∙ type_tree-agrees symbols (IsIn names) (λ n. trees.sub one (under_types names unfilled n)) other (λ n i. types-agree [] [] other names unfilled Var n (inl i)) t h
     ∙ sym (type_tree-substitute symbols pairs scope t)
 
-pub term-put_all : (symbols : Symbols) (pairs : TypePairs) (terms : TermPairs) → AreClosed terms
+pub term-put_all : (symbols : SymbolMap) (pairs : TypePairs) (terms : TermPairs) → AreClosed terms
     → (scope : Scope) (names : List Name) (variables : List Variable) (t : Term)
     → IsFormula symbols (IsIn names) (IsIn variables) t
     → put_all (map (images symbols pairs terms scope).types names ++ map (images symbols pairs terms scope).terms variables) (term_tree symbols (under_terms variables (filled symbols (under_types names unfilled))) t)

@@ -13,7 +13,7 @@ use Rattle.lp_spec.specs.Substitution.{cons}
 use Rattle.lp_spec.specs.Modules.{applied, term_of}
 use Rattle.hol_laws.specs.Members.{map-twice, map-each, All-left, All-right, All-weaker}
 use Rattle.hol_laws.specs.GenericInstances.{type_arguments-substitute, type_arguments-All}
-use Rattle.module_spec.specs.Scopes.{Symbols, operator_symbol, constant_symbol, generic_type, TypeScope, type_tree, type_trees, Scope, lifted, inside, term_tree, under_term, images}
+use Rattle.module_spec.specs.Scopes.{SymbolMap, operator_symbol, constant_symbol, generic_type, TypeScope, type_tree, type_trees, Scope, lifted, inside, term_tree, under_term, images}
 use Rattle.module_laws.specs.ScopeLaws.{same_scope, type_tree-lift, term_tree-lift, type_tree-substitute}
 
 -- a scope with other bounds
@@ -21,7 +21,7 @@ abbrev pub with_bounds : (ℕ → Tree) → Scope → Scope
 with_bounds bounds scope = record { types = scope.types; terms = scope.terms; proofs = scope.proofs; bounds = bounds }
 
 -- each constant of a term is an instance of its generic type
-abbrev pub AreInstances : Symbols → Term → Type 0
+abbrev pub AreInstances : SymbolMap → Term → Type 0
 AreInstances symbols (free n t) = Unit {0}
 AreInstances symbols (bound k) = Unit {0}
 AreInstances symbols (constant n t) = Instance (generic_type symbols n) t
@@ -32,7 +32,7 @@ AreInstances symbols (lam t b) = AreInstances symbols b
 abbrev pub AreClosed : TermPairs → Type 0
 AreClosed terms = (v : Variable) → loose (term_image terms v) ≤ 0
 
-module _ (symbols : Symbols) where
+module _ (symbols : SymbolMap) where
   -- a term owes nothing to the bounds that it doesn't have
   pub term_tree-bounds : (d : ℕ) (scope : Scope) (bounds : ℕ → Tree) → ((k : ℕ) → k < d → scope.bounds k ≡ bounds k) → (t : Term) → loose t ≤ d
       → term_tree symbols scope t ≡ term_tree symbols (with_bounds bounds scope) t

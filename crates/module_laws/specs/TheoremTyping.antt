@@ -15,13 +15,13 @@ use Rattle.lp_spec.specs.Modules.{Declaration}
 use Rattle.hol_spec.specs.Lists.{IsIn}
 use Rattle.hol_laws.specs.Members.{All-part}
 use Rattle.hol_laws.specs.RenamedSequents.{all_type_variables, all_free_variables}
-use Rattle.module_spec.specs.Scopes.{Symbols, Scope, term_tree, under_term, under_terms, under_proof, under_proofs}
+use Rattle.module_spec.specs.Scopes.{SymbolMap, Scope, term_tree, under_term, under_terms, under_proof, under_proofs}
 use Rattle.module_laws.specs.ScopeLaws.{through, term_tree-sub}
 use Rattle.module_laws.specs.TermScopeLaws.{term_tree-agrees, AreInstances}
 use Rattle.module_laws.specs.SimultaneousArguments.{after, sub-cons_lift}
 
 -- a formula whose variables are among these
-pub record IsFormula (symbols : Symbols) (P : Name → Type 0) (Q : Variable → Type 0) (h : Term) : Type 0 where
+pub record IsFormula (symbols : SymbolMap) (P : Name → Type 0) (Q : Variable → Type 0) (h : Term) : Type 0 where
   pub instances : AreInstances symbols h
   pub type_variables : AllByRecursion P (type_variable_places h)
   pub free_variables : AllByRecursion Q (free_places h)
@@ -29,7 +29,7 @@ pub record IsFormula (symbols : Symbols) (P : Name → Type 0) (Q : Variable →
 
 module _ (s : Sequent) where
   -- each term of it is a formula over its own variables
-  pub term-IsFormula : (symbols : Symbols) (t : Term) → IsIn (terms_of s) t → AreInstances symbols t → HasType t bool
+  pub term-IsFormula : (symbols : SymbolMap) (t : Term) → IsIn (terms_of s) t → AreInstances symbols t → HasType t bool
       → IsFormula symbols (IsIn (type_variables_of s)) (IsIn (free_variables_of s)) t
   term-IsFormula symbols t i instances typed = record {
     instances = instances;
@@ -38,7 +38,7 @@ module _ (s : Sequent) where
     closed = loose-typed [] t bool typed;
   }
 
-module _ (m : List Declaration) (G : List Tree) (symbols : Symbols) (other : Scope) (P : Name → Type 0) (Q : Variable → Type 0) where
+module _ (m : List Declaration) (G : List Tree) (symbols : SymbolMap) (other : Scope) (P : Name → Type 0) (Q : Variable → Type 0) where
   -- a scope after a substitution and the other scope agree on these type variables, and on these free variables
   abbrev pub TypesAgree : (ℕ → Tree) → Scope → Type 0
   TypesAgree s scope = (n : Name) → P n → sub s (scope.types n) ≡ other.types n
@@ -94,6 +94,6 @@ module _ (m : List Declaration) (G : List Tree) (symbols : Symbols) (other : Sco
   proofs-TermsAgree (h ∷ hs) scope s a = proofs-TermsAgree hs (under_proof h scope) (cons (other.proofs h) s) (TermsAgree-under s (other.proofs h) scope a)
 
 -- the constants of a sequent are instances of their generic types
-pub record HasInstances (symbols : Symbols) (s : Sequent) : Type 0 where
+pub record HasInstances (symbols : SymbolMap) (s : Sequent) : Type 0 where
   pub hypotheses : AllByRecursion (AreInstances symbols) s.hypotheses
   pub conclusion : AreInstances symbols s.conclusion

@@ -9,7 +9,7 @@ use Rattle.hol_spec.specs.Terms.{Term, free, bound, constant, app, lam, equation
 use Rattle.hol_spec.specs.Sequents.{Sequent}
 use Rattle.lp_spec.specs.Trees.{Tree, Var, Sym, App, Lam, Pi}
 use Rattle.lp_spec.specs.Modules.{applied, types, bools, term_of, arr_of, eq_of, proof_of, refl_of, prop_ext_symbol}
-use Rattle.module_spec.specs.Scopes.{Symbols, sequent_tree, generic_tree, filler, scope_of}
+use Rattle.module_spec.specs.Scopes.{SymbolMap, sequent_tree, generic_tree, filler, scope_of}
 use Rattle.module_spec.specs.ProofTrees.{trans_symbol}
 use Rattle.hol_spec.specs.Rules.{nothing, term, substitution, constants}
 use Rattle.hol_spec.specs.declared.StepKind.TheVariants.{Trans, Subst, DeductAntisym, BetaConv, DefineConstList}
@@ -31,7 +31,7 @@ abbrev r : Term
 r = boolean (codes "r")
 
 -- all constants are input constants but for c and d, of type bool -> bool
-abbrev symbols : Symbols
+abbrev symbols : SymbolMap
 symbols = record {
   operator = λ n k. 90;
   constant = λ n. if name_eq n (name (codes "c")) then 15 else (if name_eq n (name (codes "d")) then 16 else 17);

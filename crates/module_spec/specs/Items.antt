@@ -14,7 +14,7 @@ use Rattle.lp_spec.specs.declared.form.Form.TheVariants.{Def}
 use Rattle.lp_spec.specs.Trees.{Tree}
 use Rattle.lp_spec.specs.Modules.{Declaration, symbol, products, abstractions, types, sub_symbol, sub_abs_symbol, sub_rep_symbol}
 use Rattle.lp_spec.specs.Lemmas.{lemmas, theorem}
-use Rattle.module_spec.specs.Scopes.{Symbols, generic_tree, sequent_tree, scope_of, domains_of, conclusion_tree, term_tree, filled, under_types, unfilled}
+use Rattle.module_spec.specs.Scopes.{SymbolMap, generic_tree, sequent_tree, scope_of, domains_of, conclusion_tree, term_tree, filled, under_types, unfilled}
 use Rattle.module_spec.specs.ProofTrees.{part_tree}
 use Rattle.module_spec.specs.Rows.{proof_tree}
 
@@ -48,19 +48,19 @@ says (unproved s) = Some s
 says (step kind js premises given s) = Some s
 
 -- what a defined constant stands for, over the type variables of its generic type
-abbrev pub definition_tree : Symbols → HolType → Term → Tree
+abbrev pub definition_tree : SymbolMap → HolType → Term → Tree
 definition_tree symbols a t = abstractions (map (λ n. types) (type_variables a)) (term_tree symbols (filled symbols (under_types (type_variables a) unfilled)) t)
 
 -- what a symbol of a type definition stands for: a symbol of parts, under these type variables
-abbrev pub part_definition_tree : Symbols → List Name → ℕ → HolType → ℕ → Sequent → Tree
+abbrev pub part_definition_tree : SymbolMap → List Name → ℕ → HolType → ℕ → Sequent → Tree
 part_definition_tree symbols names s c j one = abstractions (map (λ n. types) names) (part_tree symbols (filled symbols (under_types names unfilled)) s c (j, one))
 
 -- the definition of the constant of a type definition with this generic type
-abbrev pub part_constant : Symbols → List ℕ → HolType → ℕ → HolType → ℕ → Sequent → Declaration
+abbrev pub part_constant : SymbolMap → List ℕ → HolType → ℕ → HolType → ℕ → Sequent → Declaration
 part_constant symbols name a s c j one = record { name = name; form = Def; ty = generic_tree symbols a; body = Some (part_definition_tree symbols (type_variables a) s c j one) }
 
 -- the declaration of an item
-abbrev pub declaration_of : Symbols → List ℕ → Content → Declaration
+abbrev pub declaration_of : SymbolMap → List ℕ → Content → Declaration
 declaration_of symbols name (operator n k) = symbol name (products (replicate k types) types)
 declaration_of symbols name (constant n a) = symbol name (generic_tree symbols a)
 declaration_of symbols name (defined_constant n a t) = record { name = name; form = Def; ty = generic_tree symbols a; body = Some (definition_tree symbols a t) }
@@ -70,7 +70,7 @@ declaration_of symbols name (type_representation names c u j one) = part_constan
 declaration_of symbols name (unproved s) = symbol name (sequent_tree symbols s)
 declaration_of symbols name (step kind js premises given s) = theorem name (domains_of symbols s) (conclusion_tree symbols s) (proof_tree symbols (scope_of symbols s) kind js premises given)
 
-abbrev pub declaration : Symbols → Item → Declaration
+abbrev pub declaration : SymbolMap → Item → Declaration
 declaration symbols x = declaration_of symbols x.name x.content
 
 -- whether an item is this operator, or a constant of this name
@@ -103,7 +103,7 @@ first_type test [] = bool
 first_type test (x ∷ xs) = if test x.content then generic_of x.content else first_type test xs
 
 -- the symbols of items
-abbrev pub symbols_of : List Item → Symbols
+abbrev pub symbols_of : List Item → SymbolMap
 symbols_of items = record {
   operator = λ n k. first_symbol (is_operator n k) items;
   constant = λ n. first_symbol (is_constant n) items;
@@ -111,5 +111,5 @@ symbols_of items = record {
 }
 
 -- the module of items
-abbrev pub module_of : Symbols → List Item → List Declaration
+abbrev pub module_of : SymbolMap → List Item → List Declaration
 module_of symbols items = lemmas ++ map (declaration symbols) items

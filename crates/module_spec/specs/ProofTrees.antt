@@ -11,7 +11,7 @@ use Rattle.hol_spec.specs.TermSubstitution.{TermPairs}
 use Rattle.hol_spec.specs.Sequents.{Sequent}
 use Rattle.lp_spec.specs.Trees.{Tree, Var, Sym, App, Lam}
 use Rattle.lp_spec.specs.Modules.{signature, applied, term_of, proof_of, refl_of, fun_ext_symbol, app_thm_symbol, prop_ext_symbol, eq_mp_symbol, sub_abs_rep_symbol, sub_rep_abs_symbol}
-use Rattle.module_spec.specs.Scopes.{Symbols, type_tree, Scope, term_tree, filled, lifted, under_term, under_proof, set_proof, theorem_tree, images}
+use Rattle.module_spec.specs.Scopes.{SymbolMap, type_tree, Scope, term_tree, filled, lifted, under_term, under_proof, set_proof, theorem_tree, images}
 
 -- the two lemmas with which every module begins
 abbrev pub sym_symbol : ℕ
@@ -36,7 +36,7 @@ abbrev pub witness : Term → Term
 witness (app f t) = t
 witness t = t
 
-module _ (symbols : Symbols) (scope : Scope) where
+module _ (symbols : SymbolMap) (scope : Scope) where
   abbrev ty : HolType → Tree
   ty a = type_tree symbols scope.types a
 
@@ -96,27 +96,27 @@ module _ (symbols : Symbols) (scope : Scope) where
   part_tree s c one = applied (Sym s) (part_arguments_of c one)
 
 -- extensionality of what is equal at each term of a type by a symbol of parts
-abbrev pub law_tree : Symbols → Scope → HolType → HolType → Term → Term → ℕ → HolType → Premise → Tree
+abbrev pub law_tree : SymbolMap → Scope → HolType → HolType → Term → Term → ℕ → HolType → Premise → Tree
 law_tree symbols scope a b t u s c one =
     applied (Sym fun_ext_symbol)
     (type_tree symbols scope.types a ∷ type_tree symbols scope.types b ∷ term_tree symbols scope (lam a t) ∷ term_tree symbols scope (lam a u)
     ∷ Lam (term_of (type_tree symbols scope.types a)) (App (part_tree symbols (lifted scope) s c one) (Var 0)) ∷ [])
 
 -- (\a. abs (rep a)) = (\a. a), and (\r. rep (abs r) = r) = (\r. f r)
-abbrev pub first_law_tree : Symbols → Scope → TypeNames → HolType → Premise → Tree
+abbrev pub first_law_tree : SymbolMap → Scope → TypeNames → HolType → Premise → Tree
 first_law_tree symbols scope names c one =
     law_tree symbols scope (new_type names) (new_type names) (abstracted names c (represented names c (bound 0))) (bound 0) sub_abs_rep_symbol c one
 
-abbrev pub second_law_tree : Symbols → Scope → TypeNames → HolType → Premise → Tree
+abbrev pub second_law_tree : SymbolMap → Scope → TypeNames → HolType → Premise → Tree
 second_law_tree symbols scope names c one =
     law_tree symbols scope c bool (equation c (represented names c (abstracted names c (bound 0))) (bound 0)) (app (predicate one.1.conclusion) (bound 0)) sub_rep_abs_symbol c one
 
 -- in version 5: abs (rep a) = a, and f r = (rep (abs r) = r). The premise stands where nothing is put for its free variables, as in what the symbols
 -- of the definition stand for
-abbrev pub first_law_free_tree : Symbols → Scope → TypeNames → HolType → Premise → Tree
+abbrev pub first_law_free_tree : SymbolMap → Scope → TypeNames → HolType → Premise → Tree
 first_law_free_tree symbols scope names c one = App (part_tree symbols (filled symbols scope.types) sub_abs_rep_symbol c one) (term_tree symbols scope (new_variable names))
 
-abbrev pub second_law_free_tree : Symbols → Scope → TypeNames → HolType → Premise → Tree
+abbrev pub second_law_free_tree : SymbolMap → Scope → TypeNames → HolType → Premise → Tree
 second_law_free_tree symbols scope names c one =
     applied (Sym sym_symbol)
     (type_tree symbols scope.types bool ∷ term_tree symbols scope (equation c (represented names c (abstracted names c (old_variable c))) (old_variable c))

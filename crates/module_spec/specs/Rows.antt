@@ -13,7 +13,7 @@ use Rattle.hol_spec.specs.declared.StepKind.{StepKind}
 use Rattle.hol_spec.specs.declared.StepKind.TheVariants.{Refl, Assume, EqMp, AbsThm, AppThm, DeductAntisym, BetaConv, Sym, Trans, ProveHyp, Subst, Axiom, Restate, DefineConst, DefineConstList, FirstLaw, SecondLaw}
 use Rattle.lp_spec.specs.Trees.{Tree}
 use Rattle.lp_spec.specs.Trees as tree
-use Rattle.module_spec.specs.Scopes.{Symbols, Scope}
+use Rattle.module_spec.specs.Scopes.{SymbolMap, Scope}
 use Rattle.module_spec.specs.ProofTrees.{Premise, premise_tree, refl_tree, trans_tree, eq_mp_tree, sym_tree, fun_ext_tree, app_thm_tree, prop_ext_tree, prove_hyp_tree, subst_tree, constants_scope, witness, first_law_tree, second_law_tree, first_law_free_tree, second_law_free_tree}
 
 -- whether a step of this kind has a proof
@@ -64,40 +64,40 @@ of_two row js ss = tree.Sym 0
 abbrev pub type_or : Term → HolType
 type_or t = unwrap_or (type_of t) bool
 
-abbrev abs_row : Symbols → Scope → Parameters → Premise → Tree
+abbrev abs_row : SymbolMap → Scope → Parameters → Premise → Tree
 abs_row symbols scope (Parameters.variable v) one = fun_ext_tree symbols scope v (equated_type one.1.conclusion) (left_side one.1.conclusion) (right_side one.1.conclusion) one
 abs_row symbols scope given one = tree.Sym 0
 
-abbrev subst_row : Symbols → Scope → Parameters → Premise → Tree
+abbrev subst_row : SymbolMap → Scope → Parameters → Premise → Tree
 subst_row symbols scope (Parameters.substitution pairs terms) one = subst_tree symbols scope pairs terms one
 subst_row symbols scope given one = tree.Sym 0
 
-abbrev definition_row : Symbols → Scope → Parameters → Tree
+abbrev definition_row : SymbolMap → Scope → Parameters → Tree
 definition_row symbols scope (Parameters.constant n t) = refl_tree symbols scope (type_or t) t
 definition_row symbols scope given = tree.Sym 0
 
-abbrev list_row : Symbols → Scope → Parameters → Premise → Tree
+abbrev list_row : SymbolMap → Scope → Parameters → Premise → Tree
 list_row symbols scope (Parameters.constants pairs) one = premise_tree (constants_scope symbols scope (constants_put pairs)) one
 list_row symbols scope given one = tree.Sym 0
 
 -- a law of the type operator with these names, by the theorem that defines it
-abbrev first_law_row : Symbols → Scope → Parameters → Premise → Tree
+abbrev first_law_row : SymbolMap → Scope → Parameters → Premise → Tree
 first_law_row symbols scope (Parameters.type_operator names Six) one = first_law_tree symbols scope names (type_or (witness one.1.conclusion)) one
 first_law_row symbols scope (Parameters.type_operator names Five) one = first_law_free_tree symbols scope names (type_or (witness one.1.conclusion)) one
 first_law_row symbols scope given one = tree.Sym 0
 
-abbrev second_law_row : Symbols → Scope → Parameters → Premise → Tree
+abbrev second_law_row : SymbolMap → Scope → Parameters → Premise → Tree
 second_law_row symbols scope (Parameters.type_operator names Six) one = second_law_tree symbols scope names (type_or (witness one.1.conclusion)) one
 second_law_row symbols scope (Parameters.type_operator names Five) one = second_law_free_tree symbols scope names (type_or (witness one.1.conclusion)) one
 second_law_row symbols scope given one = tree.Sym 0
 
-abbrev app_row : Symbols → Scope → Premise → Premise → Tree
+abbrev app_row : SymbolMap → Scope → Premise → Premise → Tree
 app_row symbols scope one two =
     let f = equated_type one.1.conclusion in
     app_thm_tree symbols scope (argument_type f) (result_type f) (left_side one.1.conclusion) (right_side one.1.conclusion) (left_side two.1.conclusion) (right_side two.1.conclusion) one two
 
 -- the proof of a step, by its rule; an assumption has none
-abbrev pub proof_tree : Symbols → Scope → StepKind → List ℕ → List Sequent → Parameters → Tree
+abbrev pub proof_tree : SymbolMap → Scope → StepKind → List ℕ → List Sequent → Parameters → Tree
 proof_tree symbols scope Refl js ss given = of_term (λ t. refl_tree symbols scope (type_or t) t) given
 proof_tree symbols scope Assume js ss given = of_term scope.proofs given
 proof_tree symbols scope EqMp js ss given = of_two (λ one two. eq_mp_tree symbols scope (left_side one.1.conclusion) (right_side one.1.conclusion) one two) js ss

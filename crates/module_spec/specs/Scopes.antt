@@ -15,22 +15,22 @@ use Rattle.lp_spec.specs.Modules.{arr_symbol, bool_symbol, ind_symbol, eq_symbol
 
 -- the symbols of a module that stand for operators with so many arguments and for constants, and the generic types of these constants,
 -- where neither is primitive
-pub record Symbols : Type 0 where
+pub record SymbolMap : Type 0 where
   pub operator : Name → ℕ → ℕ
   pub constant : Name → ℕ
   pub generic : Name → HolType
 
-abbrev pub operator_symbol : Symbols → Name → ℕ → ℕ
+abbrev pub operator_symbol : SymbolMap → Name → ℕ → ℕ
 operator_symbol symbols n k =
     if name_eq n arrow_name then arr_symbol
     else (if name_eq n bool_name then bool_symbol
     else (if name_eq n ind_name then ind_symbol
     else symbols.operator n k))
 
-abbrev pub constant_symbol : Symbols → Name → ℕ
+abbrev pub constant_symbol : SymbolMap → Name → ℕ
 constant_symbol symbols n = if name_eq n equality_name then eq_symbol else (if name_eq n select_name then select_symbol else symbols.constant n)
 
-abbrev pub generic_type : Symbols → Name → HolType
+abbrev pub generic_type : SymbolMap → Name → HolType
 generic_type symbols n = unwrap_or (primitive_type n) (symbols.generic n)
 
 -- what stands for type variables
@@ -39,11 +39,11 @@ TypeScope = Name → Tree
 
 -- a type
 abbrev mutual
-  pub type_tree : Symbols → TypeScope → HolType → Tree
+  pub type_tree : SymbolMap → TypeScope → HolType → Tree
   type_tree symbols scope (variable n) = scope n
   type_tree symbols scope (operator n ts) = applied (Sym (operator_symbol symbols n (count ts))) (type_trees symbols scope ts)
 
-  pub type_trees : Symbols → TypeScope → HolTypes → List Tree
+  pub type_trees : SymbolMap → TypeScope → HolTypes → List Tree
   type_trees symbols scope none = []
   type_trees symbols scope (more t ts) = type_tree symbols scope t ∷ type_trees symbols scope ts
 
@@ -76,11 +76,11 @@ inside scope = record {
 }
 
 -- a constant: its symbol at those types
-abbrev pub constant_tree : Symbols → TypeScope → Name → HolType → Tree
+abbrev pub constant_tree : SymbolMap → TypeScope → Name → HolType → Tree
 constant_tree symbols scope n t = applied (Sym (constant_symbol symbols n)) (map (type_tree symbols scope) (type_arguments (generic_type symbols n) t))
 
 -- a term
-abbrev pub term_tree : Symbols → Scope → Term → Tree
+abbrev pub term_tree : SymbolMap → Scope → Term → Tree
 term_tree symbols scope (free n t) = scope.terms (n, t)
 term_tree symbols scope (bound k) = scope.bounds k
 term_tree symbols scope (constant n t) = constant_tree symbols scope.types n t
@@ -138,7 +138,7 @@ filler a = applied (Sym select_symbol) (a ∷ Lam (term_of a) (eq_of (lift 1 a) 
 abbrev pub unfilled : TypeScope
 unfilled n = bools
 
-abbrev pub filled : Symbols → TypeScope → Scope
+abbrev pub filled : SymbolMap → TypeScope → Scope
 filled symbols scope = record {
   types = scope;
   terms = λ v. filler (type_tree symbols scope v.1);
@@ -147,40 +147,40 @@ filled symbols scope = record {
 }
 
 -- the types of the binders of free variables and of hypotheses
-abbrev pub term_domains : Symbols → List Variable → Scope → List Tree
+abbrev pub term_domains : SymbolMap → List Variable → Scope → List Tree
 term_domains symbols [] scope = []
 term_domains symbols (v ∷ vs) scope = term_of (type_tree symbols scope.types v.1) ∷ term_domains symbols vs (under_term v scope)
 
-abbrev pub proof_domains : Symbols → List Term → Scope → List Tree
+abbrev pub proof_domains : SymbolMap → List Term → Scope → List Tree
 proof_domains symbols [] scope = []
 proof_domains symbols (h ∷ hs) scope = proof_of (term_tree symbols scope h) ∷ proof_domains symbols hs (under_proof h scope)
 
 -- under the binders of a sequent's type variables, then also of its free variables, then also of its hypotheses
-abbrev pub scope_of_types : Symbols → Sequent → Scope
+abbrev pub scope_of_types : SymbolMap → Sequent → Scope
 scope_of_types symbols s = filled symbols (under_types (type_variables_of s) unfilled)
 
-abbrev pub scope_of_terms : Symbols → Sequent → Scope
+abbrev pub scope_of_terms : SymbolMap → Sequent → Scope
 scope_of_terms symbols s = under_terms (free_variables_of s) (scope_of_types symbols s)
 
-abbrev pub scope_of : Symbols → Sequent → Scope
+abbrev pub scope_of : SymbolMap → Sequent → Scope
 scope_of symbols s = under_proofs s.hypotheses (scope_of_terms symbols s)
 
-abbrev pub domains_of : Symbols → Sequent → List Tree
+abbrev pub domains_of : SymbolMap → Sequent → List Tree
 domains_of symbols s =
     map (λ n. types) (type_variables_of s)
     ++ term_domains symbols (free_variables_of s) (scope_of_types symbols s)
     ++ proof_domains symbols s.hypotheses (scope_of_terms symbols s)
 
 -- the proofs of a sequent's conclusion
-abbrev pub conclusion_tree : Symbols → Sequent → Tree
+abbrev pub conclusion_tree : SymbolMap → Sequent → Tree
 conclusion_tree symbols s = proof_of (term_tree symbols (scope_of symbols s) s.conclusion)
 
 -- a sequent: the product, over its type variables, free variables and hypotheses, of the proofs of its conclusion
-abbrev pub sequent_tree : Symbols → Sequent → Tree
+abbrev pub sequent_tree : SymbolMap → Sequent → Tree
 sequent_tree symbols s = products (domains_of symbols s) (conclusion_tree symbols s)
 
 -- the type of a constant: the product, over the type variables of its generic type, of the terms of that type
-abbrev pub generic_tree : Symbols → HolType → Tree
+abbrev pub generic_tree : SymbolMap → HolType → Tree
 generic_tree symbols t =
     products (map (λ n. types) (type_variables t)) (term_of (type_tree symbols (under_types (type_variables t) unfilled) t))
 
@@ -190,7 +190,7 @@ theorem_tree scope symbol s =
     applied (Sym symbol) (map scope.types (type_variables_of s) ++ map scope.terms (free_variables_of s) ++ map scope.proofs s.hypotheses)
 
 -- a scope in which a substitution's images stand for variables and hypotheses
-abbrev pub images : Symbols → TypePairs → TermPairs → Scope → Scope
+abbrev pub images : SymbolMap → TypePairs → TermPairs → Scope → Scope
 images symbols pairs terms scope = record {
   types = λ n. type_tree symbols scope.types (image pairs n);
   terms = λ v. term_tree symbols scope (term_image terms (v.0, substitute pairs v.1));

@@ -135,7 +135,7 @@ pub record IsUnproved (m : List Declaration) (run : Accepted) (i : ℕ) (d : Dec
   pub given : IsGiven m run d
   pub reached : IsReached m i
 
-pub record Stands (m : List Declaration) (run : Accepted) : Type 0 where
+pub record StandsForRun (m : List Declaration) (run : Accepted) : Type 0 where
   pub is_module : IsModule m
   pub typed : WellTyped m
   pub unproved : (i : ℕ) (d : Declaration) → slice_get m i ≡ Some d → d.body ≡ None → IsUnproved m run i d

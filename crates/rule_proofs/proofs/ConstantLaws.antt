@@ -36,7 +36,7 @@ use Rattle.translate_term.specs.Told.{TellsConstant, TellsTerm, TellsType, types
 use Rattle.rule_proofs.specs.declared.rows.Equated.{Equated}
 use Rattle.rule_proofs.specs.declared.scope.Environment.{Environment}
 use Rattle.rule_proofs.specs.Constants.{by_variable, scope_with, IsEquatedFormula, IsEquationFormula, TellsConstants}
-use Rattle.rule_proofs.specs.Environments.{Given, IsTold, Stands}
+use Rattle.rule_proofs.specs.Environments.{Given, IsTold, Represents}
 use Rattle.rule_proofs.proofs.SequentLaws.{typed-closed}
 use Rattle.rule_proofs.proofs.TellLaws.{same-seen}
 
@@ -90,7 +90,7 @@ module _ (trees : Trees) (distinct : type.IsDistinct trees.types) (v : AVariable
         ∙ ap (λ o. term_tree given.symbols given.scope (unwrap_or o (free v.name own.1))) (lookup-constants_put ps pairs_known ∙ ap (option_map (λ m. constant m own.1)) e)
 
 -- a constant in an environment is one in the scope that it stands for
-module _ (given : Given) (m : Module) (terms : Trees) (env : Environment) (h : Stands given m terms env) where
+module _ (given : Given) (m : Module) (terms : Trees) (env : Environment) (h : Represents given m terms env) where
   pub constant-stands : (n : Name) (a : HolType) → constant_tree given.symbols (told_types (types_in m.table env.scope.types)) n a ≡ constant_tree given.symbols given.scope.types n a
   constant-stands n a = ap (λ w. constant_tree given.symbols w n a) (ap (λ es. told_types (types_in m.table es)) h.same_types ∙ fun_ext h.types.each)
 

@@ -12,7 +12,7 @@ use Rattle.lp_spec.specs.Modules.{applied, sub_rep_abs_symbol}
 use Rattle.lp_spec.specs.Trees.{Sym, App}
 use Rattle.module_spec.specs.ProofTrees.{predicate, witness, part_tree, second_law_free_tree, sym_symbol}
 use Rattle.module_spec.specs.Rows.{equated_type, left_side, right_side}
-use Rattle.module_spec.specs.Scopes.{Symbols, Scope, filled, term_tree, type_tree}
+use Rattle.module_spec.specs.Scopes.{SymbolMap, Scope, filled, term_tree, type_tree}
 use Rattle.rule_proofs.specs.declared.rows.Equated.{Equated}
 use Rattle.rule_proofs.specs.Environments.{Given, IsTold}
 use Rattle.rule_proofs.specs.Equations.{IsEquated}
@@ -35,7 +35,7 @@ module _ (k : Kept) (id one : ℕ) (names : TypeNames) (h : IsSecondLaw Five k i
     variable-told given told = subst (IsTold given) (sym free-variable) (argument-told given _ _ _ free-left (left-told k id e is given told))
 
     -- its proof, by what its arguments are
-    pub second_free-made : (symbols : Symbols) (scope : Scope) (j : ℕ)
+    pub second_free-made : (symbols : SymbolMap) (scope : Scope) (j : ℕ)
         → applied (Sym sym_symbol) (type_tree symbols scope.types (type_at k.trees e.ty.0) ∷ term_tree symbols scope (term_at k.trees e.right.0) ∷ term_tree symbols scope (term_at k.trees e.left.0)
         ∷ App (part_tree symbols (filled symbols scope.types) sub_rep_abs_symbol (whole_type k one) (j, sequent_at k.made one)) (term_tree symbols scope (term_at k.trees x.0)) ∷ [])
         ≡ second_law_free_tree symbols scope names (whole_type k one) (j, sequent_at k.made one)

@@ -18,7 +18,7 @@ use Rattle.hol_spec.specs.Proofs.{sequent_at}
 use Rattle.hol_laws.specs.Members.{All-append, All-at, All-each, IsIn-left, IsIn-right, IsIn-either, IsIn-distinct, IsIn-distinct_of}
 use Rattle.module_laws.specs.BodyTyping.{IsIn-map}
 use Rattle.lp_spec.specs.Modules.{Declaration}
-use Rattle.module_spec.specs.Scopes.{Symbols}
+use Rattle.module_spec.specs.Scopes.{SymbolMap}
 use Rattle.hol_term.specs.declared.Variable.{Variable as AVariable}
 use Rattle.hol_term.specs.Subterms.{variables_of}
 use Rattle.hol_rules.specs.declared.made.Substitution.{Substitution}
@@ -29,7 +29,7 @@ use Rattle.rule_proofs.specs.Images.{type_pairs, term_pairs, variable_image, Has
 use Rattle.rule_proofs.specs.Told.{TellsStep}
 use Rattle.rule_proofs.proofs.SequentLaws.{typed-closed}
 
-module _ (d : List Declaration) (symbols : Symbols) where
+module _ (d : List Declaration) (symbols : SymbolMap) where
   -- the type of a told term is told
   pub type-of-told : (binders : List HolType) → ((k : ℕ) (a : HolType) → slice_get binders k ≡ Some a → TellsType d symbols a) → (t : Term) (a : HolType) → TellsTerm d symbols t → type_under binders t ≡ Some a → TellsType d symbols a
   type-of-told binders b (free n t) a h e = subst (TellsType d symbols) (same_Some _ _ e) h

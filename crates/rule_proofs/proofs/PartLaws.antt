@@ -21,7 +21,7 @@ use Rattle.lp_spec.specs.Modules.{applied, term_of, fun_ext_symbol}
 use Rattle.lp_spec.specs.Trees.{Tree, Sym, App, Lam, Var}
 use Rattle.module_spec.specs.ProofTrees.{Premise, predicate, witness, part_tree, law_tree}
 use Rattle.module_spec.specs.Rows.{equated_type, left_side, right_side, argument_type, result_type, type_or}
-use Rattle.module_spec.specs.Scopes.{Symbols, Scope, lifted, term_tree, theorem_tree, type_tree}
+use Rattle.module_spec.specs.Scopes.{SymbolMap, Scope, lifted, term_tree, theorem_tree, type_tree}
 use Rattle.sequent.specs.declared.Sequent.{Sequent as NumberSequent}
 use Rattle.sequent.specs.Sequents as numbers
 use Rattle.translate_term.specs.Told.{TellsTerm, TellsType}
@@ -174,7 +174,7 @@ module _ (k : Kept) (id : ℕ) (f : Functions) (is : AreFunctions k id f) where
     functions-right = equated-right k id f.sides is.sides ∙ ap right_side e
 
 -- The proof of a law, by what its arguments are
-pub law-made : (symbols : Symbols) (scope : Scope) (from a to b : HolType) (left right t u : Term) (s : ℕ) (c : HolType) (one : Premise) (domain : Tree) → from ≡ a → to ≡ b → left ≡ Term.lam a t → right ≡ Term.lam a u → domain ≡ type_tree symbols scope.types from
+pub law-made : (symbols : SymbolMap) (scope : Scope) (from a to b : HolType) (left right t u : Term) (s : ℕ) (c : HolType) (one : Premise) (domain : Tree) → from ≡ a → to ≡ b → left ≡ Term.lam a t → right ≡ Term.lam a u → domain ≡ type_tree symbols scope.types from
     → applied (Sym fun_ext_symbol) (type_tree symbols scope.types from ∷ type_tree symbols scope.types to ∷ term_tree symbols scope left ∷ term_tree symbols scope right
     ∷ Lam (term_of domain) (App (part_tree symbols (lifted scope) s c one) (Var 0)) ∷ [])
     ≡ law_tree symbols scope a b t u s c one
@@ -183,6 +183,6 @@ law-made symbols scope from a to b left right t u s c one domain p q l r d = λ 
     ∷ Lam (term_of ((d ∙ ap (type_tree symbols scope.types) p) i)) (App (part_tree symbols (lifted scope) s c one) (Var 0)) ∷ [])
 
 -- What a part stands for, by what its arguments are
-pub part-made : (symbols : Symbols) (scope : Scope) (s : ℕ) (a c : HolType) (f x : Term) (one : Premise) → a ≡ c → f ≡ predicate one.1.conclusion → x ≡ witness one.1.conclusion
+pub part-made : (symbols : SymbolMap) (scope : Scope) (s : ℕ) (a c : HolType) (f x : Term) (one : Premise) → a ≡ c → f ≡ predicate one.1.conclusion → x ≡ witness one.1.conclusion
     → applied (Sym s) (type_tree symbols scope.types a ∷ term_tree symbols scope f ∷ term_tree symbols scope x ∷ theorem_tree scope one.0 one.1 ∷ []) ≡ part_tree symbols scope s c one
 part-made symbols scope s a c f x one p q r = λ i. applied (Sym s) (type_tree symbols scope.types (p i) ∷ term_tree symbols scope (q i) ∷ term_tree symbols scope (r i) ∷ theorem_tree scope one.0 one.1 ∷ [])

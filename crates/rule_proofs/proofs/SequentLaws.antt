@@ -16,7 +16,7 @@ use Rattle.hol_laws.specs.TermTyping.{loose-typed}
 use Rattle.proof_laws.specs.EquationLaws.{equation-sides, SidesOf}
 use Rattle.lp_spec.specs.Modules.{Declaration}
 use Rattle.module_spec.specs.Rows.{equated_type, left_side, right_side}
-use Rattle.module_spec.specs.Scopes.{Symbols}
+use Rattle.module_spec.specs.Scopes.{SymbolMap}
 use Rattle.hol_type.specs.declared.table.TypeId.{TypeId}
 use Rattle.hol_term.specs.declared.TermId.{TermId}
 use Rattle.hol_term.specs.Shapes.{IsEquation}
@@ -32,18 +32,18 @@ use Rattle.rule_proofs.specs.StepSequents.{step-IsSequent}
 use Rattle.rule_proofs.specs.Told.{TellsSequent, TellsStep}
 
 -- the free variables of a told term have told types
-free_types-told : (declarations : List Declaration) (symbols : Symbols) (t : Term) → TellsTerm declarations symbols t → AllByRecursion (λ (v : Variable). TellsType declarations symbols v.1) (free_places t)
+free_types-told : (declarations : List Declaration) (symbols : SymbolMap) (t : Term) → TellsTerm declarations symbols t → AllByRecursion (λ (v : Variable). TellsType declarations symbols v.1) (free_places t)
 free_types-told d symbols (term.Term.free n t) h = (h, tt {0})
 free_types-told d symbols (term.Term.bound k) h = tt
 free_types-told d symbols (term.Term.constant n t) h = tt
 free_types-told d symbols (term.Term.app f x) h = All-append _ (free_places f) (free_places x) (free_types-told d symbols f h.0) (free_types-told d symbols x h.1)
 free_types-told d symbols (term.Term.lam t b) h = free_types-told d symbols b h.1
 
-all_free_types-told : (declarations : List Declaration) (symbols : Symbols) (ts : List Term) → AllByRecursion (TellsTerm declarations symbols) ts → AllByRecursion (λ (v : Variable). TellsType declarations symbols v.1) (flat_map free_places ts)
+all_free_types-told : (declarations : List Declaration) (symbols : SymbolMap) (ts : List Term) → AllByRecursion (TellsTerm declarations symbols) ts → AllByRecursion (λ (v : Variable). TellsType declarations symbols v.1) (flat_map free_places ts)
 all_free_types-told d symbols [] h = tt
 all_free_types-told d symbols (t ∷ ts) h = All-append _ (free_places t) (flat_map free_places ts) (free_types-told d symbols t h.0) (all_free_types-told d symbols ts h.1)
 
-pub variables-told : (declarations : List Declaration) (symbols : Symbols) (s : Sequent) → TellsSequent declarations symbols s → AllByRecursion (λ (v : Variable). TellsType declarations symbols v.1) (free_variables_of s)
+pub variables-told : (declarations : List Declaration) (symbols : SymbolMap) (s : Sequent) → TellsSequent declarations symbols s → AllByRecursion (λ (v : Variable). TellsType declarations symbols v.1) (free_variables_of s)
 variables-told d symbols s h =
     All-each _ (free_variables_of s) (λ v i. All-at _ (flat_map free_places (terms_of s)) v
     (all_free_types-told d symbols (terms_of s) (All-append (TellsTerm d symbols) s.hypotheses (s.conclusion ∷ []) h.hypotheses (h.conclusion, tt {0})))

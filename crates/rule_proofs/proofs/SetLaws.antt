@@ -13,14 +13,14 @@ use Rattle.module_spec.specs.Scopes.{set_term, set_proof}
 use Rattle.sequent.specs.Params.{same_variable}
 use Rattle.sequent.specs.Sequents.{same_id}
 use Rattle.rule_proofs.specs.declared.scope.Environment.{Environment}
-use Rattle.rule_proofs.specs.Environments.{Given, Stands, TellTypes, TellTerms, TellProofs, filled_terms, unproved}
+use Rattle.rule_proofs.specs.Environments.{Given, Represents, TellTypes, TellTerms, TellProofs, filled_terms, unproved}
 use Rattle.rule_proofs.specs.Rescoped.{with_scope}
 use Rattle.rule_proofs.specs.Placing.{TermsAlone, ProofsAlone}
 use Rattle.rule_proofs.proofs.TellLaws.{TellTerms-set, TellProofs-set}
 
-pub Stands-set_term : (given : Given) (m : Module) (trees : Trees) (env next : Environment) (v : AVariable) (id : LpId) (x : Tree) → v.ty.0 < length trees.types → Holds m.table id.0 x → next.terms ≡ insert_entry same_variable env.terms v id
-    → TermsAlone env next → Stands given m trees env → Stands (with_scope given (set_term (variable_view trees v) x given.scope)) m trees next
-Stands-set_term given m trees env next v id x k is e a h = record {
+pub Represents-set_term : (given : Given) (m : Module) (trees : Trees) (env next : Environment) (v : AVariable) (id : LpId) (x : Tree) → v.ty.0 < length trees.types → Holds m.table id.0 x → next.terms ≡ insert_entry same_variable env.terms v id
+    → TermsAlone env next → Represents given m trees env → Represents (with_scope given (set_term (variable_view trees v) x given.scope)) m trees next
+Represents-set_term given m trees env next v id x k is e a h = record {
   held = h.held;
   declared = h.declared;
   one_type = h.one_type;
@@ -33,9 +33,9 @@ Stands-set_term given m trees env next v id x k is e a h = record {
   proofs = subst (λ t. TellProofs trees m.table t unproved given.scope.proofs) (sym a.proofs) h.proofs;
 }
 
-pub Stands-set_proof : (given : Given) (m : Module) (trees : Trees) (env next : Environment) (p : TermId) (id : LpId) (x : Tree) → p.0 < length trees.terms → Holds m.table id.0 x → next.proofs ≡ insert_entry same_id env.proofs p id
-    → ProofsAlone env next → Stands given m trees env → Stands (with_scope given (set_proof (term_at trees p.0) x given.scope)) m trees next
-Stands-set_proof given m trees env next p id x k is e a h = record {
+pub Represents-set_proof : (given : Given) (m : Module) (trees : Trees) (env next : Environment) (p : TermId) (id : LpId) (x : Tree) → p.0 < length trees.terms → Holds m.table id.0 x → next.proofs ≡ insert_entry same_id env.proofs p id
+    → ProofsAlone env next → Represents given m trees env → Represents (with_scope given (set_proof (term_at trees p.0) x given.scope)) m trees next
+Represents-set_proof given m trees env next p id x k is e a h = record {
   held = h.held;
   declared = h.declared;
   one_type = h.one_type;

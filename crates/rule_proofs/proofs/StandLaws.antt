@@ -15,7 +15,7 @@ use Rattle.holide_sig.specs.declared.module.Module.{Module}
 use Rattle.module_spec.specs.Scopes.{TypeScope}
 use Rattle.translate_term.specs.Walks.{Grows}
 use Rattle.rule_proofs.specs.declared.scope.Environment.{Environment}
-use Rattle.rule_proofs.specs.Environments.{Given, Stands, Ready, TellTypes, TellTerms, TellProofs, filled_terms, unproved}
+use Rattle.rule_proofs.specs.Environments.{Given, Represents, Ready, TellTypes, TellTerms, TellProofs, filled_terms, unproved}
 use Rattle.rule_proofs.specs.Placed.{placed}
 use Rattle.rule_proofs.specs.Placing.{IsPlaced, TypesAlone, TermsAlone, ProofsAlone}
 use Rattle.translate_term.specs.GrowLaws.{Grows-refl, Grows-trans, IsHeld-Grows, declarations_of-Grows}
@@ -25,7 +25,7 @@ use Rattle.rule_proofs.proofs.TellLaws.{TellTypes-same, TellTerms-same, TellProo
 use Rattle.rule_proofs.specs.EnvironmentLaws.{TellTypes-Keeps, TellTerms-Keeps}
 
 -- arguments stay, for another environment too
-pub Ready-other : {m n : Module} → Grows m n → (given other : Given) (terms : Trees) (env next : Environment) (args : List LpId) (made : List Tree) → Ready given m terms env args made → Stands other n terms next → Ready other n terms next args made
+pub Ready-other : {m n : Module} → Grows m n → (given other : Given) (terms : Trees) (env next : Environment) (args : List LpId) (made : List Tree) → Ready given m terms env args made → Represents other n terms next → Ready other n terms next args made
 Ready-other g given other terms env next args made h s = record {
   stands = s;
   known = AreKnown-Keeps g.table args h.known;
@@ -49,7 +49,7 @@ module _ (given : Given) (trees : Trees) (m one two three : Module) (none first 
       → ((scope : Variable → Tree) → TellTerms trees.types one.table first.terms (filled_terms given.symbols given.scope.types) scope
       → TellTerms trees.types two.table second.terms (filled_terms given.symbols given.scope.types) (placed variable_eq (inside + length hyps + length variables) (variables_of trees variables) scope)) → TermsAlone first second → Grows one two
       → ((scope : Term → Tree) → TellProofs trees two.table second.proofs unproved scope → TellProofs trees three.table last.proofs unproved (placed term_eq (inside + length hyps) (terms_at trees hyps) scope)) → ProofsAlone second last → Grows two three
-      → Stands given three trees last
+      → Represents given three trees last
   stands-placed a b c d e types types_alone g terms terms_alone h proofs proofs_alone k =
       let whole = Grows-trans g (Grows-trans h k) in
       let types_there : TellTypes one.table first.types given.scope.types = TellTypes-same one.table first.types _ given.scope.types is.types (types (λ n. bools) (nothing-types m.table none.types a)) in
@@ -75,7 +75,7 @@ module _ (given : Given) (trees : Trees) (m one two three : Module) (none first 
 -- binders placed for type variables alone
 pub stands-placed_types : (given : Given) (trees : Trees) (m one : Module) (none first : Environment) (names : List Name) (inside : ℕ) → IsPlaced given m trees names [] [] inside
     → none.types ≡ [] → none.terms ≡ [] → none.proofs ≡ [] → none.scope.types ≡ [] → none.scope.terms ≡ [] → (depth : ℕ) → depth ≡ inside + length names
-    → ((scope : TypeScope) → TellTypes m.table none.types scope → TellTypes one.table first.types (placed name_eq depth names scope)) → TypesAlone none first → Grows m one → Stands given one trees first
+    → ((scope : TypeScope) → TellTypes m.table none.types scope → TellTypes one.table first.types (placed name_eq depth names scope)) → TypesAlone none first → Grows m one → Represents given one trees first
 stands-placed_types given trees m one none first names inside is a b c d e depth long types alone g =
     let count : depth ≡ inside + 0 + 0 + length names = long ∙ (let f : inside + length names ≡ inside + 0 + 0 + length names = omega arith in f) in
     stands-placed given trees m one one one none first first first names [] [] inside is a b c d e (λ scope h. subst (λ n. TellTypes one.table first.types (placed name_eq n names scope)) count (types scope h)) alone g

@@ -20,7 +20,7 @@ use Rattle.lp_term.specs.Tables.{tree_at, Holds}
 use Rattle.lp_term.specs.TableLaws.{Holds-tree_at, Holds-within, tree_at-Holds}
 use Rattle.holide_sig.specs.declared.module.Module.{Module}
 use Rattle.holide_sig.specs.Modules.{declarations_of}
-use Rattle.module_spec.specs.Scopes.{Symbols, TypeScope, type_tree, term_tree, filler}
+use Rattle.module_spec.specs.Scopes.{SymbolMap, TypeScope, type_tree, term_tree, filler}
 use Rattle.module_laws.specs.ListedScopes.{told, told_types}
 use Rattle.module_laws.specs.TermScopeLaws.{AreInstances, term_tree-agrees}
 use Rattle.sequent.specs.Params.{same_variable}
@@ -28,11 +28,11 @@ use Rattle.sequent.specs.Sequents.{same_id}
 use Rattle.translate_term.specs.Told.{TellsType, TellsTerm, types_in, terms_in, AreTypesKnown, AreTermsKnown}
 use Rattle.translate_term.specs.Walks.{Grows}
 use Rattle.rule_proofs.specs.declared.scope.Environment.{Environment}
-use Rattle.rule_proofs.specs.Environments.{Given, Stands, Ready, IsTold, TellTypes, TellTerms, TellProofs, proofs_in, AreProofsKnown}
+use Rattle.rule_proofs.specs.Environments.{Given, Represents, Ready, IsTold, TellTypes, TellTerms, TellProofs, proofs_in, AreProofsKnown}
 use Rattle.rule_proofs.proofs.KeepLaws.{trees_at-append, AreKnown-more}
 use Rattle.rule_proofs.proofs.TellLaws.{same-seen}
 use Rattle.lp_term.specs.TableLaws.{trees_at-Keeps, AreKnown-Keeps}
-use Rattle.rule_proofs.specs.EnvironmentLaws.{Stands-Grows}
+use Rattle.rule_proofs.specs.EnvironmentLaws.{Represents-Grows}
 use Rattle.rule_proofs.specs.FormulaLaws.{same-formula}
 
 -- one argument more
@@ -40,7 +40,7 @@ pub Ready-more : {m n : Module} → Grows m n → (given : Given) (terms : Trees
     → Ready given n terms env items (made ++ x ∷ [])
 Ready-more {n = n} g given terms env args items made r x is e h =
     subst (λ l. Ready given n terms env l (made ++ x ∷ [])) (sym e) (record {
-      stands = Stands-Grows g given terms env h.stands;
+      stands = Represents-Grows g given terms env h.stands;
       known = AreKnown-more n.table args r (AreKnown-Keeps g.table args h.known) (Holds-within n.table r.0 x is);
       are = trees_at-append n.table args (r ∷ []) ∙ ap₂ (λ l y. l ++ y ∷ []) (trees_at-Keeps g.table args h.known ∙ h.are) (Holds-tree_at n.table r.0 x is);
     })
@@ -50,14 +50,14 @@ all-unit [] = tt
 all-unit (x ∷ xs) = (tt, all-unit xs)
 
 -- a told term's constants are instances
-pub told-instances : (declarations : List Declaration) (symbols : Symbols) (t : Term) → TellsTerm declarations symbols t → AreInstances symbols t
+pub told-instances : (declarations : List Declaration) (symbols : SymbolMap) (t : Term) → TellsTerm declarations symbols t → AreInstances symbols t
 told-instances d symbols (term.Term.free n t) h = tt
 told-instances d symbols (term.Term.bound k) h = tt
 told-instances d symbols (term.Term.constant n t) h = h.instance
 told-instances d symbols (term.Term.app f x) h = (told-instances d symbols f h.0, told-instances d symbols x h.1)
 told-instances d symbols (term.Term.lam t b) h = told-instances d symbols b h.1
 
-module _ (given : Given) (m : Module) (terms : Trees) (env : Environment) (h : Stands given m terms env) where
+module _ (given : Given) (m : Module) (terms : Trees) (env : Environment) (h : Represents given m terms env) where
   pub types_known : AreTypesKnown m.table env.scope.types
   types_known = subst (AreTypesKnown m.table) (sym h.same_types) h.types.known
 
@@ -84,10 +84,10 @@ module _ (given : Given) (m : Module) (terms : Trees) (env : Environment) (h : S
       t (told-instances given.declarations given.symbols t k.told) (all-unit (type_variable_places t)) (all-unit (free_places t)) k.closed
 
 -- what a module tells, its declarations tell
-pub declared-type : (given : Given) (m : Module) (terms : Trees) (env : Environment) → Stands given m terms env → (a : HolType) → TellsType given.declarations given.symbols a → TellsType (declarations_of m) given.symbols a
+pub declared-type : (given : Given) (m : Module) (terms : Trees) (env : Environment) → Represents given m terms env → (a : HolType) → TellsType given.declarations given.symbols a → TellsType (declarations_of m) given.symbols a
 declared-type given m terms env h a t = subst (λ d. TellsType d given.symbols a) (sym h.declared) t
 
-pub declared-term : (given : Given) (m : Module) (terms : Trees) (env : Environment) → Stands given m terms env → (t : Term) → IsTold given t → TellsTerm (declarations_of m) given.symbols t
+pub declared-term : (given : Given) (m : Module) (terms : Trees) (env : Environment) → Represents given m terms env → (t : Term) → IsTold given t → TellsTerm (declarations_of m) given.symbols t
 declared-term given m terms env h t k = subst (λ d. TellsTerm d given.symbols t) (sym h.declared) k.told
 
 -- a type variable that is found, and one that isn't

@@ -8,10 +8,10 @@ use Rattle.holide_sig.specs.declared.module.Module.{Module}
 use Rattle.lp_term.specs.declared.LpId.{LpId}
 use Rattle.module_spec.specs.Scopes.{Scope}
 use Rattle.rule_proofs.specs.declared.scope.Environment.{Environment}
-use Rattle.rule_proofs.specs.Environments.{Given, Stands, Ready}
+use Rattle.rule_proofs.specs.Environments.{Given, Represents, Ready}
 
 -- no argument is made at first
-pub Ready-start : (given : Given) (m : Module) (terms : Trees) (env : Environment) (args : List LpId) → args ≡ [] → Stands given m terms env → Ready given m terms env args []
+pub Ready-start : (given : Given) (m : Module) (terms : Trees) (env : Environment) (args : List LpId) → args ≡ [] → Represents given m terms env → Ready given m terms env args []
 Ready-start given m terms env args e h = subst (λ l. Ready given m terms env l []) (sym e) (record { stands = h; known = tt; are = refl })
 
 pub theorem-args : (scope : Scope) (s : Sequent) (names : List Name) (variables : List Variable) (hyps : List Term) → names ≡ type_variables_of s → variables ≡ free_variables_of s → hyps ≡ s.hypotheses

@@ -14,7 +14,7 @@ use Rattle.lp_spec.specs.Trees.{Tree, Var}
 use Rattle.module_spec.specs.Scopes.{TypeScope, set_proof, set_term}
 use Rattle.sequent.specs.declared.params.Params.{Params}
 use Rattle.rule_proofs.specs.declared.scope.Environment.{Environment}
-use Rattle.rule_proofs.specs.Environments.{Given, Stands, TellProofs, TellTerms, TellTypes}
+use Rattle.rule_proofs.specs.Environments.{Given, Represents, TellProofs, TellTerms, TellTypes}
 use Rattle.rule_proofs.specs.Placed.{placed}
 use Rattle.rule_proofs.specs.Placing.{IsPlaced}
 use Rattle.rule_proofs.specs.Rescoped.{with_scope}
@@ -22,29 +22,29 @@ use Rattle.rule_proofs.specs.Rescoped.{with_scope}
 -- it stands where the binders outside so many more stand for these parameters
 abbrev pub StandsPlaced : Module → Module → List Name → List Variable → List TermId → ℕ → Environment → Type 0
 StandsPlaced old new names variables hyps inside env =
-    (given : Given) (trees : Trees) → IsPlaced given old trees names variables hyps inside → Stands given new trees env
+    (given : Given) (trees : Trees) → IsPlaced given old trees names variables hyps inside → Represents given new trees env
 
 -- it stands where the one more stands for a variable, and where it proves a formula
 abbrev pub StandsUnderVariable : Module → Module → Params → List TermId → Variable → Environment → Type 0
 StandsUnderVariable old new params hyps v env =
     (given : Given) (trees : Trees) → IsPlaced given old trees params.type_vars params.free_vars hyps 1 → v.ty.0 < length trees.types
-    → Stands (with_scope given (set_term (variable_view trees v) (Var 0) given.scope)) new trees env
+    → Represents (with_scope given (set_term (variable_view trees v) (Var 0) given.scope)) new trees env
 
 abbrev pub StandsUnderProof : Module → Module → Params → List TermId → TermId → Environment → Type 0
 StandsUnderProof old new params hyps id env =
     (given : Given) (trees : Trees) → IsPlaced given old trees params.type_vars params.free_vars hyps 1 → id.0 < length trees.terms
-    → Stands (with_scope given (set_proof (term_at trees id.0) (Var 0) given.scope)) new trees env
+    → Represents (with_scope given (set_proof (term_at trees id.0) (Var 0) given.scope)) new trees env
 
 -- one that stood stands once the innermost binder is let stand for a variable, or prove a formula
 abbrev pub BindsVariable : Module → Module → Environment → Variable → Environment → Type 0
 BindsVariable old new before v after =
-    (given : Given) (trees : Trees) → Stands given old trees before → v.ty.0 < length trees.types
-    → Stands (with_scope given (set_term (variable_view trees v) (Var 0) given.scope)) new trees after
+    (given : Given) (trees : Trees) → Represents given old trees before → v.ty.0 < length trees.types
+    → Represents (with_scope given (set_term (variable_view trees v) (Var 0) given.scope)) new trees after
 
 abbrev pub BindsProof : Module → Module → Environment → TermId → Environment → Type 0
 BindsProof old new before id after =
-    (given : Given) (trees : Trees) → Stands given old trees before → id.0 < length trees.terms
-    → Stands (with_scope given (set_proof (term_at trees id.0) (Var 0) given.scope)) new trees after
+    (given : Given) (trees : Trees) → Represents given old trees before → id.0 < length trees.terms
+    → Represents (with_scope given (set_proof (term_at trees id.0) (Var 0) given.scope)) new trees after
 
 -- binders from the outermost of so many on are placed for type variables, for free variables, and for hypotheses
 abbrev pub PlacesTypes : Module → Module → Environment → List Name → ℕ → Environment → Type 0

@@ -24,7 +24,7 @@ use Rattle.rule_proofs.specs.declared.ground.Ground.{Ground}
 use Rattle.rule_proofs.specs.declared.premise.Premise.{Premise}
 use Rattle.rule_proofs.specs.declared.rows.Equated.{Equated}
 use Rattle.rule_proofs.specs.declared.scope.Environment.{Environment}
-use Rattle.rule_proofs.specs.Environments.{Given, Ready, Stands}
+use Rattle.rule_proofs.specs.Environments.{Given, Ready, Represents}
 use Rattle.rule_proofs.specs.Grounds.{AddsWhere, MakesWhere, TellsTypeAt, TellsVariables}
 use Rattle.rule_proofs.specs.RuleRows.{premise_at}
 use Rattle.rule_proofs.specs.Told.{TellsStep}
@@ -59,18 +59,18 @@ pub record IsEquatedFormula (trees : Trees) (h : Term) (e : Equated) : Type 0 wh
 -- what `constant_list` is told: the module tells the constants too
 abbrev pub TellsList : Module → Ground → List (Name × Variable) → ℕ → Type 0
 TellsList m on pairs one =
-    (given : Given) × Stands given m on.proof.now.trees on.env.now × TellsConstants given (pairs_view on.proof.now.trees pairs)
+    (given : Given) × Represents given m on.proof.now.trees on.env.now × TellsConstants given (pairs_view on.proof.now.trees pairs)
     × TellsStep given on.proof.now one
 
 -- and what it makes: the premise where the constants are put
 abbrev pub MakesList : {E : Type 0} → Module → Module → Ground → List (Name × Variable) → Premise → Result LpId E → Type 0
 MakesList old new on pairs one result =
-    IfOk result (λ r. (given : Given) → Stands given old on.proof.now.trees on.env.now → TellsConstants given (pairs_view on.proof.now.trees pairs)
+    IfOk result (λ r. (given : Given) → Represents given old on.proof.now.trees on.env.now → TellsConstants given (pairs_view on.proof.now.trees pairs)
     → TellsStep given on.proof.now one.id → Holds new.table r.0 (premise_tree (scope_with given on.proof.now.trees pairs) (premise_at on.proof.now one)))
 
 -- the module tells the constants that are put for variables, where the scope and the module meet a condition
 abbrev pub TellsConstantsWhere : Module → Kept → Environment → List (Name × Variable) → (Given → Type 0) → Type 0
-TellsConstantsWhere m k env pairs If = (given : Given) × Stands given m k.trees env × TellsConstants given (pairs_view k.trees pairs) × If given
+TellsConstantsWhere m k env pairs If = (given : Given) × Represents given m k.trees env × TellsConstants given (pairs_view k.trees pairs) × If given
 
 -- what is added to some arguments is what stands, where the constants are put, for a free variable, and for several
 abbrev pub AddsConstant : {A E : Type 0} → Module → Module → Ground → List LpId → List LpId → List (Name × Variable) → Variable → Result A E → Type 0

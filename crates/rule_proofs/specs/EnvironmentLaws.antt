@@ -19,7 +19,7 @@ use Rattle.module_laws.specs.ListedScopes.{told_types}
 use Rattle.translate_term.specs.GrowLaws.{IsHeld-Grows, declarations_of-Grows, AreTypesKnown-Keeps, types_in-Keeps, AreTermsKnown-Keeps, terms_in-Keeps}
 use Rattle.translate_term.specs.Walks.{Grows}
 use Rattle.rule_proofs.specs.declared.scope.Environment.{Environment}
-use Rattle.rule_proofs.specs.Environments.{Given, Stands, TellTypes, TellTerms, TellProofs, proofs_in, AreProofsKnown, filled_terms, unproved}
+use Rattle.rule_proofs.specs.Environments.{Given, Represents, TellTypes, TellTerms, TellProofs, proofs_in, AreProofsKnown, filled_terms, unproved}
 
 pub TellTypes-Keeps : {old new : List Tree} → Keeps old new → (es : List (Name × LpId)) (scope : TypeScope) → TellTypes old es scope → TellTypes new es scope
 TellTypes-Keeps k es scope h = record {
@@ -52,8 +52,8 @@ TellProofs-Keeps k terms es other scope h = record {
 }
 
 -- so it stands for the same
-pub Stands-Grows : {m n : Module} → Grows m n → (given : Given) (terms : Trees) (env : Environment) → Stands given m terms env → Stands given n terms env
-Stands-Grows {m = m} {n = n} g given terms env h = record {
+pub Represents-Grows : {m n : Module} → Grows m n → (given : Given) (terms : Trees) (env : Environment) → Represents given m terms env → Represents given n terms env
+Represents-Grows {m = m} {n = n} g given terms env h = record {
   held = IsHeld-Grows m n g h.held;
   declared = declarations_of-Grows m n g h.held ∙ h.declared;
   one_type = h.one_type;

@@ -16,7 +16,7 @@ use Rattle.lp_term.specs.declared.LpId.{LpId}
 use Rattle.lp_term.specs.Tables.{tree_at, trees_at, AreKnown}
 use Rattle.holide_sig.specs.declared.module.Module.{Module}
 use Rattle.holide_sig.specs.Modules.{declarations_of, IsHeld}
-use Rattle.module_spec.specs.Scopes.{Symbols, TypeScope, Scope, type_tree, filler}
+use Rattle.module_spec.specs.Scopes.{SymbolMap, TypeScope, Scope, type_tree, filler}
 use Rattle.module_laws.specs.ListedScopes.{told_types}
 use Rattle.translate_term.specs.Told.{TellsTerm, types_in, terms_in, AreTypesKnown, AreTermsKnown}
 use Rattle.rule_proofs.specs.declared.scope.Environment.{Environment}
@@ -49,18 +49,18 @@ pub record TellProofs (terms : Trees) (trees : List Tree) (entries : List (TermI
 -- what a translation is given: the declarations of its module, the symbols that these tell, and what stands for variables and hypotheses
 pub record Given : Type 0 where
   pub declarations : List Declaration
-  pub symbols : Symbols
+  pub symbols : SymbolMap
   pub scope : Scope
 
 -- where nothing is told for a free variable, it is some term of its type; where nothing is told for a hypothesis, no proof
-abbrev pub filled_terms : Symbols → TypeScope → Variable → Tree
+abbrev pub filled_terms : SymbolMap → TypeScope → Variable → Tree
 filled_terms symbols types v = filler (type_tree symbols types v.1)
 
 abbrev pub unproved : Term → Tree
 unproved h = Sym 0
 
 -- an environment over a module and a table of terms stands for the scope that is given
-pub record Stands (given : Given) (m : Module) (terms : Trees) (env : Environment) : Type 0 where
+pub record Represents (given : Given) (m : Module) (terms : Trees) (env : Environment) : Type 0 where
   pub held : IsHeld m
   pub declared : declarations_of m ≡ given.declarations
   pub one_type : type.IsDistinct terms.types
@@ -73,7 +73,7 @@ pub record Stands (given : Given) (m : Module) (terms : Trees) (env : Environmen
 
 -- and some arguments are made, which are these trees
 pub record Ready (given : Given) (m : Module) (terms : Trees) (env : Environment) (args : List LpId) (made : List Tree) : Type 0 where
-  pub stands : Stands given m terms env
+  pub stands : Represents given m terms env
   pub known : AreKnown m.table args
   pub are : trees_at m.table args ≡ made
 

@@ -16,20 +16,20 @@ use Rattle.rule_proofs.specs.declared.ground.Ground.{Ground}
 use Rattle.rule_proofs.specs.declared.scope.Environment.{Environment}
 use Rattle.module_spec.specs.Scopes.{term_tree, type_tree}
 use Rattle.translate_term.specs.Told.{TellsType}
-use Rattle.rule_proofs.specs.Environments.{Given, IsTold, Ready, Stands}
+use Rattle.rule_proofs.specs.Environments.{Given, IsTold, Ready, Represents}
 use Rattle.rule_proofs.specs.Told.{TellsStep}
 
 -- an environment stands for a scope, and the module tells the sequent of a step
 abbrev pub TellsOne : Module → Kept → Environment → ℕ → Type 0
-TellsOne m k env one = (given : Given) × Stands given m k.trees env × TellsStep given k one
+TellsOne m k env one = (given : Given) × Represents given m k.trees env × TellsStep given k one
 
 -- it tells those of two steps
 abbrev pub TellsTwo : Module → Kept → Environment → ℕ → ℕ → Type 0
-TellsTwo m k env one two = (given : Given) × Stands given m k.trees env × TellsStep given k one × TellsStep given k two
+TellsTwo m k env one two = (given : Given) × Represents given m k.trees env × TellsStep given k one × TellsStep given k two
 
 -- it tells those of three
 abbrev pub TellsThree : Module → Kept → Environment → ℕ → ℕ → ℕ → Type 0
-TellsThree m k env one two three = (given : Given) × Stands given m k.trees env × TellsStep given k one × TellsStep given k two × TellsStep given k three
+TellsThree m k env one two three = (given : Given) × Represents given m k.trees env × TellsStep given k one × TellsStep given k two × TellsStep given k three
 
 -- something holds where the module tells the sequents of these steps
 abbrev pub IfTold : Given → Kept → List ℕ → Type 0 → Type 0
@@ -39,7 +39,7 @@ IfTold given k (id ∷ ids) P = TellsStep given k id → IfTold given k ids P
 -- what is made is this tree in each scope for which the environment stands, where the module tells these steps
 abbrev pub MakesTree : {E : Type 0} → Module → Module → Kept → Environment → List ℕ → Result LpId E → (Given → Tree) → Type 0
 MakesTree old new k env steps result tree =
-    IfOk result (λ r. (given : Given) → Stands given old k.trees env → IfTold given k steps (Holds new.table r.0 (tree given)))
+    IfOk result (λ r. (given : Given) → Represents given old k.trees env → IfTold given k steps (Holds new.table r.0 (tree given)))
 
 -- it is this tree in the environment of a ground
 abbrev pub MakesOn : {E : Type 0} → Module → Module → Ground → List ℕ → Result LpId E → (Given → Tree) → Type 0
@@ -47,10 +47,10 @@ MakesOn old new on steps result tree = MakesTree old new on.proof.now on.env.now
 
 -- the same where the scope and the module meet a condition
 abbrev pub TellsWhere : Module → Kept → Environment → (Given → Type 0) → Type 0
-TellsWhere m k env If = (given : Given) × Stands given m k.trees env × If given
+TellsWhere m k env If = (given : Given) × Represents given m k.trees env × If given
 
 abbrev pub MakesWhere : {E : Type 0} → Module → Module → Kept → Environment → (Given → Type 0) → Result LpId E → (Given → Tree) → Type 0
-MakesWhere old new k env If result tree = IfOk result (λ r. (given : Given) → Stands given old k.trees env → If given → Holds new.table r.0 (tree given))
+MakesWhere old new k env If result tree = IfOk result (λ r. (given : Given) → Represents given old k.trees env → If given → Holds new.table r.0 (tree given))
 
 -- what is added to some arguments are these trees there
 abbrev pub AddsWhere : {A E : Type 0} → Module → Module → Ground → List LpId → List LpId → (Given → Type 0) → Result A E → (Given → List Tree) → Type 0

@@ -28,7 +28,7 @@ use Rattle.rule_proofs.specs.declared.parts.Part.{Part}
 use Rattle.rule_proofs.specs.declared.parts.Part.TheVariants as part
 use Rattle.rule_proofs.specs.declared.premise.Premise.{Premise}
 use Rattle.rule_proofs.specs.declared.scope.Environment.{Environment}
-use Rattle.rule_proofs.specs.Environments.{Given, IsTold, Ready, Stands}
+use Rattle.rule_proofs.specs.Environments.{Given, IsTold, Ready, Represents}
 use Rattle.rule_proofs.specs.Equations.{IsEquated}
 use Rattle.rule_proofs.specs.Rescoped.{over_types, with_scope}
 use Rattle.rule_proofs.specs.RuleRows.{premise_at}
@@ -94,12 +94,12 @@ part_row k symbol one given = part_tree given.symbols given.scope symbol (whole_
 
 -- the module tells the sequent of a theorem and that type, where an environment stands for a scope
 abbrev pub TellsPart : Module → Kept → Environment → ℕ → Type 0
-TellsPart m k env one = (given : Given) × Stands given m k.trees env × TellsWhole given k one × TellsStep given k one
+TellsPart m k env one = (given : Given) × Represents given m k.trees env × TellsWhole given k one × TellsStep given k one
 
 -- what is made there is such a symbol
 abbrev pub MakesPart : {E : Type 0} → Module → Module → Kept → Environment → ℕ → Premise → Result LpId E → Type 0
 MakesPart old new k env symbol one result =
-    IfOk result (λ r. (given : Given) → Stands given old k.trees env → TellsWhole given k one.id → TellsStep given k one.id
+    IfOk result (λ r. (given : Given) → Represents given old k.trees env → TellsWhole given k one.id → TellsStep given k one.id
     → Holds new.table r.0 (part_row k symbol one given))
 
 -- it is added to some arguments, at the variable of an abstraction over the terms of a type
@@ -117,15 +117,15 @@ under_binder given = with_scope given (lifted given.scope)
 -- what a law is told: another environment stands for another scope, and the module tells the sequents of the step and of the theorem
 abbrev pub TellsBoth : (Given → Given) → Module → Ground → Environment → ℕ → ℕ → Type 0
 TellsBoth other m on env id one =
-    (given : Given) × Stands given m on.proof.now.trees on.env.now × Stands (other given) m on.proof.now.trees env
+    (given : Given) × Represents given m on.proof.now.trees on.env.now × Represents (other given) m on.proof.now.trees env
     × TellsStep given on.proof.now id × TellsStep given on.proof.now one
 
 -- and what it makes, where the step is the law of the type operator with these names
 abbrev pub MakesBoth : {E : Type 0} → (Given → Given) → (TypeNames → Type 0) → (TypeNames → Given → Tree) → Module → Module → Ground → Environment → ℕ → ℕ
     → Result LpId E → Type 0
 MakesBoth other IsLaw tree old new on env id one result =
-    IfOk result (λ r. (given : Given) (names : TypeNames) → IsLaw names → Stands given old on.proof.now.trees on.env.now
-    → Stands (other given) old on.proof.now.trees env → TellsStep given on.proof.now id → TellsStep given on.proof.now one
+    IfOk result (λ r. (given : Given) (names : TypeNames) → IsLaw names → Represents given old on.proof.now.trees on.env.now
+    → Represents (other given) old on.proof.now.trees env → TellsStep given on.proof.now id → TellsStep given on.proof.now one
     → Holds new.table r.0 (tree names given))
 
 -- the trees of the laws, in version 6 and in version 5
@@ -161,26 +161,26 @@ MakesSecondLawFree old new on outer id one result =
 -- what the equation of two functions is told: the type of the theorem's term too
 abbrev pub TellsLaw : Module → Ground → Environment → ℕ → ℕ → Type 0
 TellsLaw m on inner id one =
-    (given : Given) × Stands given m on.proof.now.trees on.env.now × Stands (under_binder given) m on.proof.now.trees inner
+    (given : Given) × Represents given m on.proof.now.trees on.env.now × Represents (under_binder given) m on.proof.now.trees inner
     × TellsStep given on.proof.now id × TellsWhole given on.proof.now one × TellsStep given on.proof.now one
 
 -- and what it makes, where the step's conclusion is the equation of two abstractions
 abbrev pub MakesLaw : {E : Type 0} → Module → Module → Ground → Environment → ℕ → ℕ → Premise → Result LpId E → Type 0
 MakesLaw old new on inner symbol id one result =
     IfOk result (λ r. (given : Given) (a b : HolType) (t u : Term) → (sequent_at on.proof.now.made id).conclusion ≡ equation (function a b) (lam a t) (lam a u)
-    → Stands given old on.proof.now.trees on.env.now → Stands (under_binder given) old on.proof.now.trees inner → TellsStep given on.proof.now id
+    → Represents given old on.proof.now.trees on.env.now → Represents (under_binder given) old on.proof.now.trees inner → TellsStep given on.proof.now id
     → TellsWhole given on.proof.now one.id → TellsStep given on.proof.now one.id
     → Holds new.table r.0 (law_tree given.symbols given.scope a b t u symbol (whole_type on.proof.now one.id) (premise_at on.proof.now one)))
 
 -- what a symbol at a term is told: the module tells the term too
 abbrev pub TellsPartAt : Module → Ground → Environment → ℕ → TermId → Type 0
 TellsPartAt m on outer one id =
-    (given : Given) × Stands given m on.proof.now.trees on.env.now × Stands (over_types given) m on.proof.now.trees outer
+    (given : Given) × Represents given m on.proof.now.trees on.env.now × Represents (over_types given) m on.proof.now.trees outer
     × TellsWhole given on.proof.now one × TellsStep given on.proof.now one × IsTold given (term_at on.proof.now.trees id.0)
 
 -- and what it makes
 abbrev pub MakesPartAt : {E : Type 0} → Module → Module → Ground → Environment → ℕ → Premise → TermId → Result LpId E → Type 0
 MakesPartAt old new on outer symbol one id result =
-    IfOk result (λ r. (given : Given) → Stands given old on.proof.now.trees on.env.now → Stands (over_types given) old on.proof.now.trees outer
+    IfOk result (λ r. (given : Given) → Represents given old on.proof.now.trees on.env.now → Represents (over_types given) old on.proof.now.trees outer
     → TellsWhole given on.proof.now one.id → TellsStep given on.proof.now one.id → IsTold given (term_at on.proof.now.trees id.0)
     → Holds new.table r.0 (App (part_row on.proof.now symbol one (over_types given)) (term_tree given.symbols given.scope (term_at on.proof.now.trees id.0))))

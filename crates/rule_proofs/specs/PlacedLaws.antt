@@ -10,7 +10,7 @@ use Rattle.lp_spec.specs.Trees.{Tree, Var, Sym, lift}
 use Rattle.lp_spec.specs.Modules.{bools}
 use Rattle.lp_binding.specs.Composition.{lift_zero}
 use Rattle.lp_binding.specs.Binding.{lift-lift}
-use Rattle.module_spec.specs.Scopes.{Symbols, TypeScope, Scope, type_tree, filler, unfilled, under_types, under_term, under_terms, under_proof, under_proofs, scope_of, scope_of_types, scope_of_terms}
+use Rattle.module_spec.specs.Scopes.{SymbolMap, TypeScope, Scope, type_tree, filler, unfilled, under_types, under_term, under_terms, under_proof, under_proofs, scope_of, scope_of_types, scope_of_terms}
 use Rattle.module_laws.specs.ListedScopes.{under_all, under_types-all, under_terms-all, under_terms-types, under_proofs-types, under_proofs-terms, filler-lift}
 use Rattle.module_laws.specs.ScopeLaws.{type_tree-lift}
 use Rattle.rule_proofs.specs.Placed.{placed}
@@ -55,7 +55,7 @@ under_terms-proofs [] scope h = sym (lift_zero (scope.proofs h))
 under_terms-proofs (v ∷ vs) scope h = under_terms-proofs vs (under_term v scope) h ∙ suc_lift (length vs) (scope.proofs h)
 
 -- the filler of a type under binders
-filler-lifts : (symbols : Symbols) (k : ℕ) (scope : TypeScope) (a : HolType)
+filler-lifts : (symbols : SymbolMap) (k : ℕ) (scope : TypeScope) (a : HolType)
     → lift k (filler (type_tree symbols scope a)) ≡ filler (type_tree symbols (λ n. lift k (scope n)) a)
 filler-lifts symbols zero scope a =
     lift_zero (filler (type_tree symbols scope a)) ∙ ap (λ w. filler (type_tree symbols w a)) (fun_ext (λ n. sym (lift_zero (scope n))))
@@ -65,7 +65,7 @@ filler-lifts symbols (suc k) scope a =
     ∙ filler-lifts symbols k (λ n. lift 1 (scope n)) a
     ∙ ap (λ w. filler (type_tree symbols w a)) (fun_ext (λ n. suc_lift k (scope n)))
 
-module _ (symbols : Symbols) (s : Sequent) (inside : ℕ) where
+module _ (symbols : SymbolMap) (s : Sequent) (inside : ℕ) where
   abbrev names : List Name
   names = type_variables_of s
 

@@ -13,7 +13,7 @@ use Rattle.rule_proofs.specs.declared.ground.Ground.{Ground}
 use Rattle.rule_proofs.specs.declared.premise.Premise.{Premise}
 use Rattle.rule_proofs.specs.declared.premise.Proved.{Proved}
 use Rattle.rule_proofs.specs.declared.scope.Environment.{Environment}
-use Rattle.rule_proofs.specs.Environments.{Given, Stands}
+use Rattle.rule_proofs.specs.Environments.{Given, Represents}
 use Rattle.rule_proofs.specs.Told.{TellsStep}
 
 -- the tree that proves the one hypothesis, if there is one
@@ -32,17 +32,17 @@ scope_proved terms proved x scope = record { types = scope.types; terms = scope.
 -- what is made is a premise as a theorem there
 abbrev pub MakesTheorem : {E : Type 0} → Module → Module → Ground → Option Proved → Premise → Result LpId E → Type 0
 MakesTheorem old new on proved one result =
-    IfOk result (λ r. (given : Given) (x : Tree) → Stands given old on.proof.now.trees on.env.now → IsPut on.proof.now.trees old.table proved x
+    IfOk result (λ r. (given : Given) (x : Tree) → Represents given old on.proof.now.trees on.env.now → IsPut on.proof.now.trees old.table proved x
     → TellsStep given on.proof.now one.id
     → Holds new.table r.0 (theorem_tree (scope_proved on.proof.now.trees proved x given.scope) one.symbol (sequent_at on.proof.now.made one.id)))
 
 -- what is made proves a hypothesis, by a tree of its own or not
 abbrev pub MakesProof : {E : Type 0} → Module → Module → Environment → TermId → Result LpId E → Type 0
 MakesProof old new env id result =
-    IfOk result (λ r. (given : Given) (terms : Trees) → Stands given old terms env → id.0 < length terms.terms
+    IfOk result (λ r. (given : Given) (terms : Trees) → Represents given old terms env → id.0 < length terms.terms
     → Holds new.table r.0 (given.scope.proofs (term_at terms id.0)))
 
 abbrev pub MakesProofWith : {E : Type 0} → Module → Module → Environment → TermId → Option Proved → Result LpId E → Type 0
 MakesProofWith old new env id proved result =
-    IfOk result (λ r. (given : Given) (terms : Trees) (x : Tree) → Stands given old terms env → id.0 < length terms.terms → IsPut terms old.table proved x
+    IfOk result (λ r. (given : Given) (terms : Trees) (x : Tree) → Represents given old terms env → id.0 < length terms.terms → IsPut terms old.table proved x
     → Holds new.table r.0 (proof_with terms proved x given.scope.proofs (term_at terms id.0)))

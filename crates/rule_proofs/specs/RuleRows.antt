@@ -16,7 +16,7 @@ use Rattle.module_spec.specs.Scopes.{term_tree, theorem_tree, under_proof, under
 use Rattle.rule_proofs.specs.declared.ground.Ground.{Ground}
 use Rattle.rule_proofs.specs.declared.premise.Premise.{Premise}
 use Rattle.rule_proofs.specs.declared.scope.Environment.{Environment}
-use Rattle.rule_proofs.specs.Environments.{Given, Stands}
+use Rattle.rule_proofs.specs.Environments.{Given, Represents}
 use Rattle.rule_proofs.specs.Grounds.{TellsTypeAt}
 use Rattle.rule_proofs.specs.Rescoped.{with_scope}
 use Rattle.rule_proofs.specs.Told.{TellsStep}
@@ -82,27 +82,27 @@ under_conclusion k id given = with_scope given (under_proof (conclusion_at k id)
 -- what `abs_thm` is told: an environment under the binder of its variable stands too
 abbrev pub TellsUnderVariable : Module → Ground → Environment → Variable → ℕ → Type 0
 TellsUnderVariable m on inner v one =
-    (given : Given) × Stands given m on.proof.now.trees on.env.now × Stands (under_variable on.proof.now v given) m on.proof.now.trees inner
+    (given : Given) × Represents given m on.proof.now.trees on.env.now × Represents (under_variable on.proof.now v given) m on.proof.now.trees inner
     × TellsTypeAt on.proof.now v.ty given × TellsStep given on.proof.now one
 
 -- and what it makes
 abbrev pub MakesUnderVariable : {E : Type 0} → Module → Module → Ground → Environment → Variable → Premise → Result LpId E → Type 0
 MakesUnderVariable old new on inner v one result =
-    IfOk result (λ r. (given : Given) → Stands given old on.proof.now.trees on.env.now
-    → Stands (under_variable on.proof.now v given) old on.proof.now.trees inner
+    IfOk result (λ r. (given : Given) → Represents given old on.proof.now.trees on.env.now
+    → Represents (under_variable on.proof.now v given) old on.proof.now.trees inner
     → TellsTypeAt on.proof.now v.ty given → TellsStep given on.proof.now one.id → Holds new.table r.0 (abs_thm_row on.proof.now v one given))
 
 -- what `deduct_antisym` is told: environments in which a binder proves the one conclusion and the other stand too
 abbrev pub TellsUnderProofs : Module → Ground → Environment → Environment → ℕ → ℕ → Type 0
 TellsUnderProofs m on first second one two =
-    (given : Given) × Stands given m on.proof.now.trees on.env.now × Stands (under_conclusion on.proof.now one given) m on.proof.now.trees first
-    × Stands (under_conclusion on.proof.now two given) m on.proof.now.trees second × TellsStep given on.proof.now one × TellsStep given on.proof.now two
+    (given : Given) × Represents given m on.proof.now.trees on.env.now × Represents (under_conclusion on.proof.now one given) m on.proof.now.trees first
+    × Represents (under_conclusion on.proof.now two given) m on.proof.now.trees second × TellsStep given on.proof.now one × TellsStep given on.proof.now two
 
 -- and what it makes
 abbrev pub MakesUnderProofs : {E : Type 0} → Module → Module → Ground → Environment → Environment → Premise → Premise → Result LpId E → Type 0
 MakesUnderProofs old new on first second one two result =
-    IfOk result (λ r. (given : Given) → Stands given old on.proof.now.trees on.env.now
-    → Stands (under_conclusion on.proof.now one.id given) old on.proof.now.trees first
-    → Stands (under_conclusion on.proof.now two.id given) old on.proof.now.trees second → TellsStep given on.proof.now one.id
+    IfOk result (λ r. (given : Given) → Represents given old on.proof.now.trees on.env.now
+    → Represents (under_conclusion on.proof.now one.id given) old on.proof.now.trees first
+    → Represents (under_conclusion on.proof.now two.id given) old on.proof.now.trees second → TellsStep given on.proof.now one.id
     → TellsStep given on.proof.now two.id
     → Holds new.table r.0 (deduct_antisym_row on.proof.now one two given))

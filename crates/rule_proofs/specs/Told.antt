@@ -5,12 +5,12 @@ use Rattle.hol_spec.specs.Proofs.{sequent_at}
 use Rattle.hol_spec.specs.Sequents.{Sequent}
 use Rattle.hol_rules.specs.Kept.{Kept}
 use Rattle.lp_spec.specs.Modules.{Declaration}
-use Rattle.module_spec.specs.Scopes.{Symbols}
+use Rattle.module_spec.specs.Scopes.{SymbolMap}
 use Rattle.translate_term.specs.Told.{TellsTerm}
 use Rattle.rule_proofs.specs.Environments.{Given}
 
 -- the module tells the symbol of each operator and each constant in a sequent
-pub record TellsSequent (declarations : List Declaration) (symbols : Symbols) (s : Sequent) : Type 0 where
+pub record TellsSequent (declarations : List Declaration) (symbols : SymbolMap) (s : Sequent) : Type 0 where
   pub hypotheses : AllByRecursion (TellsTerm declarations symbols) s.hypotheses
   pub conclusion : TellsTerm declarations symbols s.conclusion
 

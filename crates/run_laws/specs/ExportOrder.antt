@@ -24,7 +24,7 @@ use Rattle.lp_spec.specs.Modules.{Declaration}
 use Rattle.module_laws.specs.BodyTyping.{IsIn-map}
 use Rattle.module_laws.specs.WantedItems.{AreMadeInOrder, keep-wanted}
 use Rattle.module_laws.specs.AcceptedItems.{made-said}
-use Rattle.module_spec.specs.Scopes.{Symbols}
+use Rattle.module_spec.specs.Scopes.{SymbolMap}
 use Rattle.module_spec.specs.Rows.{has_row}
 use Rattle.module_spec.specs.Items.{Content, operator, constant, defined_constant, type_operator, type_abstraction, type_representation, unproved, step, Item, says, declaration, declaration_of}
 use Rattle.module_spec.specs.Items as item
@@ -128,7 +128,7 @@ module _ (run : Accepted) (sound : IsSoundRun run) (rows : HaveRows run) where
   abbrev number : ℕ → ℕ
   number = symbol_of keep
 
-  abbrev symbols : Symbols
+  abbrev symbols : SymbolMap
   symbols = item.symbols_of (image_items keep items)
 
   abbrev declared : Item → Declaration

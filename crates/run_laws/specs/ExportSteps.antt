@@ -6,7 +6,7 @@ use Rattle.std.specs.Cmp.{unsigned_Decides}
 use Rattle.std.proofs.lemmas.Option.{same_Some}
 use Rattle.hol_spec.specs.Proofs.{Made, Step, steps_of, Accepted}
 use Rattle.hol_spec.specs.declared.StepKind.TheVariants as by_rule
-use Rattle.article_spec.specs.State.{Place, State}
+use Rattle.article_spec.specs.State.{Stage, State}
 use Rattle.article_spec.specs.Changes.{next_step}
 use Rattle.article_spec.specs.Run.{accepted, Run}
 use Rattle.article_laws.specs.GrownRuns.{of_names, Grows, moves_of}
@@ -47,7 +47,7 @@ HaveRestated made exports = AllByRecursion (IsRestated made) exports
 have-more : (m n : List Made) (is : List ℕ) → HaveRestated m is → HaveRestated (m ++ n) is
 have-more m n is h = All-weaker (IsRestated m) (IsRestated (m ++ n)) (restated-more m n) is h
 
-abbrev restating : Place → List Made → List ℕ → List ℕ → Type 0
+abbrev restating : Stage → List Made → List ℕ → List ℕ → Type 0
 restating place made exports assumptions = HaveRestated made exports
 
 -- and what is made, or exported, leaves it so

@@ -12,7 +12,7 @@ use Rattle.lp_spec.specs.ModuleOrder.{IsModule}
 use Rattle.lp_spec.specs.Typing.{WellTyped}
 use Rattle.module_spec.specs.MadeItems.{items_of}
 use Rattle.module_spec.specs.Image.{name_in, image}
-use Rattle.module_spec.specs.Stands.{IsGiven, IsDefined, IsReached, IsTheoremName, AreExports, is_export_name, Stands}
+use Rattle.module_spec.specs.Stands.{IsGiven, IsDefined, IsReached, IsTheoremName, AreExports, is_export_name, StandsForRun}
 use Rattle.run_laws.specs.Origins.{Origin, made-origins}
 use Rattle.run_laws.specs.Named.{HasNames}
 use Rattle.run_laws.specs.RunModules.{image-IsModule, items-named}
@@ -58,7 +58,7 @@ runs_are_faithful articles run r named =
 
 -- where the exports reach what has no body, the module stands for its run
 pub faithful-stands : (m : List Declaration) (run : Accepted) → IsFaithful m run
-    → ((i : ℕ) (d : Declaration) → slice_get m i ≡ Some d → d.body ≡ None → IsReached m i) → Stands m run
+    → ((i : ℕ) (d : Declaration) → slice_get m i ≡ Some d → d.body ≡ None → IsReached m i) → StandsForRun m run
 faithful-stands m run h reached = record {
   is_module = h.is_module;
   typed = h.typed;

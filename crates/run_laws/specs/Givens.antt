@@ -27,7 +27,7 @@ use Rattle.lp_spec.specs.Modules.{Declaration, symbol, products, abstractions, t
 use Rattle.module_spec.specs.TypeEnc.{place}
 use Rattle.module_spec.specs.Enc.{Enc, StandsForTerm}
 use Rattle.module_spec.specs.Rows.{has_row, type_or}
-use Rattle.module_spec.specs.Scopes.{Symbols, type_tree, term_tree, generic_tree, under_types, unfilled, filled, sequent_tree}
+use Rattle.module_spec.specs.Scopes.{SymbolMap, type_tree, term_tree, generic_tree, under_types, unfilled, filled, sequent_tree}
 use Rattle.module_spec.specs.Items.{Content, constant, defined_constant, Item, says, declaration_of, type_operator, type_abstraction, type_representation}
 use Rattle.module_spec.specs.MadeItems.{contents_of, type_contents, content_by, items_of}
 use Rattle.module_spec.specs.Reach.{kept, renumbered, renumbered_content, needs, number_key}
@@ -62,18 +62,18 @@ use Rattle.lp_spec.specs.Trees.{Sym}
 use Rattle.module_laws.specs.DefinitionsHeld.{closed-none}
 
 -- the declaration of a step with a proof is a theorem, with a body
-proved-body : (symbols : Symbols) (number : ℕ → ℕ) (name : List ℕ) (b : Bool) → b ≡ true
+proved-body : (symbols : SymbolMap) (number : ℕ → ℕ) (name : List ℕ) (b : Bool) → b ≡ true
     → (kind : StepKind) (js : List ℕ) (ss : List Sequent) (g : Parameters) (s : Sequent)
     → (declaration_of symbols name (renumbered_content number (content_by b kind js ss g s))).body ≡ None → ⊥
 proved-body symbols number name true e kind js ss g s f = absurd (cc)
 proved-body symbols number name false e kind js ss g s f = absurd (cc)
 
-no_definition : (symbols : Symbols) (number : ℕ → ℕ) (name : List ℕ) (b : Bool) (kind : StepKind) (js : List ℕ) (ss : List Sequent) (g : Parameters) (s : Sequent)
+no_definition : (symbols : SymbolMap) (number : ℕ → ℕ) (name : List ℕ) (b : Bool) (kind : StepKind) (js : List ℕ) (ss : List Sequent) (g : Parameters) (s : Sequent)
     → (declaration_of symbols name (renumbered_content number (content_by b kind js ss g s))).form ≡ Def → ⊥
 no_definition symbols number name true kind js ss g s f = absurd (cc)
 no_definition symbols number name false kind js ss g s f = absurd (cc)
 
-no_theorem : (symbols : Symbols) (number : ℕ → ℕ) (name : List ℕ) (b : Bool) → b ≡ false
+no_theorem : (symbols : SymbolMap) (number : ℕ → ℕ) (name : List ℕ) (b : Bool) → b ≡ false
     → (kind : StepKind) (js : List ℕ) (ss : List Sequent) (g : Parameters) (s : Sequent)
     → (declaration_of symbols name (renumbered_content number (content_by b kind js ss g s))).form ≡ Thm → ⊥
 no_theorem symbols number name true e kind js ss g s f = absurd (cc)
@@ -102,7 +102,7 @@ content-asked keep before (y ∷ ys) z h (inl e) = record {
 }
 content-asked keep before (y ∷ ys) z h (inr i) = subst (λ l. Asked keep l z) (append_assoc before (y ∷ []) ys) (content-asked keep (before ++ y ∷ []) ys z h.4 i)
 
-module _ (m : List Declaration) (symbols : Symbols) where
+module _ (m : List Declaration) (symbols : SymbolMap) where
   own-distinct : (a : HolType) → IsDistinct name_eq (type_variables a)
   own-distinct a = distinct-IsDistinct name_eq (symmetric name_eq name_eq-Decides) (variable_places a)
 

@@ -27,7 +27,7 @@ use Rattle.module_spec.specs.OperatorMeaning.{MeansOperator}
 use Rattle.module_spec.specs.OperatorMeaning as means_operator
 use Rattle.module_spec.specs.ConstantMeaning.{MeansConstant}
 use Rattle.module_spec.specs.ConstantMeaning as means_constant
-use Rattle.module_spec.specs.Scopes.{Symbols, operator_symbol, constant_symbol, generic_type, generic_tree}
+use Rattle.module_spec.specs.Scopes.{SymbolMap, operator_symbol, constant_symbol, generic_type, generic_tree}
 use Rattle.module_spec.specs.Items.{Content, operator, constant, defined_constant, type_operator, type_abstraction, type_representation, unproved, step, Item, declaration_of}
 use Rattle.module_laws.specs.ItemConditions.{Has, OperatorTaken, ConstantTaken, TypeTaken, TypesTaken, TermTaken, IsContent, Tells, AreItems}
 use Rattle.module_laws.specs.ItemConditions as items
@@ -38,7 +38,7 @@ use Rattle.run_laws.specs.NewNames.{IsSymbolName}
 use Rattle.run_laws.specs.RunModules.{declaration-name}
 
 -- The type of a term whose symbols mean what they stand for has such symbols
-module _ (m : List Declaration) (symbols : Symbols) where
+module _ (m : List Declaration) (symbols : SymbolMap) where
   pub TypeMeant-type_under : (binders : List HolType) → ((k : ℕ) (a : HolType) → slice_get binders k ≡ Some a → TypeMeant m symbols a)
       → (t : Term) (a : HolType) → TermMeant m symbols t → type_under binders t ≡ Some a → TypeMeant m symbols a
   TypeMeant-type_under binders b (term.Term.free n t) a h e = subst (TypeMeant m symbols) (same_Some _ _ e) h

@@ -15,7 +15,7 @@ use Rattle.hol_spec.specs.Lists.{IsIn}
 use Rattle.hol_laws.specs.Members.{IsIn-right}
 use Rattle.lp_spec.specs.Trees.{Tree, Sym, Lam, App, Var}
 use Rattle.lp_spec.specs.Modules.{applied, term_of, proof_of, eq_mp_symbol, fun_ext_symbol, app_thm_symbol, prop_ext_symbol, sub_abs_rep_symbol, sub_rep_abs_symbol, types}
-use Rattle.module_spec.specs.Scopes.{Symbols, Scope, type_tree, term_tree, under_term, under_proof, set_proof, images, lifted, filled}
+use Rattle.module_spec.specs.Scopes.{SymbolMap, Scope, type_tree, term_tree, under_term, under_proof, set_proof, images, lifted, filled}
 use Rattle.module_spec.specs.ProofTrees.{sym_symbol, trans_symbol, premise_tree, prove_hyp_tree, constants_scope, part_tree, law_tree, part_arguments_of, witness, predicate, first_law_free_tree, second_law_free_tree}
 use Rattle.module_spec.specs.Rows.{proof_tree, equated_type, left_side, right_side, argument_type, result_type, type_or}
 use Rattle.module_spec.specs.Items.{Item}
@@ -69,7 +69,7 @@ module _ (j : ℕ) where
   mapped f (g ∷ hs) h (inl e) = inl (ap f e)
   mapped f (g ∷ hs) h (inr i) = inr (mapped f hs h i)
 
-  module _ (symbols : Symbols) (scope : Scope) where
+  module _ (symbols : SymbolMap) (scope : Scope) where
     -- the proof of a hypothesis
     hypothesis-occurs : (a b : ℕ) (one two : Sequent) → IsIn two.hypotheses one.conclusion → j ≡ a
         → occurs j (prove_hyp_tree symbols scope one.conclusion (a, one) (b, two)) ≡ true

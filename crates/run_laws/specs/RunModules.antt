@@ -29,7 +29,7 @@ use Rattle.article_laws.specs.SoundStates.{list_all-All, at_most, zero-plus}
 use Rattle.module_laws.specs.MadeModules.{IsNew}
 use Rattle.module_laws.specs.WantedItems.{AreMadeInOrder}
 use Rattle.module_spec.specs.Rows.{has_row}
-use Rattle.module_spec.specs.Scopes.{Symbols}
+use Rattle.module_spec.specs.Scopes.{SymbolMap}
 use Rattle.module_spec.specs.Items.{Content, operator, constant, defined_constant, type_operator, type_abstraction, type_representation, unproved, step, Item, says, declaration, declaration_of}
 use Rattle.module_spec.specs.Items as item
 use Rattle.module_spec.specs.MadeItems.{said_by, content_by, items_of, roots_of}
@@ -151,7 +151,7 @@ kept-distinct keep (x ∷ xs) h = go (keep x.symbol) (kept-distinct keep xs h.1)
     go false k = k
 
 -- declarations
-pub declaration-name : (symbols : Symbols) (name : List ℕ) (c : Content) → (declaration_of symbols name c).name ≡ name
+pub declaration-name : (symbols : SymbolMap) (name : List ℕ) (c : Content) → (declaration_of symbols name c).name ≡ name
 declaration-name symbols name (operator n k) = refl
 declaration-name symbols name (constant n a) = refl
 declaration-name symbols name (defined_constant n a t) = refl
@@ -165,7 +165,7 @@ abbrev HaveOtherNames : List Declaration → Type 0
 HaveOtherNames [] = Unit {0}
 HaveOtherNames (d ∷ ds) = AllByRecursion (λ (e : Declaration). d.name ≡ e.name → ⊥) ds × HaveOtherNames ds
 
-module _ (symbols : Symbols) (number : ℕ → ℕ) where
+module _ (symbols : SymbolMap) (number : ℕ → ℕ) where
   abbrev declared : Item → Declaration
   declared x = declaration symbols (renumbered number x)
 

@@ -19,7 +19,7 @@ use Rattle.hol_laws.specs.Members.{All-at, All-each, All-left, All-right, All-ap
 use Rattle.hol_laws.specs.PlaceLaws.{slice_get-mapped}
 use Rattle.lp_spec.specs.Modules.{Declaration, signature, symbol_declaration}
 use Rattle.lp_spec.specs.Lemmas.{lemmas, sym_lemma, trans_lemma}
-use Rattle.module_spec.specs.Scopes.{Symbols, sequent_tree}
+use Rattle.module_spec.specs.Scopes.{SymbolMap, sequent_tree}
 use Rattle.module_spec.specs.Enc.{Enc}
 use Rattle.module_spec.specs.Items.{Content, operator, constant, defined_constant, type_operator, type_abstraction, type_representation, unproved, step, Item, says, declaration, declaration_of, module_of}
 use Rattle.module_spec.specs.Items as item
@@ -133,7 +133,7 @@ module _ (run : Accepted) (named : HasNames run) (sound : IsSoundRun run) where
   abbrev pub stays : List Item
   stays = image_items keep items
 
-  abbrev pub symbols : Symbols
+  abbrev pub symbols : SymbolMap
   symbols = item.symbols_of stays
 
   abbrev pub m : List Declaration

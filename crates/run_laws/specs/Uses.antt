@@ -18,14 +18,14 @@ use Rattle.hol_laws.specs.Members.{IsIn-either, IsIn-left, IsIn-right, IsIn-dist
 use Rattle.hol_laws.specs.GenericInstances.{filled_in, filled_in_all, Instance-filled_in, type_arguments-filled_in}
 use Rattle.lp_spec.specs.Trees.{Tree, Sym, App}
 use Rattle.lp_spec.specs.Modules.{applied, products, types, term_of, proof_of}
-use Rattle.module_spec.specs.Scopes.{Symbols, operator_symbol, constant_symbol, generic_type, TypeScope, type_tree, type_trees, Scope, inside, term_tree, under_term, under_proof, term_domains, proof_domains, scope_of_types, scope_of_terms, scope_of, domains_of, conclusion_tree, sequent_tree}
+use Rattle.module_spec.specs.Scopes.{SymbolMap, operator_symbol, constant_symbol, generic_type, TypeScope, type_tree, type_trees, Scope, inside, term_tree, under_term, under_proof, term_domains, proof_domains, scope_of_types, scope_of_terms, scope_of, domains_of, conclusion_tree, sequent_tree}
 use Rattle.module_spec.specs.Reach.{Key, operator_key, constant_key, number_key, type_keys, types_keys, term_keys, sequent_keys}
 use Rattle.module_spec.specs.Stands.{occurs}
 use Rattle.module_laws.specs.TermScopeLaws.{AreInstances}
 use Rattle.module_laws.specs.TheoremTyping.{HasInstances}
 
 -- the symbol of a key
-abbrev pub symbol_of_key : Symbols → Key → ℕ
+abbrev pub symbol_of_key : SymbolMap → Key → ℕ
 symbol_of_key symbols (operator_key n k) = operator_symbol symbols n k
 symbol_of_key symbols (constant_key n) = constant_symbol symbols n
 symbol_of_key symbols (number_key i) = i
@@ -71,7 +71,7 @@ module _ (s : ℕ) where
   any-right [] ys e = e
   any-right (x ∷ xs) ys e = or_right (occurs s x) (list_any (occurs s) (xs ++ ys)) (any-right xs ys e)
 
-module _ (symbols : Symbols) (k : Key) where
+module _ (symbols : SymbolMap) (k : Key) where
   abbrev s : ℕ
   s = symbol_of_key symbols k
 

@@ -7,7 +7,7 @@ use Rattle.lp_spec.specs.ShortNames.{NoneShort, AreLong}
 use Rattle.lp_spec.specs.TextLaws.{ArePlain, AreShallow, ReadsBack}
 use Rattle.lp_shape.specs.ShapedPasses.{AreShaped}
 use Rattle.lp_shape.specs.PricedModules.{IsPriced}
-use Rattle.module_spec.specs.Stands.{Stands}
+use Rattle.module_spec.specs.Stands.{StandsForRun}
 use Rattle.share_spec.specs.Folded.{folded}
 use Rattle.share_spec.specs.FoldedStands.{FoldedStands}
 
@@ -28,4 +28,4 @@ FoldedReadsBack = (m : List Declaration) (bounds : List ℕ) → IsModule m → 
 
 -- It stands for the run for which the module stands.
 abbrev pub FoldedStand : Type 0
-FoldedStand = (m : List Declaration) (run : Accepted) → NoneShort m → AreShaped [] m → Stands m run → FoldedStands (folded m) run
+FoldedStand = (m : List Declaration) (run : Accepted) → NoneShort m → AreShaped [] m → StandsForRun m run → FoldedStands (folded m) run

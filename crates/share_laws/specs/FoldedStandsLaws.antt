@@ -19,7 +19,7 @@ use Rattle.lp_spec.specs.ShortNames.{NoneShort}
 use Rattle.lp_spec.specs.Modules.{Declaration, signature, symbol, applied, types, products, abstractions, sub_symbol, sub_abs_symbol, sub_rep_symbol}
 use Rattle.lp_binding.specs.LookUps.{slice_get-seam}
 use Rattle.lp_shape.specs.ShapedPasses.{AreShaped}
-use Rattle.module_spec.specs.Stands.{is_export_name, occurs, uses, IsReached, export, used, IsConstantType, IsGiven, IsUnproved, DefinesConstant, IsPartOf, part_definition, IsDefined, IsTheoremName, AreExports, none, more, Stands}
+use Rattle.module_spec.specs.Stands.{is_export_name, occurs, uses, IsReached, export, used, IsConstantType, IsGiven, IsUnproved, DefinesConstant, IsPartOf, part_definition, IsDefined, IsTheoremName, AreExports, none, more, StandsForRun}
 use Rattle.module_spec.specs.Image.{constant_name, operator_name}
 use Rattle.module_spec.specs.Stands as stands
 use Rattle.share_spec.specs.MovedTrees.{moved_symbol, moved, moved_declaration}
@@ -217,7 +217,7 @@ no_body g None e = refl
 no_body g (Some t) e = absurd (cc)
 
 -- What a module stands for, its folded module stands for
-pub folded-FoldedStands : (m : List Declaration) (run : Accepted) → NoneShort m → AreShaped [] m → Stands m run → FoldedStands (folded m) run
+pub folded-FoldedStands : (m : List Declaration) (run : Accepted) → NoneShort m → AreShaped [] m → StandsForRun m run → FoldedStands (folded m) run
 folded-FoldedStands m run u s h =
     let es = entries_of m in
     let g = place_in es in

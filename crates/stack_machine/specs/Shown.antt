@@ -26,10 +26,10 @@ dictionary_view m entries = from_entries (map (λ e. (e.0, object_view m e.1)) e
 abbrev pub AreEntriesKnown : Stored → List (ℤ × Object) → Type 0
 AreEntriesKnown m entries = AllByRecursion (λ e. IsKnown m e.1) entries
 
-abbrev pub place_view : Progress → state.Place
-place_view (Begun before) = state.Place.start before
-place_view Numbered = state.Place.version
-place_view (Running version) = state.Place.body version
+abbrev pub place_view : Progress → state.Stage
+place_view (Begun before) = state.Stage.start before
+place_view Numbered = state.Stage.version
+place_view (Running version) = state.Stage.body version
 
 -- the state without its stack and its run
 abbrev pub article_state : Stored → List (ℤ × Object) → Progress → State

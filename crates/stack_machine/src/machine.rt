@@ -8,7 +8,7 @@ ghost use Rattle.article_spec.specs.declared.commands.Word.TheVariants as word;
 ghost use Rattle.article_spec.specs.Results.{Fails};
 ghost use Rattle.article_spec.specs.Run.{accepted, accepted_state, Run};
 ghost use Rattle.article_spec.specs.SoundRuns.{IsSoundRun};
-ghost use Rattle.article_spec.specs.State.{Place, initial, last_version, version_at};
+ghost use Rattle.article_spec.specs.State.{Stage, initial, last_version, version_at};
 ghost use Rattle.article_spec.specs.Step.{finish, in_body, obey, obey_item, step, step_at};
 ghost use Rattle.hol_term.specs.Tables.{Trees};
 ghost use Rattle.hol_defs.specs.Symbols.{symbols_at, AreKnownSymbols};
@@ -196,8 +196,8 @@ impl Machine {
 
     // The first command: the number 6 is put on the stack, and may be that of the version.
     fn begin(&mut self, item: &Item) -> Result<(), Fault>
-        ensures taken { OnOk result (step_at (Place.start Six) self.old item.now ≡ Ok self.new) }
-        ensures refused { IfErr result (λ fault. Fails fault (step_at (Place.start Six) self.old item.now)) }
+        ensures taken { OnOk result (step_at (Stage.start Six) self.old item.now ≡ Ok self.new) }
+        ensures refused { IfErr result (λ fault. Fails fault (step_at (Stage.start Six) self.old item.now)) }
         ensures unchanged { OnErr result (self.new ≡ self.old) }
     {
         match item {
@@ -215,8 +215,8 @@ impl Machine {
 
     // The command after the number 6: `version` takes the number off.
     fn second(&mut self, item: &Item) -> Result<(), Fault>
-        ensures taken { OnOk result (step_at Place.version self.old item.now ≡ Ok self.new) }
-        ensures refused { IfErr result (λ fault. Fails fault (step_at Place.version self.old item.now)) }
+        ensures taken { OnOk result (step_at Stage.version self.old item.now ≡ Ok self.new) }
+        ensures refused { IfErr result (λ fault. Fails fault (step_at Stage.version self.old item.now)) }
         ensures unchanged { OnErr result (self.new ≡ self.old) }
     {
         match item {

@@ -14,7 +14,7 @@ use Rattle.lp_spec.specs.Trees.{Tree, Var}
 use Rattle.lp_spec.specs.Modules.{Declaration, signature, abstractions, types, sub_symbol, sub_abs_symbol, sub_rep_symbol}
 use Rattle.lp_spec.specs.ModuleOrder as order
 use Rattle.lp_spec.specs.Lemmas.{sym_lemma, trans_lemma, sym_domains, sym_proof, trans_domains, trans_proof}
-use Rattle.module_spec.specs.Scopes.{Symbols, under_types, unfilled, filled, term_tree, scope_of, domains_of}
+use Rattle.module_spec.specs.Scopes.{SymbolMap, under_types, unfilled, filled, term_tree, scope_of, domains_of}
 use Rattle.module_spec.specs.Enc.{Enc}
 use Rattle.module_spec.specs.Items.{Content, operator, constant, defined_constant, type_operator, type_abstraction, type_representation, unproved, step, Item, says, declaration, declaration_of, is_operator, is_constant, first_symbol, symbols_of, module_of, part_definition_tree}
 use Rattle.module_spec.specs.Rows.{proof_tree}
@@ -81,7 +81,7 @@ data IsOf (xs : List Item) (d : Declaration) : Type 0 where
   second_lemma : trans_lemma ≡ d → IsOf xs d
   an_item : (z : Item) → IsIn xs z → declaration (symbols_of xs) z ≡ d → IsOf xs d
 
-item-at : (symbols : Symbols) (xs : List Item) (i : ℕ) (d : Declaration) → slice_get (map (declaration symbols) xs) i ≡ Some d
+item-at : (symbols : SymbolMap) (xs : List Item) (i : ℕ) (d : Declaration) → slice_get (map (declaration symbols) xs) i ≡ Some d
     → (z : Item) × IsIn xs z × (declaration symbols z ≡ d)
 item-at symbols [] i d e = absurd (cc)
 item-at symbols (x ∷ xs) zero d e = (x, inl refl, same_Some _ _ e)
@@ -110,7 +110,7 @@ module _ (xs : List Item) (made : AreMade [] xs) (j : ℕ) (e : Declaration) (cl
   abbrev m : List Declaration
   m = module_of (symbols_of xs) xs
 
-  abbrev symbols : Symbols
+  abbrev symbols : SymbolMap
   symbols = symbols_of xs
 
   abbrev s : ℕ

@@ -15,7 +15,7 @@ use Rattle.hol_spec.specs.declared.StepKind.TheVariants as kinds
 use Rattle.hol_laws.specs.Members.{All-append, All-mapped, All-each}
 use Rattle.lp_spec.specs.Trees.{Tree, Sym, Lam, Var, App}
 use Rattle.lp_spec.specs.Modules.{signature, term_of, proof_of, fun_ext_symbol, app_thm_symbol, prop_ext_symbol, eq_mp_symbol, types, sub_rep_abs_symbol}
-use Rattle.module_spec.specs.Scopes.{Symbols, type_tree, Scope, term_tree, under_term, under_proof, set_proof, images, lifted, filled}
+use Rattle.module_spec.specs.Scopes.{SymbolMap, type_tree, Scope, term_tree, under_term, under_proof, set_proof, images, lifted, filled}
 use Rattle.module_spec.specs.ProofTrees.{sym_symbol, trans_symbol, Premise, premise_tree, refl_tree, eq_mp_tree, abs_tree, fun_ext_tree, app_thm_tree, prop_ext_tree, sym_tree, trans_tree, prove_hyp_tree, self_proof, constants_scope, predicate, witness, part_tree, law_tree, part_arguments_of, first_law_tree, second_law_tree, first_law_free_tree, second_law_free_tree}
 use Rattle.module_spec.specs.Rows.{equated_type, left_side, right_side, argument_type, result_type, contracted, of_one, of_two, type_or, proof_tree}
 use Rattle.standing_laws.specs.PlaceCounts.{IsAppliedTo, lacking-applied, applied-applied}
@@ -35,12 +35,12 @@ AllFit s n (j ∷ js) [] = Unit {0}
 AllFit s n (j ∷ js) (q ∷ qs) = Fits s n (j, q) × AllFit s n js qs
 
 -- a symbol stands for no operator and no constant; where it is a lemma's, n is how many arguments the lemma has
-pub record IsCounted (symbols : Symbols) (s n : ℕ) : Type 0 where
+pub record IsCounted (symbols : SymbolMap) (s n : ℕ) : Type 0 where
   pub apart : IsApart symbols s
   pub symmetry : s ≡ sym_symbol → 4 ≡ n
   pub transitivity : s ≡ trans_symbol → 6 ≡ n
 
-module _ (symbols : Symbols) (s n : ℕ) (counted : IsCounted symbols s n) where
+module _ (symbols : SymbolMap) (s n : ℕ) (counted : IsCounted symbols s n) where
   abbrev Applies : Scope → Type 0
   Applies scope = ScopeApplies s n scope
 

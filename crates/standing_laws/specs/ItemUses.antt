@@ -25,7 +25,7 @@ use Rattle.hol_laws.specs.Members.{IsIn-either, IsIn-left, IsIn-right, All-at, f
 use Rattle.proof_laws.specs.RuleTaken.{list_parts}
 use Rattle.lp_spec.specs.Trees.{Tree, Sym}
 use Rattle.lp_spec.specs.Modules.{Declaration, abstractions, types, term_of, sub_symbol, sub_abs_symbol, sub_rep_symbol}
-use Rattle.module_spec.specs.Scopes.{Symbols, constant_symbol, generic_type, generic_tree, type_tree, under_types, unfilled, filled, Scope, term_tree, scope_of, domains_of}
+use Rattle.module_spec.specs.Scopes.{SymbolMap, constant_symbol, generic_type, generic_tree, type_tree, under_types, unfilled, filled, Scope, term_tree, scope_of, domains_of}
 use Rattle.module_spec.specs.ProofTrees.{constants_scope, part_tree, part_arguments_of}
 use Rattle.module_spec.specs.Rows.{proof_tree}
 use Rattle.module_spec.specs.Items.{Content, operator, constant, defined_constant, type_operator, type_abstraction, type_representation, unproved, step, Item, declaration_of, symbols_of, part_definition_tree}
@@ -55,7 +55,7 @@ IsUsing (unproved s) = Unit {0}
 IsUsing (step kind js premises given s) = ProvesHypothesis kind premises
 
 -- a declaration uses the symbol of a key, or a constant whose generic type mentions it
-pub data KeyUses (symbols : Symbols) (k : Key) (d : Declaration) : Type 0 where
+pub data KeyUses (symbols : SymbolMap) (k : Key) (d : Declaration) : Type 0 where
   it : uses d (symbol_of_key symbols k) ≡ true → KeyUses symbols k d
   by_constant : (n : Name) → uses d (constant_symbol symbols n) ≡ true → IsIn (type_keys (generic_type symbols n)) k → KeyUses symbols k d
 
@@ -74,7 +74,7 @@ any-at r [] t i e = absurd i
 any-at r (u ∷ ts) t (inl is) e = or_left (occurs r u) (list_any (occurs r) ts) (ap (occurs r) (sym is) ∙ e)
 any-at r (u ∷ ts) t (inr i) e = or_right (occurs r u) (list_any (occurs r) ts) (any-at r ts t i e)
 
-module _ (symbols : Symbols) (k : Key) where
+module _ (symbols : SymbolMap) (k : Key) where
   -- the type of a constant uses what its generic type mentions
   pub generic-uses : (a : HolType) → IsIn (type_keys a) k → occurs (symbol_of_key symbols k) (generic_tree symbols a) ≡ true
   generic-uses a i =
@@ -105,7 +105,7 @@ module _ (symbols : Symbols) (k : Key) where
       go (TermUses.by_constant c f i) = KeyUses.by_constant c (within (constant_symbol symbols c) (f scope)) i
 
 module _ (xs : List Item) (made : AreMade [] xs) (before : List Item) (among : (x : Item) → IsIn before x → IsIn xs x) (k : Key) where
-  abbrev symbols : Symbols
+  abbrev symbols : SymbolMap
   symbols = symbols_of xs
 
   -- the image of a free variable of the premise stands in the proof

@@ -14,11 +14,11 @@ use Rattle.hol_laws.specs.Members.{All-append}
 use Rattle.lp_spec.specs.Trees.{Tree, Var, Sym, lift}
 use Rattle.lp_spec.specs.Substitution.{cons}
 use Rattle.lp_spec.specs.Modules.{signature, types, bools, term_of, proof_of}
-use Rattle.module_spec.specs.Scopes.{Symbols, operator_symbol, constant_symbol, generic_type, TypeScope, type_tree, type_trees, Scope, lifted_types, lifted, inside, term_tree, set_proof, under_type, under_term, under_proof, under_types, under_terms, under_proofs, filler, unfilled, filled, term_domains, proof_domains, scope_of_types, scope_of_terms, scope_of, domains_of, images}
+use Rattle.module_spec.specs.Scopes.{SymbolMap, operator_symbol, constant_symbol, generic_type, TypeScope, type_tree, type_trees, Scope, lifted_types, lifted, inside, term_tree, set_proof, under_type, under_term, under_proof, under_types, under_terms, under_proofs, filler, unfilled, filled, term_domains, proof_domains, scope_of_types, scope_of_terms, scope_of, domains_of, images}
 use Rattle.standing_laws.specs.PlaceCounts.{IsAppliedTo, Lacks, lifted-lacks, lifted-applied, applied-lacks}
 
 -- a symbol after the signature stands for no operator and no constant
-pub record IsApart (symbols : Symbols) (s : ℕ) : Type 0 where
+pub record IsApart (symbols : SymbolMap) (s : ℕ) : Type 0 where
   pub high : length signature ≤ s
   pub operator : (n : Name) (k : ℕ) → s ≡ operator_symbol symbols n k → ⊥
   pub constant : (n : Name) → s ≡ constant_symbol symbols n → ⊥
@@ -33,7 +33,7 @@ pub record ScopeApplies (s n : ℕ) (scope : Scope) : Type 0 where
   pub proofs : (h : Term) → IsAppliedTo s n 0 (scope.proofs h)
   pub bounds : (k : ℕ) → Lacks s (scope.bounds k)
 
-module _ (symbols : Symbols) (s : ℕ) (apart : IsApart symbols s) where
+module _ (symbols : SymbolMap) (s : ℕ) (apart : IsApart symbols s) where
   -- a symbol of the signature is another
   pub unlike : (r : ℕ) → r < length signature → s ≡ r → ⊥
   unlike r l e = let h = apart.high in absurd (omega (arith, h, l, e))

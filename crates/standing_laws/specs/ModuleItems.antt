@@ -16,7 +16,7 @@ use Rattle.hol_spec.specs.Lists.{IsIn}
 use Rattle.hol_laws.specs.Members.{IsIn-left, All-at, All-weaker}
 use Rattle.lp_spec.specs.Modules.{signature}
 use Rattle.lp_spec.specs.Lemmas.{lemmas}
-use Rattle.module_spec.specs.Scopes.{Symbols, constant_symbol, generic_type, generic_tree}
+use Rattle.module_spec.specs.Scopes.{SymbolMap, constant_symbol, generic_type, generic_tree}
 use Rattle.module_spec.specs.Items.{Content, operator, constant, defined_constant, type_operator, type_abstraction, type_representation, unproved, step, Item, declaration, declaration_of, is_constant, generic_of, first_symbol, first_type, symbols_of, module_of}
 use Rattle.module_spec.specs.Reach.{Key, operator_key, constant_key, number_key, type_keys, gives_of}
 use Rattle.module_laws.specs.ItemConditions.{Has, ConstantTaken, TermTaken, SequentTaken, IsContent, Tells, AreItems}
@@ -62,7 +62,7 @@ module _ (xs : List Item) where
   asked-after before (y ∷ ys) whole h z (inr i) = asked-after (before ++ y ∷ []) ys (whole ∙ sym (append_assoc before (y ∷ []) ys)) h.3 z i
 
   -- what the symbols tell of each
-  told-after : (symbols : Symbols) (before ys : List Item) → AreItems symbols before ys → AllByRecursion (λ (z : Item). Tells symbols z.symbol z.content) ys
+  told-after : (symbols : SymbolMap) (before ys : List Item) → AreItems symbols before ys → AllByRecursion (λ (z : Item). Tells symbols z.symbol z.content) ys
   told-after symbols before [] h = tt
   told-after symbols before (y ∷ ys) h = (h.1, told-after symbols (before ++ y ∷ []) ys h.3)
 
@@ -80,7 +80,7 @@ module _ (xs : List Item) (made : AreMade [] xs) where
   item-told z i = All-at (λ (z : Item). Tells (symbols_of xs) z.symbol z.content) xs z (told-after xs (symbols_of xs) [] xs (items-made [] xs made)) i
 
   -- the symbol of what an item gives is its own
-  tells-key : (symbols : Symbols) (i : ℕ) (c : Content) → Tells symbols i c → symbol_of_key symbols (gives_of i c) ≡ i
+  tells-key : (symbols : SymbolMap) (i : ℕ) (c : Content) → Tells symbols i c → symbol_of_key symbols (gives_of i c) ≡ i
   tells-key symbols i (operator n k) h = h
   tells-key symbols i (constant n a) h = h.0
   tells-key symbols i (defined_constant n a t) h = h.0
@@ -194,7 +194,7 @@ First-each test (x ∷ xs) = go (test x.content) refl (First-each test xs)
     go false e (First.no_item g) = First.no_item ((chosen false e).1 ∙ g)
 
 -- a name that isn't primitive has the symbol and the type that the symbols give
-constant-input : (symbols : Symbols) (n : Name) → primitive_type n ≡ None → constant_symbol symbols n ≡ symbols.constant n
+constant-input : (symbols : SymbolMap) (n : Name) → primitive_type n ≡ None → constant_symbol symbols n ≡ symbols.constant n
 constant-input symbols n h = go (name_eq n equality_name) (name_eq n select_name) refl refl
   where
     go : (b c : Bool) → name_eq n equality_name ≡ b → name_eq n select_name ≡ c → constant_symbol symbols n ≡ symbols.constant n
@@ -202,7 +202,7 @@ constant-input symbols n h = go (name_eq n equality_name) (name_eq n select_name
     go false true f g = let a : primitive_type n ≡ Some (select_type generic) = rw (f, g) refl in absurd (cc)
     go false false f g = rw (f, g) refl
 
-constant-type : (symbols : Symbols) (name : List ℕ) (c : Content) (n : Name) → is_constant n c ≡ true
+constant-type : (symbols : SymbolMap) (name : List ℕ) (c : Content) (n : Name) → is_constant n c ≡ true
     → (declaration_of symbols name c).ty ≡ generic_tree symbols (generic_of c)
 constant-type symbols name (operator m k) n e = absurd (cc)
 constant-type symbols name (constant m a) n e = refl

@@ -10,12 +10,12 @@ use Rattle.hol_spec.specs.Symbols.{Symbol, defined}
 use Rattle.hol_spec.specs.Proofs.{Made, symbols_of, sequent_at, Accepted}
 use Rattle.hol_laws.specs.Members.{All-append}
 use Rattle.article_spec.specs.Lines.{ended}
-use Rattle.article_spec.specs.State.{Place}
+use Rattle.article_spec.specs.State.{Stage}
 use Rattle.article_spec.specs.Run.{accepted, Run}
 use Rattle.article_laws.specs.GrownRuns.{of_names, Grows, moves_of}
 use Rattle.article_laws.specs.KeptRuns.{Reads, run-has}
 use Rattle.module_spec.specs.Image.{image}
-use Rattle.module_spec.specs.Stands.{Stands}
+use Rattle.module_spec.specs.Stands.{StandsForRun}
 use Rattle.run_laws.specs.Named.{SymbolHasName, HasNames}
 use Rattle.standing_laws.specs.ByteNames.{lines-named}
 use Rattle.standing_laws.specs.StandingRuns.{runs_stand}
@@ -26,7 +26,7 @@ MadeHasName (Made.symbol x) = SymbolHasName x
 MadeHasName (Made.type_definition names c f i) = SymbolHasName (Symbol.defined (Definition.type_operator names c f))
 MadeHasName (Made.step x) = Unit {0}
 
-abbrev named : Place → List Made → List ℕ → List ℕ → Type 0
+abbrev named : Stage → List Made → List ℕ → List ℕ → Type 0
 named place made exports assumptions = AllByRecursion MadeHasName made
 
 -- the definitions of named pairs
@@ -74,7 +74,7 @@ run-has_names articles run bytes r =
 
 -- The law: the module of an accepted run over articles of bytes stands for it
 abbrev pub RunsOfBytesStand : Type 0
-RunsOfBytesStand = (articles : List (List ℕ)) (run : Accepted) → AllByRecursion AreBytes articles → Run articles (accepted run) → Stands (image run) run
+RunsOfBytesStand = (articles : List (List ℕ)) (run : Accepted) → AllByRecursion AreBytes articles → Run articles (accepted run) → StandsForRun (image run) run
 
 pub runs_of_bytes_stand : RunsOfBytesStand
 runs_of_bytes_stand articles run bytes r = runs_stand articles run r (run-has_names articles run bytes r)

@@ -8,7 +8,7 @@ use Rattle.hol_spec.specs.Sequents.{Sequent, type_variables_of, free_variables_o
 use Rattle.hol_spec.specs.ClosedForm.{ClosedType, ClosedTerm, ClosedSequent}
 use Rattle.lp_spec.specs.Trees.{Tree}
 use Rattle.lp_spec.specs.Modules.{Declaration, products, types, term_of, proof_of}
-use Rattle.module_spec.specs.Scopes.{Symbols, under_types, under_term, under_proof, unfilled, Scope, type_tree, term_domains, proof_domains, scope_of_types, scope_of_terms, domains_of, conclusion_tree, sequent_tree}
+use Rattle.module_spec.specs.Scopes.{SymbolMap, under_types, under_term, under_proof, unfilled, Scope, type_tree, term_domains, proof_domains, scope_of_types, scope_of_terms, domains_of, conclusion_tree, sequent_tree}
 use Rattle.module_spec.specs.Enc.{StandForVariables, StandForHypotheses, domains, Enc}
 use Rattle.module_spec.specs.Items.{Content, operator, constant, defined_constant, type_operator, type_abstraction, type_representation, unproved, step, says, declaration_of}
 use Rattle.standing_laws.specs.PlaceCounts.{domain_count, domain_count-products, end_symbol, end_symbol-products}
@@ -55,15 +55,15 @@ Enc-end_symbol : (m : List Declaration) (c : ClosedSequent) (A : Tree) → Enc m
 Enc-end_symbol m c A h = ap end_symbol h.product ∙ end_symbol-products (domains c.type_variable_count h.variables h.hypotheses) (proof_of h.conclusion)
 
 -- the domains of the tree of a sequent
-term_domains-long : (symbols : Symbols) (vs : List Variable) (scope : Scope) → length (term_domains symbols vs scope) ≡ length vs
+term_domains-long : (symbols : SymbolMap) (vs : List Variable) (scope : Scope) → length (term_domains symbols vs scope) ≡ length vs
 term_domains-long symbols [] scope = refl
 term_domains-long symbols (v ∷ vs) scope = ap suc (term_domains-long symbols vs (under_term v scope))
 
-proof_domains-long : (symbols : Symbols) (ps : List Term) (scope : Scope) → length (proof_domains symbols ps scope) ≡ length ps
+proof_domains-long : (symbols : SymbolMap) (ps : List Term) (scope : Scope) → length (proof_domains symbols ps scope) ≡ length ps
 proof_domains-long symbols [] scope = refl
 proof_domains-long symbols (p ∷ ps) scope = ap suc (proof_domains-long symbols ps (under_proof p scope))
 
-sequent_tree-domain_count : (symbols : Symbols) (q : Sequent) → domain_count (sequent_tree symbols q) ≡ parameter_count q
+sequent_tree-domain_count : (symbols : SymbolMap) (q : Sequent) → domain_count (sequent_tree symbols q) ≡ parameter_count q
 sequent_tree-domain_count symbols q =
     let ts = map (λ m. types) (type_variables_of q) in
     let vs = term_domains symbols (free_variables_of q) (scope_of_types symbols q) in
@@ -84,7 +84,7 @@ pub record SaysCounted (c : Content) (n : ℕ) : Type 0 where
   pub count : parameter_count sequent ≡ n
 
 -- What is declared at a type that stands for a closed sequent says a sequent of as many parameters
-pub declared-says : (m : List Declaration) (symbols : Symbols) (closed : ClosedSequent) (name : List ℕ) (c : Content)
+pub declared-says : (m : List Declaration) (symbols : SymbolMap) (closed : ClosedSequent) (name : List ℕ) (c : Content)
     → Enc m closed (declaration_of symbols name c).ty
     → SaysCounted c (closed_parameter_count closed)
 declared-says m symbols closed name (operator n k) h =

@@ -12,7 +12,7 @@ use Rattle.module_spec.specs.Items.{Item, declaration, symbols_of, module_of}
 use Rattle.module_spec.specs.MadeItems.{items_of, roots_of}
 use Rattle.module_spec.specs.Reach.{Key, gives, needs, key_eq, kept, renumbered, renumbered_content, keep_of, symbol_of, image_items}
 use Rattle.module_spec.specs.Image.{name_in, image}
-use Rattle.module_spec.specs.Stands.{occurs, uses, is_export_name, IsReached, Stands}
+use Rattle.module_spec.specs.Stands.{occurs, uses, is_export_name, IsReached, StandsForRun}
 use Rattle.module_laws.specs.BodyTyping.{IsIn-map}
 use Rattle.module_laws.specs.MadeModules.{AreMade}
 use Rattle.module_laws.specs.KeptModules.{IsIn-kept, image-made}
@@ -108,7 +108,7 @@ module _ (run : Accepted) (named : HasNames run) (sound : IsSoundRun run) where
 
 -- The law: the module of an accepted run stands for it
 abbrev pub RunsStand : Type 0
-RunsStand = (articles : List (List ℕ)) (run : Accepted) → Run articles (accepted run) → HasNames run → Stands (image run) run
+RunsStand = (articles : List (List ℕ)) (run : Accepted) → Run articles (accepted run) → HasNames run → StandsForRun (image run) run
 
 pub runs_stand : RunsStand
 runs_stand articles run r named =

@@ -21,7 +21,7 @@ use Rattle.lp_spec.specs.Modules.{Declaration}
 use Rattle.lp_spec.specs.Lemmas.{lemmas}
 use Rattle.lp_spec.specs.Typing.{Typed, IsBodyOf, IsTypedAfter, AreTypedAfter}
 use Rattle.module_spec.specs.Rows.{has_row}
-use Rattle.module_spec.specs.Scopes.{Symbols}
+use Rattle.module_spec.specs.Scopes.{SymbolMap}
 use Rattle.module_spec.specs.Enc.{Enc}
 use Rattle.module_spec.specs.Items.{Content, operator, constant, defined_constant, type_operator, type_abstraction, type_representation, unproved, step, Item, says, declaration_of}
 use Rattle.module_spec.specs.MadeItems.{content_by}
@@ -72,7 +72,7 @@ body-typed m Thm None A body h e = absurd h
 body-typed m Thm (Some t) A body h e = let same : t ≡ body = cc in subst (λ t. Typed m [] t A) same h
 
 -- a theorem says something, and is no assumption
-theorem-says : (symbols : Symbols) (name : List ℕ) (number : ℕ → ℕ) (c : Content) → (declaration_of symbols name (renumbered_content number c)).form ≡ Thm
+theorem-says : (symbols : SymbolMap) (name : List ℕ) (number : ℕ → ℕ) (c : Content) → (declaration_of symbols name (renumbered_content number c)).form ≡ Thm
     → says c ≡ None → ⊥
 theorem-says symbols name number (operator n k) f e = absurd (cc)
 theorem-says symbols name number (constant n a) f e = absurd (cc)
@@ -83,7 +83,7 @@ theorem-says symbols name number (type_representation names c u j one) f e = abs
 theorem-says symbols name number (unproved s) f e = absurd (cc)
 theorem-says symbols name number (step kind js ss g s) f e = absurd (cc)
 
-theorem-row : (symbols : Symbols) (name : List ℕ) (number : ℕ → ℕ) (b : Bool) (kind : StepKind) (js : List ℕ) (ss : List Sequent) (g : Parameters) (s : Sequent)
+theorem-row : (symbols : SymbolMap) (name : List ℕ) (number : ℕ → ℕ) (b : Bool) (kind : StepKind) (js : List ℕ) (ss : List Sequent) (g : Parameters) (s : Sequent)
     → (declaration_of symbols name (renumbered_content number (content_by b kind js ss g s))).form ≡ Thm → b ≡ true
 theorem-row symbols name number true kind js ss g s f = refl
 theorem-row symbols name number false kind js ss g s f = absurd (cc)

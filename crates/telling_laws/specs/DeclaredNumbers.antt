@@ -13,7 +13,7 @@ use Rattle.lp_spec.specs.Lemmas.{lemmas}
 use Rattle.lp_spec.specs.Modules.{Declaration, signature}
 use Rattle.module_laws.specs.MadeModules.{AreMade}
 use Rattle.module_spec.specs.Items.{Item, declaration, module_of, is_operator}
-use Rattle.module_spec.specs.Scopes.{Symbols}
+use Rattle.module_spec.specs.Scopes.{SymbolMap}
 use Rattle.run_laws.specs.Named.{second_byte}
 use Rattle.run_laws.specs.NewNames.{IsSymbolName, symbol_name-high}
 use Rattle.run_laws.specs.RunModules.{declaration-name, reserved-high}
@@ -37,7 +37,7 @@ not-named name ds h = All-weaker (λ (d : Declaration). d.name ≡ name → ⊥)
     go true f other = absurd (other (f refl))
     go false f other = refl
 
-module _ (symbols : Symbols) where
+module _ (symbols : SymbolMap) where
   abbrev D : Item → Declaration
   D = declaration symbols
 

@@ -26,7 +26,7 @@ use Rattle.module_spec.specs.Items.{Content, Item, says, declaration, module_of}
 use Rattle.module_spec.specs.MadeItems.{Naming, contents_of, said_of, said_by, premise_at, needed, sequents_at, step_content, contents, numbered, items_after, items_of, roots_of}
 use Rattle.module_spec.specs.Reach.{kept, renumbered}
 use Rattle.module_spec.specs.Rows.{has_row}
-use Rattle.module_spec.specs.Scopes.{Symbols}
+use Rattle.module_spec.specs.Scopes.{SymbolMap}
 use Rattle.proof_laws.specs.ProofGrowth.{steps_of-append}
 use Rattle.run_laws.specs.AcceptedRuns.{step-said}
 use Rattle.run_laws.specs.RunModules.{image-IsModule}
@@ -63,7 +63,7 @@ declared-at : (before ds es : List Declaration) (d : Declaration) → order.AreD
 declared-at before [] es d h = subst (λ l. MayFollow l d) (sym (append-nil before)) h.0
 declared-at before (c ∷ ds) es d h = subst (λ l. MayFollow l d) (append_assoc before (c ∷ []) ds) (declared-at (before ++ c ∷ []) ds es d h.1)
 
-module-split : (symbols : Symbols) (before after : List Item) (x : Item) → module_of symbols (before ++ x ∷ after) ≡ module_of symbols before ++ declaration symbols x ∷ map (declaration symbols) after
+module-split : (symbols : SymbolMap) (before after : List Item) (x : Item) → module_of symbols (before ++ x ∷ after) ≡ module_of symbols before ++ declaration symbols x ∷ map (declaration symbols) after
 module-split symbols before after x =
     let D = declaration symbols in ap (λ l. lemmas ++ l) (map-append D before (x ∷ after)) ∙ sym (append_assoc lemmas (map D before) (D x ∷ map D after))
 

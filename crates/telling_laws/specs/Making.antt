@@ -17,7 +17,7 @@ use Rattle.module_spec.specs.Items.{Content, Item, declaration, symbols_of, modu
 use Rattle.module_spec.specs.MadeItems.{Naming, contents_of, type_contents, premise_at, content_by, needed, step_content, contents, numbered, items_of, roots_of}
 use Rattle.module_spec.specs.Reach.{renumbered_content, renumbered, keep_of, symbol_of, image_items}
 use Rattle.module_spec.specs.Rows.{has_row}
-use Rattle.module_spec.specs.Scopes.{Symbols}
+use Rattle.module_spec.specs.Scopes.{SymbolMap}
 use Rattle.run_laws.specs.AcceptedRuns.{IsCarried}
 use Rattle.run_laws.specs.Named.{HasNames}
 use Rattle.telling_laws.specs.Told.{TellsContent}
@@ -44,7 +44,7 @@ kept_of run items = image_items (is_kept run) items
 abbrev pub kept_items : Accepted → List Item
 kept_items run = kept_of run (made_items run)
 
-abbrev pub kept_symbols : Accepted → Symbols
+abbrev pub kept_symbols : Accepted → SymbolMap
 kept_symbols run = symbols_of (kept_items run)
 
 -- what is declared once some items of its module are

@@ -26,7 +26,7 @@ use Rattle.module_laws.specs.ItemConditions as items
 use Rattle.module_laws.specs.MadeModules.{AreMade, items-made}
 use Rattle.module_laws.specs.ModuleTyping.{HoldsItem, held, TermOver-taken}
 use Rattle.module_spec.specs.Items.{Content, operator, constant, defined_constant, type_operator, type_abstraction, type_representation, unproved, step, Item, says, symbols_of, module_of}
-use Rattle.module_spec.specs.Scopes.{Symbols, operator_symbol, constant_symbol}
+use Rattle.module_spec.specs.Scopes.{SymbolMap, operator_symbol, constant_symbol}
 use Rattle.proof_laws.specs.RuleTaken.{list_parts}
 use Rattle.proof_laws.specs.SymbolGrowth.{Instance-own}
 use Rattle.run_laws.specs.NewNames.{constant_named}
@@ -43,7 +43,7 @@ use Rattle.telling_laws.specs.Told.{TellsSequent, TellsGiven, TellsContent}
 use Rattle.telling_laws.specs.ToldKeys.{operator-primitive, constant-primitive, operator-told, part-told, constant-told, order-before}
 
 -- the type of a term whose symbols are told
-module _ (m : List Declaration) (symbols : Symbols) where
+module _ (m : List Declaration) (symbols : SymbolMap) where
   type_under-told : (binders : List HolType) → ((k : ℕ) (a : HolType) → slice_get binders k ≡ Some a → TellsType m symbols a) → (t : Term) (a : HolType)
       → TellsTerm m symbols t → type_under binders t ≡ Some a → TellsType m symbols a
   type_under-told binders b (term.Term.free n t) a h e = subst (TellsType m symbols) (same_Some _ _ e) h
@@ -76,7 +76,7 @@ same_constant : (m n : Name) (t : HolType) → term.Term.constant m t ≡ term.T
 same_constant m n t e = cc
 
 module _ (made : List Made) (is_proof : IsProof made) (xs before rest : List Item) (whole : xs ≡ before ++ rest) (order : AreMade [] xs) (named : AllByRecursion (HasItemName (proof.symbols_of made)) xs) where
-  abbrev symbols : Symbols
+  abbrev symbols : SymbolMap
   symbols = symbols_of xs
 
   abbrev m : List Declaration

@@ -8,21 +8,21 @@ use Rattle.hol_spec.specs.Sequents.{Sequent}
 use Rattle.hol_spec.specs.Terms.{Term, Variable}
 use Rattle.lp_spec.specs.Modules.{Declaration}
 use Rattle.module_spec.specs.Items.{Content, operator, constant, defined_constant, type_operator, type_abstraction, type_representation, unproved, step}
-use Rattle.module_spec.specs.Scopes.{Symbols}
+use Rattle.module_spec.specs.Scopes.{SymbolMap}
 use Rattle.translate_term.specs.Told.{TellsType, TellsTerm}
 
 -- it tells the symbol of each operator and each constant in a sequent
-pub record TellsSequent (declarations : List Declaration) (symbols : Symbols) (s : Sequent) : Type 0 where
+pub record TellsSequent (declarations : List Declaration) (symbols : SymbolMap) (s : Sequent) : Type 0 where
   pub hypotheses : AllByRecursion (TellsTerm declarations symbols) s.hypotheses
   pub conclusion : TellsTerm declarations symbols s.conclusion
 
 -- of what a step is given beside its premises: those of the constants of a list
-abbrev pub TellsGiven : List Declaration → Symbols → Parameters → Type 0
+abbrev pub TellsGiven : List Declaration → SymbolMap → Parameters → Type 0
 TellsGiven declarations symbols (Parameters.constants pairs) = AllByRecursion (λ (p : Variable × Term). TellsTerm declarations symbols p.1) (constants_put pairs)
 TellsGiven declarations symbols given = Unit {0}
 
 -- of an item
-abbrev pub TellsContent : List Declaration → Symbols → Content → Type 0
+abbrev pub TellsContent : List Declaration → SymbolMap → Content → Type 0
 TellsContent declarations symbols (operator n k) = Unit {0}
 TellsContent declarations symbols (constant n a) = TellsType declarations symbols a
 TellsContent declarations symbols (defined_constant n a t) = TellsType declarations symbols a × TellsTerm declarations symbols t

@@ -23,7 +23,7 @@ use Rattle.module_laws.specs.ItemConditions.{Tells}
 use Rattle.module_laws.specs.MadeModules.{IsNew, AreMade}
 use Rattle.module_spec.specs.Image.{input_constant_name, input_operator_name, constant_name, operator_name}
 use Rattle.module_spec.specs.Items.{Content, operator, constant, defined_constant, type_operator, type_abstraction, type_representation, unproved, step, Item, says, is_operator, symbols_of, module_of}
-use Rattle.module_spec.specs.Scopes.{Symbols, operator_symbol, constant_symbol}
+use Rattle.module_spec.specs.Scopes.{SymbolMap, operator_symbol, constant_symbol}
 use Rattle.run_laws.specs.Named.{second_byte}
 use Rattle.run_laws.specs.NewNames.{constant_named, IsSymbolName, symbol_name-high}
 use Rattle.standing_laws.specs.ModuleItems.{item-asked, item-told}
@@ -31,7 +31,7 @@ use Rattle.telling_laws.specs.DeclaredNumbers.{made-front, item-number, other-nu
 use Rattle.telling_laws.specs.ItemNames.{HasItemName, same-name, input-name, input-operator, other_byte}
 use Rattle.translate_term.specs.Told.{either_number, told_operator, told_constant}
 
-module _ (m : List Declaration) (symbols : Symbols) where
+module _ (m : List Declaration) (symbols : SymbolMap) where
   -- the signature's symbols are told for the primitive names, and those of names for the others
   pub operator-primitive : (n : Name) (k j : ℕ) → primitive_arity n ≡ Some j → told_operator m n k ≡ Some (operator_symbol symbols n k)
   operator-primitive n k j h = first (name_eq n arrow_name) refl
@@ -104,7 +104,7 @@ constant-new n before (type_representation names c u j one) e h = subst (λ (l :
 constant-new n before (unproved s) e h = absurd (cc)
 constant-new n before (step kind js ss g s) e h = absurd (cc)
 
-constant-tells : (symbols : Symbols) (i : ℕ) (n : Name) (c : Content) → constant_named c ≡ Some n → Tells symbols i c → constant_symbol symbols n ≡ i
+constant-tells : (symbols : SymbolMap) (i : ℕ) (n : Name) (c : Content) → constant_named c ≡ Some n → Tells symbols i c → constant_symbol symbols n ≡ i
 constant-tells symbols i n (operator k j) e h = absurd (cc)
 constant-tells symbols i n (constant k a) e h = subst (λ (l : Name). constant_symbol symbols l ≡ i) (same_Some _ _ e) h.0
 constant-tells symbols i n (defined_constant k a t) e h = subst (λ (l : Name). constant_symbol symbols l ≡ i) (same_Some _ _ e) h.0
@@ -118,7 +118,7 @@ module _ (made : List Made) (is_proof : IsProof made) (xs before rest : List Ite
   abbrev ss : List Symbol
   ss = proof.symbols_of made
 
-  abbrev symbols : Symbols
+  abbrev symbols : SymbolMap
   symbols = symbols_of xs
 
   abbrev m : List Declaration

@@ -18,13 +18,13 @@ use Rattle.lp_spec.specs.Faults.{DeclarationBegins, first, Declared, none_yet, I
 use Rattle.text_laws.specs.FaultReach.{AreAfter, AreAscending, run, Reaches, past, reached}
 use Rattle.text_laws.specs.FaultContexts.{names_of, OfNames, declaration_comes}
 use Rattle.text_laws.specs.FaultLeast.{can-follow, place_of, IsNoLater, no_later, unknown-no-later, twice-no-later, deep-no-later}
-use Rattle.text_laws.specs.FaultStands.{Stands, Step, goes, shown, cannot, earlier, advance_step, ended_unknown, ended_before}
+use Rattle.text_laws.specs.FaultStands.{HasRead, Step, goes, shown, cannot, earlier, advance_step, ended_unknown, ended_before}
 use Rattle.text_laws.specs.FaultPlaces.{tokens-ascending}
 
 -- what a reading is refused for is shown by the tokens and stands before their end; what it has come to stands there
 abbrev pub IsShown : ℕ → List Placed → Outcome → Type 0
 IsShown e all (Stops r) = TokensShow all r × (r.place < e)
-IsShown e all (Goes m state) = Stands all m state []
+IsShown e all (Goes m state) = HasRead all m state []
 
 after_end : (e n : ℕ) (tokens : List Placed) → AreAfter e n tokens → n < e
 after_end e n [] h = h
@@ -43,14 +43,14 @@ module _ (e : ℕ) (all : List Placed) (ascending : AreAscending e all) where
   read = run [] Between all
 
   step_shown : {o : Outcome} (p : ℕ) (token : Token) (front rest : List Placed) → all ≡ front ++ at p token ∷ rest → p < e → read ≡ advance_all o rest
-      → ((m : List Declaration) (state : State) → Stands all m state rest → read ≡ run m state rest → IsShown e all (run m state rest))
+      → ((m : List Declaration) (state : State) → HasRead all m state rest → read ≡ run m state rest → IsShown e all (run m state rest))
       → Step all p token rest o → IsShown e all (advance_all o rest)
   step_shown p token front rest i b k f (goes {m = m} {state = state} c s) = f m state s k
   step_shown p token front rest i b k f (shown c t) = (t, b)
   step_shown p token front rest i b k f cannot = (bad_token front rest token i (λ more h. can-follow e all ascending (text-follows all front rest more p token i h) k), b)
   step_shown p token front rest i b k f (earlier t l) = (t, omega (arith, l, b))
 
-  run_shown : (rest front : List Placed) (m : List Declaration) (state : State) → all ≡ front ++ rest → AreAscending e rest → Stands all m state rest
+  run_shown : (rest front : List Placed) (m : List Declaration) (state : State) → all ≡ front ++ rest → AreAscending e rest → HasRead all m state rest
       → read ≡ run m state rest → IsShown e all (run m state rest)
   run_shown [] front m state i a s k = s
   run_shown (at p token ∷ rest) front m state i a s k =
@@ -63,7 +63,7 @@ module _ (e : ℕ) (all : List Placed) (ascending : AreAscending e all) where
 
   -- a token that can't follow is refused, or something before it
   step_least : {o : Outcome} (p q : ℕ) (end : End) (other : Token) (rest : List Placed) → q < p → read ≡ advance_all o rest
-      → ((m : List Declaration) (state : State) → Stands all m state rest → read ≡ run m state rest → IsNoLater (answers read end) (refusal p BadText))
+      → ((m : List Declaration) (state : State) → HasRead all m state rest → read ≡ run m state rest → IsNoLater (answers read end) (refusal p BadText))
       → Step all q other rest o → IsNoLater (answers read end) (refusal p BadText)
   step_least p q end other rest l k f (goes {m = m} {state = state} c s) = f m state s k
   step_least p q end other rest l k f (shown {fault = fault} c t) = no_later read (refusal p BadText) (refusal q fault) end k (inl l)
@@ -78,7 +78,7 @@ module _ (e : ℕ) (all : List Placed) (ascending : AreAscending e all) where
   bad_least p end token rest b k (earlier {q = r} {fault = fault} t i) = no_later read (refusal p BadText) (refusal r fault) end k (inl i)
 
   run_least : (front rest : List Placed) (p : ℕ) (end : End) (token : Token) (m : List Declaration) (state : State) → (CanFollow all (at p token ∷ rest) → ⊥)
-      → AreAscending e (front ++ at p token ∷ rest) → Stands all m state (front ++ at p token ∷ rest) → read ≡ run m state (front ++ at p token ∷ rest)
+      → AreAscending e (front ++ at p token ∷ rest) → HasRead all m state (front ++ at p token ∷ rest) → read ≡ run m state (front ++ at p token ∷ rest)
       → IsNoLater (answers read end) (refusal p BadText)
   run_least [] rest p end token m state b a s k = bad_least p end token rest b k (advance_step e all ascending m state p token rest s)
   run_least (at q other ∷ front) rest p end token m state b a s k =
@@ -116,7 +116,7 @@ module _ (bytes text : List ℕ) (begun : bytes ≡ prelude ++ text) where
 
   -- after an identifier at the end of the tokens
   first_shown : (m : List Declaration) (h : Head) (frames : List Frame) (q : ℕ) (name : List ℕ) (p : ℕ) (o : Option Tree) → meaning m frames name ≡ o
-      → Stands all_tokens m (AfterFirst h frames q name) [] → Shows bytes (refusal p BadText) → Shows bytes (broken_after q name o p)
+      → HasRead all_tokens m (AfterFirst h frames q name) [] → Shows bytes (refusal p BadText) → Shows bytes (broken_after q name o p)
   first_shown m h frames q name p None i s b = by_tokens text begun (ended_unknown last_place all_tokens in_order m h frames q name s i)
   first_shown m h frames q name p (Some x) i s b = b
 
@@ -150,7 +150,7 @@ module _ (bytes text : List ℕ) (begun : bytes ≡ prelude ++ text) where
 
   -- a fault at the end is answered, or one before it
   first_least : (m : List Declaration) (h : Head) (frames : List Frame) (q : ℕ) (name : List ℕ) (p : ℕ) (o : Option Tree) → last_place ≡ p
-      → Stands all_tokens m (AfterFirst h frames q name) [] → IsNoLater (refused (broken_after q name o p)) (refusal p BadText)
+      → HasRead all_tokens m (AfterFirst h frames q name) [] → IsNoLater (refused (broken_after q name o p)) (refusal p BadText)
   first_least m h frames q name p None i s = inl (subst (λ n. q < n) i (ended_before last_place all_tokens in_order m h frames q name s))
   first_least m h frames q name p (Some x) i s = inr refl
 

@@ -130,19 +130,19 @@ module _ {all : List Placed} {m : List Declaration} {h : Head} where
     framed_application (of_nameless i f x) = of_term (after_nameless (framed_term i f) (application-bare x))
 
 -- what a reading in this state has read stands before these tokens
-abbrev pub Stands : List Placed → List Declaration → State → List Placed → Type 0
-Stands all m Between rest = DeclarationBegins all (names_of m) rest × Declared all m rest
-Stands all m (AfterKeyword form) rest = NameStands all (names_of m) form rest × KeyReads all m form rest
-Stands all m (AfterName form name) rest = (p : ℕ) × NameStands all (names_of m) form (at p (Name name) ∷ rest) × KeyReads all m form (at p (Name name) ∷ rest) × IsNew m name
-Stands all m (AtTerm h frames) rest = IsOpen frames × Framed all m h frames rest
-Stands all m (AfterFirst h frames q name) rest = IsOpen frames × Framed all m h frames (at q (Name name) ∷ rest)
-Stands all m (InApplication h frames None) rest = IsDomain frames × Framed all m h frames rest
-Stands all m (InApplication h frames (Some t)) rest = (start : List Placed) × Framed all m h frames start × Application m (scope_of frames) start rest t
+abbrev pub HasRead : List Placed → List Declaration → State → List Placed → Type 0
+HasRead all m Between rest = DeclarationBegins all (names_of m) rest × Declared all m rest
+HasRead all m (AfterKeyword form) rest = NameStands all (names_of m) form rest × KeyReads all m form rest
+HasRead all m (AfterName form name) rest = (p : ℕ) × NameStands all (names_of m) form (at p (Name name) ∷ rest) × KeyReads all m form (at p (Name name) ∷ rest) × IsNew m name
+HasRead all m (AtTerm h frames) rest = IsOpen frames × Framed all m h frames rest
+HasRead all m (AfterFirst h frames q name) rest = IsOpen frames × Framed all m h frames (at q (Name name) ∷ rest)
+HasRead all m (InApplication h frames None) rest = IsDomain frames × Framed all m h frames rest
+HasRead all m (InApplication h frames (Some t)) rest = (start : List Placed) × Framed all m h frames start × Application m (scope_of frames) start rest t
 
 -- what a token at place p does: it can follow, and the reading goes on or is refused for a fault that is shown there; or it can't follow;
 -- or the reading is refused for a fault before it
 pub data Step (all : List Placed) (p : ℕ) (token : Token) (rest : List Placed) : Outcome → Type 0 where
-  goes : {m : List Declaration} {state : State} → CanFollow all (at p token ∷ rest) → Stands all m state rest → Step all p token rest (Goes m state)
+  goes : {m : List Declaration} {state : State} → CanFollow all (at p token ∷ rest) → HasRead all m state rest → Step all p token rest (Goes m state)
   shown : {fault : Fault} → CanFollow all (at p token ∷ rest) → TokensShow all (refusal p fault) → Step all p token rest (Stops (refusal p fault))
   cannot : Step all p token rest (Stops (refusal p BadText))
   earlier : {q : ℕ} {fault : Fault} → TokensShow all (refusal q fault) → q < p → Step all p token rest (Stops (refusal q fault))
@@ -226,13 +226,13 @@ module _ (e : ℕ) (all : List Placed) (ascending : AreAscending e all) (m : Lis
     -- a type or a body ends by a `.`
     dot_step : (state : State) (n : List Declaration) (t : Tree) (p : ℕ) (start rest : List Placed) (b : Bool) → nat_le (depth t) max_depth ≡ b
         → WholeBegins all (names_of m) (name_in h) Dot start → WholeReads all m Dot start → Term m [] start (at p Dot ∷ rest) t
-        → ((depth t ≤ max_depth) → Stands all n state rest) → Step all p Dot rest (if b then Goes n state else stops p DkTooDeep)
+        → ((depth t ≤ max_depth) → HasRead all n state rest) → Step all p Dot rest (if b then Goes n state else stops p DkTooDeep)
     dot_step state n t p start rest true i w r u s = goes (whole_end w (term-bare u)) (s (le_shallow t i))
     dot_step state n t p start rest false i w r u s = shown (whole_end w (term-bare u)) (too_deep r u (le_deep t i))
 
     assign_step : (state : State) (t : Tree) (p : ℕ) (start rest : List Placed) (b : Bool) → nat_le (depth t) max_depth ≡ b
         → WholeBegins all (names_of m) (name_in h) Assign start → WholeReads all m Assign start → Term m [] start (at p Assign ∷ rest) t
-        → ((depth t ≤ max_depth) → Stands all m state rest) → Step all p Assign rest (if b then Goes m state else stops p DkTooDeep)
+        → ((depth t ≤ max_depth) → HasRead all m state rest) → Step all p Assign rest (if b then Goes m state else stops p DkTooDeep)
     assign_step state t p start rest true i w r u s = goes (whole_end w (term-bare u)) (s (le_shallow t i))
     assign_step state t p start rest false i w r u s = shown (whole_end w (term-bare u)) (too_deep r u (le_deep t i))
 
@@ -330,7 +330,7 @@ module _ (e : ℕ) (all : List Placed) (ascending : AreAscending e all) (m : Lis
       earlier (unknown_shown h frames (of_application (of_term (framed_term o f))) i b) (term_begins_keeps (ascending_kept e) ascending (framed_term o f)).0.0
   first_step h frames q name p token rest (Some x) i b o f = applied_step h frames x p token (at q (Name name) ∷ at p token ∷ rest) rest f (Application.application (identifier_of h frames name x i) Arguments.none)
 
-  pub advance_step : (state : State) (p : ℕ) (token : Token) (rest : List Placed) → Stands all m state (at p token ∷ rest)
+  pub advance_step : (state : State) (p : ℕ) (token : Token) (rest : List Placed) → HasRead all m state (at p token ∷ rest)
       → Step all p token rest (advance m state p token)
   advance_step Between p (Name name) rest s = name_step Symbol p name rest (is_declared (signature ++ m) name) refl (of_symbol s.0) s.1
   advance_step Between p DefWord rest s = goes (definition_word s.0) (of_definition s.0, (p, s.1))
@@ -347,9 +347,9 @@ module _ (e : ℕ) (all : List Placed) (ascending : AreAscending e all) (m : Lis
   advance_step (InApplication h frames (Some t)) p token rest s = applied_step h frames t p token s.0 rest s.1 s.2
 
   -- after an identifier at the end of the tokens
-  pub ended_unknown : (h : Head) (frames : List Frame) (q : ℕ) (name : List ℕ) → Stands all m (AfterFirst h frames q name) [] → meaning m frames name ≡ None
+  pub ended_unknown : (h : Head) (frames : List Frame) (q : ℕ) (name : List ℕ) → HasRead all m (AfterFirst h frames q name) [] → meaning m frames name ≡ None
       → TokensShow all (refusal q (UnknownName name))
   ended_unknown h frames q name s i = unknown_shown h frames (of_application (of_term (framed_term s.0 s.1))) i tt
 
-  pub ended_before : (h : Head) (frames : List Frame) (q : ℕ) (name : List ℕ) → Stands all m (AfterFirst h frames q name) [] → q < e
+  pub ended_before : (h : Head) (frames : List Frame) (q : ℕ) (name : List ℕ) → HasRead all m (AfterFirst h frames q name) [] → q < e
   ended_before h frames q name s = (term_begins_keeps (ascending_kept e) ascending (framed_term s.0 s.1)).0

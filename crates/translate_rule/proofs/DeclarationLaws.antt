@@ -17,21 +17,21 @@ use Rattle.module_laws.specs.NeededSteps.{needed-sequent, needed-row}
 use Rattle.module_spec.specs.Items.{declaration_of}
 use Rattle.module_spec.specs.MadeItems.{content_by}
 use Rattle.module_spec.specs.Rows.{has_row, proof_tree}
-use Rattle.module_spec.specs.Scopes.{Symbols, Scope, conclusion_tree, domains_of, scope_of, sequent_tree, term_domains, proof_domains, under_term, under_proof, scope_of_types, scope_of_terms}
+use Rattle.module_spec.specs.Scopes.{SymbolMap, Scope, conclusion_tree, domains_of, scope_of, sequent_tree, term_domains, proof_domains, under_term, under_proof, scope_of_types, scope_of_terms}
 use Rattle.translate_rule.specs.Steps.{TellsContent, TellsGiven, TellsProof, needed_at, content_at, symbol_in, rule_tree}
 use Rattle.rule_proofs.specs.Told.{TellsSequent}
 use Rattle.translate_rule.proofs.StepLaws.{step-sequent}
 
 -- how many binders a sequent has
-terms-length : (symbols : Symbols) (vs : List Variable) (scope : Scope) → length (term_domains symbols vs scope) ≡ length vs
+terms-length : (symbols : SymbolMap) (vs : List Variable) (scope : Scope) → length (term_domains symbols vs scope) ≡ length vs
 terms-length symbols [] scope = refl
 terms-length symbols (v ∷ vs) scope = ap suc (terms-length symbols vs (under_term v scope))
 
-proofs-length : (symbols : Symbols) (hs : List Term) (scope : Scope) → length (proof_domains symbols hs scope) ≡ length hs
+proofs-length : (symbols : SymbolMap) (hs : List Term) (scope : Scope) → length (proof_domains symbols hs scope) ≡ length hs
 proofs-length symbols [] scope = refl
 proofs-length symbols (h ∷ hs) scope = ap suc (proofs-length symbols hs (under_proof h scope))
 
-pub domains-length : (symbols : Symbols) (s : Sequent) → length (domains_of symbols s) ≡ length (type_variables_of s) + length (free_variables_of s) + length s.hypotheses
+pub domains-length : (symbols : SymbolMap) (s : Sequent) → length (domains_of symbols s) ≡ length (type_variables_of s) + length (free_variables_of s) + length s.hypotheses
 domains-length symbols s =
     let names = map (λ (n : Name). types) (type_variables_of s) in
     let terms = term_domains symbols (free_variables_of s) (scope_of_types symbols s) in
@@ -39,26 +39,26 @@ domains-length symbols s =
     omega (arith, length-append (names ++ terms) proofs, length-append names terms, length-map (type_variables_of s) (λ (n : Name). types), terms-length symbols (free_variables_of s) (scope_of_types symbols s), proofs-length symbols s.hypotheses (scope_of_terms symbols s))
 
 -- what a content tells of a step that has a proof, and of one that has none
-content-by-proof : (d : List Declaration) (tables : Symbols) (b : Bool) (kind : StepKind) (js : List ℕ) (ss : List Sequent) (given : Parameters) (s : Sequent) → b ≡ true → TellsContent d tables (content_by b kind js ss given s)
+content-by-proof : (d : List Declaration) (tables : SymbolMap) (b : Bool) (kind : StepKind) (js : List ℕ) (ss : List Sequent) (given : Parameters) (s : Sequent) → b ≡ true → TellsContent d tables (content_by b kind js ss given s)
     → TellsSequent d tables s × AllByRecursion (TellsSequent d tables) ss × TellsGiven d tables given
 content-by-proof d tables true kind js ss given s e h = h
 content-by-proof d tables false kind js ss given s e h = absurd (cc)
 
-content-by-own : (d : List Declaration) (tables : Symbols) (b : Bool) (kind : StepKind) (js : List ℕ) (ss : List Sequent) (given : Parameters) (s : Sequent) → TellsContent d tables (content_by b kind js ss given s) → TellsSequent d tables s
+content-by-own : (d : List Declaration) (tables : SymbolMap) (b : Bool) (kind : StepKind) (js : List ℕ) (ss : List Sequent) (given : Parameters) (s : Sequent) → TellsContent d tables (content_by b kind js ss given s) → TellsSequent d tables s
 content-by-own d tables true kind js ss given s h = h.0
 content-by-own d tables false kind js ss given s h = h
 
-declared-by-proof : (tables : Symbols) (name : List ℕ) (b : Bool) (kind : StepKind) (js : List ℕ) (ss : List Sequent) (given : Parameters) (s : Sequent) → b ≡ true
+declared-by-proof : (tables : SymbolMap) (name : List ℕ) (b : Bool) (kind : StepKind) (js : List ℕ) (ss : List Sequent) (given : Parameters) (s : Sequent) → b ≡ true
     → declaration_of tables name (content_by b kind js ss given s) ≡ theorem name (domains_of tables s) (conclusion_tree tables s) (proof_tree tables (scope_of tables s) kind js ss given)
 declared-by-proof tables name true kind js ss given s e = refl
 declared-by-proof tables name false kind js ss given s e = absurd (cc)
 
-declared-by-none : (tables : Symbols) (name : List ℕ) (b : Bool) (kind : StepKind) (js : List ℕ) (ss : List Sequent) (given : Parameters) (s : Sequent) → b ≡ false → declaration_of tables name (content_by b kind js ss given s) ≡ symbol name (sequent_tree tables s)
+declared-by-none : (tables : SymbolMap) (name : List ℕ) (b : Bool) (kind : StepKind) (js : List ℕ) (ss : List Sequent) (given : Parameters) (s : Sequent) → b ≡ false → declaration_of tables name (content_by b kind js ss given s) ≡ symbol name (sequent_tree tables s)
 declared-by-none tables name false kind js ss given s e = refl
 declared-by-none tables name true kind js ss given s e = absurd (cc)
 
 -- a step of a proof, with the premises that its proof needs
-module _ (k : Kept) (id : ℕ) (l : id < step_count k) (p : IsProof k.made) (numbers : List ℕ) (d : List Declaration) (tables : Symbols) where
+module _ (k : Kept) (id : ℕ) (l : id < step_count k) (p : IsProof k.made) (numbers : List ℕ) (d : List Declaration) (tables : SymbolMap) where
   abbrev x : Step
   x = needed_at k.made id
 

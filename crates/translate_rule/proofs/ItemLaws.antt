@@ -16,7 +16,7 @@ use Rattle.lp_term.specs.declared.LpId.{LpId}
 use Rattle.lp_term.specs.Tables.{tree_at, Holds}
 use Rattle.lp_term.specs.TableLaws.{Holds-tree_at}
 use Rattle.module_spec.specs.Items.{Content, declaration_of, definition_tree}
-use Rattle.module_spec.specs.Scopes.{Symbols, filled, generic_tree, term_tree, type_tree, under_types, unfilled}
+use Rattle.module_spec.specs.Scopes.{SymbolMap, filled, generic_tree, term_tree, type_tree, under_types, unfilled}
 use Rattle.module_laws.specs.ListedScopes.{told, told_types}
 use Rattle.translate_term.specs.Told.{types_in, terms_in}
 use Rattle.translate_rule.specs.TypeScopes.{IsTypeScope}
@@ -30,7 +30,7 @@ pub symbol-known : (trees : List Tree) (d : Decl) (text : List ℕ) (ty : LpId) 
 symbol-known trees d text ty is h = subst (IsKnown trees) (sym is) (record { ty = h; body = tt })
 
 -- The type of an input constant
-pub generic-is : (symbols : Symbols) → generic_tree symbols generic ≡ Pi types (term_of (Var 0))
+pub generic-is : (symbols : SymbolMap) → generic_tree symbols generic ≡ Pi types (term_of (Var 0))
 generic-is symbols = refl
 
 pub binders-are : (names vars : List Name) (count : ℕ) → names ≡ vars → count ≡ length names → replicate count types ≡ map (λ (n : Name). types) vars
@@ -41,7 +41,7 @@ scope-is : (trees : List Tree) (entries : List (Name × LpId)) (names vars : Lis
 scope-is trees entries names vars e h = fun_ext h.each ∙ ap (λ l. under_types l unfilled) e
 
 -- The type of a constant
-pub generic-made : (symbols : Symbols) (t : HolType) (scoped mid inner new : List Tree) (entries : List (Name × LpId)) (names : List Name) (count : ℕ) (tree inside r : LpId) → names ≡ type_variables t → count ≡ length names → IsTypeScope scoped entries (under_types names unfilled)
+pub generic-made : (symbols : SymbolMap) (t : HolType) (scoped mid inner new : List Tree) (entries : List (Name × LpId)) (names : List Name) (count : ℕ) (tree inside r : LpId) → names ≡ type_variables t → count ≡ length names → IsTypeScope scoped entries (under_types names unfilled)
     → Holds mid tree.0 (type_tree symbols (told_types (types_in scoped entries)) t) → Holds inner inside.0 (term_of (tree_at mid tree.0)) → Holds new r.0 (products (replicate count types) (tree_at inner inside.0)) → Holds new r.0 (generic_tree symbols t)
 generic-made symbols t scoped mid inner new entries names count tree inside r e c scope is terms made =
     made
@@ -49,7 +49,7 @@ generic-made symbols t scoped mid inner new entries names count tree inside r e 
     (Holds-tree_at inner inside.0 _ terms ∙ ap term_of (Holds-tree_at mid tree.0 _ is ∙ ap (λ s. type_tree symbols s t) (scope-is scoped entries names (type_variables t) e scope))))
 
 -- What a constant stands for
-pub definition-made : (symbols : Symbols) (a : HolType) (t : Term) (types_of : List HolType) (scoped mid new : List Tree) (entries : List (Name × LpId)) (others : List (AVariable × LpId)) (names : List Name) (count : ℕ) (tree r : LpId) → names ≡ type_variables a → count ≡ length names
+pub definition-made : (symbols : SymbolMap) (a : HolType) (t : Term) (types_of : List HolType) (scoped mid new : List Tree) (entries : List (Name × LpId)) (others : List (AVariable × LpId)) (names : List Name) (count : ℕ) (tree r : LpId) → names ≡ type_variables a → count ≡ length names
     → IsTypeScope scoped entries (under_types names unfilled) → others ≡ [] → Holds mid tree.0 (term_tree symbols (told symbols (types_in scoped entries) (terms_in types_of scoped others)) t)
     → Holds new r.0 (abstractions (replicate count types) (tree_at mid tree.0)) → Holds new r.0 (definition_tree symbols a t)
 definition-made symbols a t types_of scoped mid new entries others names count tree r e c scope none is made =
@@ -66,5 +66,5 @@ defined-declared trees name text ty body tree inside e h k =
     λ i. record { name = e i; form = Def; ty = p i; body = Some (q i) }
 
 -- an operator by its name
-pub operator-named : (symbols : Symbols) {d : Declaration} (text name : List ℕ) (n : Name) (k : ℕ) → d ≡ declaration_of symbols text (Content.operator n k) → text ≡ name → d ≡ declaration_of symbols name (Content.operator n k)
+pub operator-named : (symbols : SymbolMap) {d : Declaration} (text name : List ℕ) (n : Name) (k : ℕ) → d ≡ declaration_of symbols text (Content.operator n k) → text ≡ name → d ≡ declaration_of symbols name (Content.operator n k)
 operator-named symbols text name n k is e = is ∙ ap (λ t. declaration_of symbols t (Content.operator n k)) e

@@ -14,12 +14,12 @@ use Rattle.hol_rules.specs.declared.made.Parameters.TheVariants as given
 use Rattle.hol_term.specs.declared.Variable.{Variable as AVariable}
 use Rattle.hol_term.specs.Tables.{Trees}
 use Rattle.lp_spec.specs.Modules.{Declaration}
-use Rattle.module_spec.specs.Scopes.{Symbols}
+use Rattle.module_spec.specs.Scopes.{SymbolMap}
 use Rattle.translate_term.specs.Told.{TellsConstant}
 use Rattle.translate_rule.specs.Steps.{TellsGiven}
 
 -- what is told of the constants that it was given
-pub list-told : (d : List Declaration) (tables : Symbols) (pairs : ConstantPairs) (g : Parameters) → Parameters.constants pairs ≡ g → TellsGiven d tables g → AllByRecursion (λ p. TellsConstant d tables p.0 p.1.1) pairs
+pub list-told : (d : List Declaration) (tables : SymbolMap) (pairs : ConstantPairs) (g : Parameters) → Parameters.constants pairs ≡ g → TellsGiven d tables g → AllByRecursion (λ p. TellsConstant d tables p.0 p.1.1) pairs
 list-told d tables pairs g e h = subst (TellsGiven d tables) (sym e) h
 
 -- they are a list that the premise defines

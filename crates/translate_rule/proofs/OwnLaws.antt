@@ -16,13 +16,13 @@ use Rattle.lp_spec.specs.Trees.{lift}
 use Rattle.lp_binding.specs.Composition.{lift_zero}
 use Rattle.holide_sig.specs.declared.module.Module.{Module}
 use Rattle.holide_sig.specs.Modules.{declarations_of, IsHeld}
-use Rattle.module_spec.specs.Scopes.{Symbols, Scope, filled, scope_of, scope_of_terms, lifted, under_terms, under_types, unfilled}
+use Rattle.module_spec.specs.Scopes.{SymbolMap, Scope, filled, scope_of, scope_of_terms, lifted, under_terms, under_types, unfilled}
 use Rattle.rule_proofs.specs.Environments.{filled_terms, unproved}
 use Rattle.rule_proofs.specs.Placed.{placed}
 use Rattle.rule_proofs.specs.Placing.{IsPlaced}
 use Rattle.rule_proofs.specs.Rescoped.{over_types, with_scope}
 use Rattle.rule_proofs.specs.declared.scope.Environment.{Environment}
-use Rattle.rule_proofs.specs.EnvironmentLaws.{Stands-Grows}
+use Rattle.rule_proofs.specs.EnvironmentLaws.{Represents-Grows}
 use Rattle.translate_rule.specs.declared.own.OwnStep.{OwnStep}
 use Rattle.translate_rule.specs.OwnSteps.{own_scope, proof_in, IsReady, StandsFor}
 use Rattle.translate_rule.specs.Steps.{given_at, given_over, AreParams}
@@ -40,7 +40,7 @@ pub variables-count : (trees : Trees) (vs : List AVariable) → length (variable
 variables-count trees [] = refl
 variables-count trees (v ∷ vs) = ap suc (variables-count trees vs)
 
-module _ (k : Kept) (id : ℕ) (d : List Declaration) (symbols : Symbols) (m : Module) (held : IsHeld m) (declared : declarations_of m ≡ d) (names : List Name) (variables : List AVariable) (params : AreParams k id names variables) (hyps : List TermId) (known : AreKnown k.trees hyps) (are : terms_at k.trees hyps ≡ (sequent_at k.made id).hypotheses) where
+module _ (k : Kept) (id : ℕ) (d : List Declaration) (symbols : SymbolMap) (m : Module) (held : IsHeld m) (declared : declarations_of m ≡ d) (names : List Name) (variables : List AVariable) (params : AreParams k id names variables) (hyps : List TermId) (known : AreKnown k.trees hyps) (are : terms_at k.trees hyps ≡ (sequent_at k.made id).hypotheses) where
   abbrev s : Sequent
   s = sequent_at k.made id
 
@@ -86,7 +86,7 @@ module _ (k : Kept) (id : ℕ) (d : List Declaration) (symbols : Symbols) (m : M
       }
 
 -- the binders of its type variables and its free variables alone
-pub placed-variables : (k : Kept) (id : ℕ) (d : List Declaration) (symbols : Symbols) (m : Module) → IsHeld m → declarations_of m ≡ d → (names : List Name) (variables : List AVariable) → AreParams k id names variables
+pub placed-variables : (k : Kept) (id : ℕ) (d : List Declaration) (symbols : SymbolMap) (m : Module) → IsHeld m → declarations_of m ≡ d → (names : List Name) (variables : List AVariable) → AreParams k id names variables
     → IsPlaced (with_scope (given_at d symbols (sequent_at k.made id)) (scope_of_terms symbols (sequent_at k.made id))) m k.trees names variables [] 0
 placed-variables k id d symbols m held declared names variables params =
     let s = sequent_at k.made id in
@@ -109,7 +109,7 @@ placed-variables k id d symbols m held declared names variables params =
     }
 
 -- the binders of type variables alone
-pub placed-over : (trees : Trees) (d : List Declaration) (symbols : Symbols) (m : Module) → IsHeld m → declarations_of m ≡ d → type.IsDistinct trees.types → IsDistinct trees.terms → (names : List Name) → IsPlaced (given_over d symbols names) m trees names [] [] 0
+pub placed-over : (trees : Trees) (d : List Declaration) (symbols : SymbolMap) (m : Module) → IsHeld m → declarations_of m ≡ d → type.IsDistinct trees.types → IsDistinct trees.terms → (names : List Name) → IsPlaced (given_over d symbols names) m trees names [] [] 0
 placed-over trees d symbols m held declared one_type one_term names = record {
   held = held;
   declared = declared;
@@ -125,12 +125,12 @@ placed-over trees d symbols m held declared one_type one_term names = record {
 -- over a module that grew
 module _ {old new : Module} (grows : Grows old new) where
   -- an environment that was made while it grew stands there
-  pub StandsFor-Made : (k : Kept) (scope : Symbols → Scope) (env : Environment) → IsHeld old → StandsFor k scope old new env → StandsFor k scope new new env
+  pub StandsFor-Made : (k : Kept) (scope : SymbolMap → Scope) (env : Environment) → IsHeld old → StandsFor k scope old new env → StandsFor k scope new new env
   StandsFor-Made k scope env held h d symbols e = h d symbols (sym (declarations_of-Grows _ _ grows held) ∙ e)
 
   -- an environment stands for what it stood for
-  pub StandsFor-Grows : (k : Kept) (scope : Symbols → Scope) (env : Environment) → IsHeld old → StandsFor k scope old old env → StandsFor k scope new new env
-  StandsFor-Grows k scope env held h d symbols e = Stands-Grows grows (record { declarations = d; symbols = symbols; scope = scope symbols }) k.trees env (h d symbols (sym (declarations_of-Grows _ _ grows held) ∙ e))
+  pub StandsFor-Grows : (k : Kept) (scope : SymbolMap → Scope) (env : Environment) → IsHeld old → StandsFor k scope old old env → StandsFor k scope new new env
+  StandsFor-Grows k scope env held h d symbols e = Represents-Grows grows (record { declarations = d; symbols = symbols; scope = scope symbols }) k.trees env (h d symbols (sym (declarations_of-Grows _ _ grows held) ∙ e))
 
   -- what a module tells it tells still
   pub told-Grows : (Told : List Declaration → Type 0) → IsHeld old → Told (declarations_of old) → Told (declarations_of new)

@@ -17,7 +17,7 @@ use Rattle.lp_spec.specs.Modules.{Declaration, abstractions, types}
 use Rattle.module_spec.specs.Items.{declaration_of, part_definition_tree}
 use Rattle.module_spec.specs.ProofTrees.{witness, part_tree}
 use Rattle.module_spec.specs.Rows.{type_or}
-use Rattle.module_spec.specs.Scopes.{Symbols, filled, under_types, unfilled}
+use Rattle.module_spec.specs.Scopes.{SymbolMap, filled, under_types, unfilled}
 use Rattle.rule_proofs.specs.declared.parts.Part.{Part}
 use Rattle.rule_proofs.specs.declared.parts.Part.TheVariants as part
 use Rattle.rule_proofs.specs.declared.premise.Premise.{Premise}
@@ -34,14 +34,14 @@ use Rattle.translate_rule.proofs.ItemLaws.{binders-are}
 use Rattle.translate_rule.proofs.PushLaws.{told-sequent}
 
 -- A part is declared at its type, over its type variables
-pub part-declared : (tables : Symbols) (own : Part) (names : TypeNames) (c : HolType) (f : Term) (j : ℕ) (one : Sequent)
+pub part-declared : (tables : SymbolMap) (own : Part) (names : TypeNames) (c : HolType) (f : Term) (j : ℕ) (one : Sequent)
     → record { name = part_name own names; form = Def; ty = part_type tables own names c; body = Some (part_definition_tree tables (part_variables own names c) (part_symbol own) c j one) } ≡ declaration_of tables (part_name own names) (part_content own names c f j one)
 part-declared tables part.Operator names c f j one = refl
 part-declared tables part.Abstraction names c f j one = refl
 part-declared tables part.Representation names c f j one = refl
 
 -- what is told of a part: the type of the definition and the theorem
-module _ (d : List Declaration) (tables : Symbols) (names : TypeNames) (c : HolType) (f : Term) (j : ℕ) (one : Sequent) where
+module _ (d : List Declaration) (tables : SymbolMap) (names : TypeNames) (c : HolType) (f : Term) (j : ℕ) (one : Sequent) where
   pub part-type-told : (own : Part) → TellsContent d tables (part_content own names c f j one) → TellsType d tables c
   part-type-told part.Operator h = h.0
   part-type-told part.Abstraction h = h.1
@@ -72,6 +72,6 @@ pub part-content : (k : Kept) (numbers : List ℕ) (own : Part) (d : TypeDefinit
 part-content k numbers own d one e s = λ i. part_content own (names_of d) (type_at k.trees d.view.whole.0) (term_at k.trees d.view.predicate.0) (s i) (sequent_at k.made (e i))
 
 -- The part under binders for its type variables
-pub part-definition : (tables : Symbols) (names : List Name) (own : Part) (c : HolType) (j : ℕ) (one : Sequent)
+pub part-definition : (tables : SymbolMap) (names : List Name) (own : Part) (c : HolType) (j : ℕ) (one : Sequent)
     → abstractions (replicate (length names) types) (part_tree tables (filled tables (under_types names unfilled)) (part_symbol own) c (j, one)) ≡ part_definition_tree tables names (part_symbol own) c j one
 part-definition tables names own c j one = ap (λ l. abstractions l (part_tree tables (filled tables (under_types names unfilled)) (part_symbol own) c (j, one))) (binders-are names names (length names) refl refl)

@@ -15,7 +15,7 @@ use Rattle.lp_spec.specs.Lemmas.{lemmas}
 use Rattle.lp_spec.specs.ModuleOrder.{MayFollow}
 use Rattle.lp_spec.specs.Modules.{Declaration, signature}
 use Rattle.module_spec.specs.Items.{Content, operator, constant, defined_constant, type_operator, type_abstraction, type_representation, unproved, step, Item, declaration, declaration_of, module_of}
-use Rattle.module_spec.specs.Scopes.{Symbols}
+use Rattle.module_spec.specs.Scopes.{SymbolMap}
 use Rattle.rule_proofs.specs.Told as rule
 use Rattle.run_laws.specs.Named.{HasNames}
 use Rattle.telling_laws.specs.MadeInOrder.{next-follows}
@@ -29,7 +29,7 @@ use Rattle.translate_rule.specs.Building.{AreDeclared, IsKeptItem}
 use Rattle.translate_rule.specs.Steps as steps
 
 -- what a step asks of what is told
-module _ (ds : List Declaration) (symbols : Symbols) where
+module _ (ds : List Declaration) (symbols : SymbolMap) where
   pub told-sequent : (s : Sequent) → TellsSequent ds symbols s → rule.TellsSequent ds symbols s
   told-sequent s h = record { hypotheses = h.hypotheses; conclusion = h.conclusion }
 
@@ -62,12 +62,12 @@ module _ (ds : List Declaration) (symbols : Symbols) where
   told-content (step kind js ss given s) h = (told-sequent s h.0, told-sequents ss h.1, told-given given h.2)
 
 -- a module of one item more
-module-more : (symbols : Symbols) (before : List Item) (x : Item) → module_of symbols (before ++ x ∷ []) ≡ module_of symbols before ++ declaration symbols x ∷ []
+module-more : (symbols : SymbolMap) (before : List Item) (x : Item) → module_of symbols (before ++ x ∷ []) ≡ module_of symbols before ++ declaration symbols x ∷ []
 module-more symbols before x =
     ap (λ l. lemmas ++ l) (map-append (declaration symbols) before (x ∷ [])) ∙ sym (append_assoc lemmas (map (declaration symbols) before) (declaration symbols x ∷ []))
 
 module _ (run : Accepted) (sound : IsSoundRun run) (named : HasNames run) (items grown : List Item) (target : Module) (so_far : AreDeclared run items target) (k : Kept) (numbers : List ℕ) (one : AnItem) (kept : IsKeptItem run items grown k numbers one) where
-  abbrev symbols : Symbols
+  abbrev symbols : SymbolMap
   symbols = kept_symbols run
 
   abbrev content : Content
@@ -81,7 +81,7 @@ module _ (run : Accepted) (sound : IsSoundRun run) (named : HasNames run) (items
 
   -- the declaration of the item, where it is what the item's is
   abbrev pub IsItems : Declaration → Type 0
-  IsItems d = (tables : Symbols) → TellsContent (declarations_of target) tables content → d ≡ declaration_of tables (item_name run one) content
+  IsItems d = (tables : SymbolMap) → TellsContent (declarations_of target) tables content → d ≡ declaration_of tables (item_name run one) content
 
   next-declaration : (d : Declaration) → IsItems d → d ≡ declaration symbols kept.x
   next-declaration d is = is symbols next-told ∙ (λ i. declaration_of symbols (sym kept.name i) (sym kept.content i))
@@ -99,7 +99,7 @@ module _ (run : Accepted) (sound : IsSoundRun run) (named : HasNames run) (items
 
 -- what is made with these numbers
 pub made-with : (run : Accepted) (target : Module) (k : Kept) (seen numbers : List ℕ) (one : AnItem) (d : Declaration) → seen ≡ numbers
-    → ((tables : Symbols) → TellsContent (declarations_of target) tables (item_content k seen one) → d ≡ declaration_of tables (item_name run one) (item_content k seen one))
-    → (tables : Symbols) → TellsContent (declarations_of target) tables (item_content k numbers one) → d ≡ declaration_of tables (item_name run one) (item_content k numbers one)
+    → ((tables : SymbolMap) → TellsContent (declarations_of target) tables (item_content k seen one) → d ≡ declaration_of tables (item_name run one) (item_content k seen one))
+    → (tables : SymbolMap) → TellsContent (declarations_of target) tables (item_content k numbers one) → d ≡ declaration_of tables (item_name run one) (item_content k numbers one)
 made-with run target k seen numbers one d e is =
-    subst (λ ns. (tables : Symbols) → TellsContent (declarations_of target) tables (item_content k ns one) → d ≡ declaration_of tables (item_name run one) (item_content k ns one)) e is
+    subst (λ ns. (tables : SymbolMap) → TellsContent (declarations_of target) tables (item_content k ns one) → d ≡ declaration_of tables (item_name run one) (item_content k ns one)) e is

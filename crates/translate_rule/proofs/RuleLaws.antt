@@ -9,7 +9,7 @@ use Rattle.hol_spec.specs.Rules.{Rule, Parameters}
 use Rattle.hol_spec.specs.Rules as rule
 use Rattle.hol_spec.specs.declared.StepKind.TheVariants as kinds
 use Rattle.lp_spec.specs.Trees.{Tree}
-use Rattle.module_spec.specs.Scopes.{Symbols, Scope}
+use Rattle.module_spec.specs.Scopes.{SymbolMap, Scope}
 use Rattle.module_spec.specs.ProofTrees.{refl_tree, app_thm_tree}
 use Rattle.module_spec.specs.Rows.{proof_tree, equated_type, left_side, right_side, argument_type, result_type, type_or}
 
@@ -55,7 +55,7 @@ pub app_thm-second : {one two : Sequent} {g : Parameters} {s : Sequent} → Rule
 app_thm-second (rule.app_thm {a = a} {x = x} {y = y} e i l) = record { ty = a; left = x; right = y; is = i }
 
 -- the proofs that aren't read off the premises alone
-module _ (symbols : Symbols) (scope : Scope) where
+module _ (symbols : SymbolMap) (scope : Scope) where
   abbrev own : Sequent → Tree
   own s = refl_tree symbols scope (equated_type s.conclusion) (right_side s.conclusion)
 

@@ -24,7 +24,7 @@ use Rattle.lp_spec.specs.Modules.{Declaration, products, proof_of, proof_symbol,
 use Rattle.lp_binding.specs.Binding.{lift-lift}
 use Rattle.lp_binding.specs.Composition.{lift_zero}
 use Rattle.module_laws.specs.ScopeLaws.{type_tree-lift, term_tree-lift}
-use Rattle.module_spec.specs.Scopes.{Symbols, TypeScope, Scope, type_tree, term_tree, lifted, lifted_types, inside, under_term, under_proof, term_domains, proof_domains, scope_of_types, scope_of_terms, conclusion_tree, sequent_tree}
+use Rattle.module_spec.specs.Scopes.{SymbolMap, TypeScope, Scope, type_tree, term_tree, lifted, lifted_types, inside, under_term, under_proof, term_domains, proof_domains, scope_of_types, scope_of_terms, conclusion_tree, sequent_tree}
 use Rattle.translate_term.specs.Told.{TellsType, TellsTerm}
 use Rattle.rule_proofs.specs.Environments.{Given, IsTold}
 use Rattle.rule_proofs.specs.Told.{TellsSequent}
@@ -35,7 +35,7 @@ use Rattle.translate_rule.proofs.GenericLaws.{binders-of}
 abbrev with_proofs : Scope → (Term → Tree) → Scope
 with_proofs scope proofs = record { types = scope.types; terms = scope.terms; proofs = proofs; bounds = scope.bounds }
 
-term_tree-proofs : (symbols : Symbols) (scope : Scope) (proofs : Term → Tree) (t : Term) → term_tree symbols (with_proofs scope proofs) t ≡ term_tree symbols scope t
+term_tree-proofs : (symbols : SymbolMap) (scope : Scope) (proofs : Term → Tree) (t : Term) → term_tree symbols (with_proofs scope proofs) t ≡ term_tree symbols scope t
 term_tree-proofs symbols scope proofs (term.Term.free n t) = refl
 term_tree-proofs symbols scope proofs (term.Term.bound k) = refl
 term_tree-proofs symbols scope proofs (term.Term.constant n t) = refl
@@ -46,7 +46,7 @@ lift-suc : (k : ℕ) (x : Tree) → lift 1 (lift k x) ≡ lift (suc k) x
 lift-suc k x = lift-lift 1 k x ∙ ap (λ j. lift j x) (let e : 1 + k ≡ suc k = omega arith in e)
 
 -- the domains of hypotheses, and of free variables, are made outside all of them and lifted
-module _ (symbols : Symbols) where
+module _ (symbols : SymbolMap) where
   proof_domains-lifted : (base scope : Scope) (k : ℕ) → ((t : Term) → term_tree symbols scope t ≡ lift k (term_tree symbols base t)) → (hs : List Term) → proof_domains symbols hs scope ≡ lifted_domains proof_symbol (term_tree symbols base) k hs
   proof_domains-lifted base scope k e [] = refl
   proof_domains-lifted base scope k e (h ∷ hs) = ap₂ (λ a rest. proof_of a ∷ rest) (e h) (proof_domains-lifted base (under_proof h scope) (suc k) under hs)
@@ -73,7 +73,7 @@ products-append [] ys t = refl
 products-append (x ∷ xs) ys t = ap (Pi x) (products-append xs ys t)
 
 -- the product over the type variables of the product over the free variables of the product over the hypotheses
-pub sequent_tree-products : (symbols : Symbols) (s : Sequent) (count : ℕ) → count ≡ length (type_variables_of s)
+pub sequent_tree-products : (symbols : SymbolMap) (s : Sequent) (count : ℕ) → count ≡ length (type_variables_of s)
     → products (replicate count types) (products (term_domains symbols (free_variables_of s) (scope_of_types symbols s)) (products (proof_domains symbols s.hypotheses (scope_of_terms symbols s)) (conclusion_tree symbols s))) ≡ sequent_tree symbols s
 sequent_tree-products symbols s count e =
     let A = map (λ (n : Name). types) (type_variables_of s) in
@@ -161,18 +161,18 @@ module _ (trees : Trees) where
       go (y ∷ ys) k = let r = go ys k.1 in ((k.0, r.0), r.1)
 
 -- What a sequent tells of its terms and of its free variables
-free_types-told : (declarations : List Declaration) (symbols : Symbols) (t : Term) → TellsTerm declarations symbols t → AllByRecursion (λ (v : Variable). TellsType declarations symbols v.1) (free_places t)
+free_types-told : (declarations : List Declaration) (symbols : SymbolMap) (t : Term) → TellsTerm declarations symbols t → AllByRecursion (λ (v : Variable). TellsType declarations symbols v.1) (free_places t)
 free_types-told d symbols (term.Term.free n t) h = (h, tt {0})
 free_types-told d symbols (term.Term.bound k) h = tt
 free_types-told d symbols (term.Term.constant n t) h = tt
 free_types-told d symbols (term.Term.app f x) h = All-append _ (free_places f) (free_places x) (free_types-told d symbols f h.0) (free_types-told d symbols x h.1)
 free_types-told d symbols (term.Term.lam t b) h = free_types-told d symbols b h.1
 
-all_free_types-told : (declarations : List Declaration) (symbols : Symbols) (ts : List Term) → AllByRecursion (TellsTerm declarations symbols) ts → AllByRecursion (λ (v : Variable). TellsType declarations symbols v.1) (flat_map free_places ts)
+all_free_types-told : (declarations : List Declaration) (symbols : SymbolMap) (ts : List Term) → AllByRecursion (TellsTerm declarations symbols) ts → AllByRecursion (λ (v : Variable). TellsType declarations symbols v.1) (flat_map free_places ts)
 all_free_types-told d symbols [] h = tt
 all_free_types-told d symbols (t ∷ ts) h = All-append _ (free_places t) (flat_map free_places ts) (free_types-told d symbols t h.0) (all_free_types-told d symbols ts h.1)
 
-pub variables-told : (declarations : List Declaration) (symbols : Symbols) (s : Sequent) → TellsSequent declarations symbols s → AllByRecursion (λ (v : Variable). TellsType declarations symbols v.1) (free_variables_of s)
+pub variables-told : (declarations : List Declaration) (symbols : SymbolMap) (s : Sequent) → TellsSequent declarations symbols s → AllByRecursion (λ (v : Variable). TellsType declarations symbols v.1) (free_variables_of s)
 variables-told d symbols s h =
     All-each _ (free_variables_of s) (λ v i. All-at _ (flat_map free_places (terms_of s)) v
     (all_free_types-told d symbols (terms_of s) (All-append (TellsTerm d symbols) s.hypotheses (s.conclusion ∷ []) h.hypotheses (h.conclusion, tt {0})))

@@ -17,7 +17,7 @@ use Rattle.lp_spec.specs.Modules.{Declaration}
 use Rattle.lp_spec.specs.Trees.{Tree}
 use Rattle.module_spec.specs.MadeItems.{proves_nothing, restated, needed}
 use Rattle.module_spec.specs.Rows.{proof_tree, has_row}
-use Rattle.module_spec.specs.Scopes.{Symbols, Scope, theorem_tree}
+use Rattle.module_spec.specs.Scopes.{SymbolMap, Scope, theorem_tree}
 use Rattle.translate_term.specs.Told.{TellsType, TellsTerm}
 use Rattle.rule_proofs.specs.declared.premise.Premise.{Premise}
 use Rattle.translate_rule.specs.Steps.{symbol_in, needed_at, rule_tree, TellsProof, IsPremise, IsOne, AreTwo}
@@ -156,7 +156,7 @@ module _ (k : Kept) (id : ℕ) (l : id < step_count k) (p : IsProof k.made) wher
   two-below i j is = let h = subst (AllByRecursion (λ i. i < id)) is (premises-below k.made p id l) in (h.0, h.1.0)
 
   -- what is told of a step and its premises
-  module _ (d : List Declaration) (tables : Symbols) (h : TellsProof d tables k.made x) where
+  module _ (d : List Declaration) (tables : SymbolMap) (h : TellsProof d tables k.made x) where
     pub own-told : TellsSequent d tables (sequent_at k.made id)
     own-told = subst (TellsSequent d tables) (step-sequent k.made p id l) h.own
 
@@ -169,13 +169,13 @@ module _ (k : Kept) (id : ℕ) (l : id < step_count k) (p : IsProof k.made) wher
     pub second-told : (i j : ℕ) → x.premises ≡ i ∷ j ∷ [] → TellsSequent d tables (sequent_at k.made j)
     second-told i j is = (subst (λ ns. AllByRecursion (TellsSequent d tables) (map (sequent_at k.made) ns)) is h.premises).1.0
 
-  pub restated-told : (d : List Declaration) (tables : Symbols) (i j : ℕ) → x.premises ≡ i ∷ j ∷ [] → proves_nothing x.kind (map (sequent_at k.made) x.premises) ≡ true → TellsProof d tables k.made (needed_at k.made id) → TellsSequent d tables (sequent_at k.made j)
+  pub restated-told : (d : List Declaration) (tables : SymbolMap) (i j : ℕ) → x.premises ≡ i ∷ j ∷ [] → proves_nothing x.kind (map (sequent_at k.made) x.premises) ≡ true → TellsProof d tables k.made (needed_at k.made id) → TellsSequent d tables (sequent_at k.made j)
   restated-told d tables i j are e h =
       let own = subst (TellsProof d tables k.made) (needed-restated (map (sequent_at k.made) x.premises) x e) h in
       (subst (λ ns. AllByRecursion (TellsSequent d tables) (map (sequent_at k.made) (drop 1 ns))) are own.premises).0
 
   -- the proof terms, by the symbols of premises
-  module _ (tables : Symbols) (scope : Scope) where
+  module _ (tables : SymbolMap) (scope : Scope) where
     pub tree-kind : (kind : StepKind) → x.kind ≡ kind → (js : List ℕ) (ss : List Sequent) → proof_tree tables scope kind js ss x.parameters ≡ proof_tree tables scope x.kind js ss x.parameters
     tree-kind kind e js ss = sym (ap (λ w. proof_tree tables scope w js ss x.parameters) e)
 

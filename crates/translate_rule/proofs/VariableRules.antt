@@ -12,15 +12,15 @@ use Rattle.hol_rules.specs.declared.made.Parameters.TheVariants as given
 use Rattle.hol_term.specs.declared.Variable.{Variable as AVariable}
 use Rattle.hol_term.specs.Tables.{Trees}
 use Rattle.lp_spec.specs.Modules.{Declaration}
-use Rattle.module_spec.specs.Scopes.{Symbols}
+use Rattle.module_spec.specs.Scopes.{SymbolMap}
 use Rattle.translate_term.specs.Told.{TellsType, TellsTerm}
 use Rattle.rule_proofs.specs.Told.{TellsSequent}
 
 -- the type of the variable is told where the sequent is
-variable-of : (d : List Declaration) (tables : Symbols) (v : Variable) (one s : Sequent) → Rule kinds.AbsThm (one ∷ []) (Parameters.variable v) s → TellsSequent d tables s → TellsType d tables v.1
+variable-of : (d : List Declaration) (tables : SymbolMap) (v : Variable) (one s : Sequent) → Rule kinds.AbsThm (one ∷ []) (Parameters.variable v) s → TellsSequent d tables s → TellsType d tables v.1
 variable-of d tables v one s (rule.abs_thm e f i) h = let whole = subst (TellsTerm d tables) (ap (λ (s : Sequent). s.conclusion) i) h.conclusion in whole.0.1.0
 
-pub variable-told : (d : List Declaration) (tables : Symbols) (v : Variable) (g : Parameters) (one s : Sequent) → Rule kinds.AbsThm (one ∷ []) g s → Parameters.variable v ≡ g → TellsSequent d tables s → TellsType d tables v.1
+pub variable-told : (d : List Declaration) (tables : SymbolMap) (v : Variable) (g : Parameters) (one s : Sequent) → Rule kinds.AbsThm (one ∷ []) g s → Parameters.variable v ≡ g → TellsSequent d tables s → TellsType d tables v.1
 variable-told d tables v g one s r e h = variable-of d tables v one s (subst (λ g. Rule kinds.AbsThm (one ∷ []) g s) (sym e) r) h
 
 -- such a step was given a variable

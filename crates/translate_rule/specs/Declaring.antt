@@ -8,7 +8,7 @@ use Rattle.holide_sig.specs.Modules.{declaration_in, declarations_of}
 use Rattle.lp_term.specs.declared.LpId.{LpId}
 use Rattle.lp_term.specs.Tables.{Holds}
 use Rattle.module_spec.specs.Items.{Content, declaration_of, definition_tree}
-use Rattle.module_spec.specs.Scopes.{Symbols, generic_tree}
+use Rattle.module_spec.specs.Scopes.{SymbolMap, generic_tree}
 use Rattle.telling_laws.specs.Told.{TellsContent}
 use Rattle.translate_rule.specs.declared.items.Item.{Item}
 use Rattle.translate_rule.specs.declared.run.Run.{Run}
@@ -17,11 +17,11 @@ use Rattle.translate_term.specs.Told.{TellsTerm, TellsType}
 
 -- a module tells what a content says
 abbrev pub IsTold : Module → Content → Type 0
-IsTold m content = (tables : Symbols) × TellsContent (declarations_of m) tables content
+IsTold m content = (tables : SymbolMap) × TellsContent (declarations_of m) tables content
 
 -- a declaration is that of a content under a name, where the module told before what the content says
 abbrev pub IsDeclared : Module → Module → List ℕ → Content → Decl → Type 0
-IsDeclared old new name content decl = (tables : Symbols) → TellsContent (declarations_of old) tables content → declaration_in new.table decl ≡ declaration_of tables name content
+IsDeclared old new name content decl = (tables : SymbolMap) → TellsContent (declarations_of old) tables content → declaration_in new.table decl ≡ declaration_of tables name content
 
 -- a declaration is that of an item of a run
 abbrev pub IsItemDeclared : Module → Module → Run → List ℕ → Item → Decl → Type 0
@@ -29,12 +29,12 @@ IsItemDeclared old new run numbers one decl = IsDeclared old new (item_name (acc
 
 -- a declaration is that of a content of which nothing has to be told
 abbrev pub IsSymbolOf : Module → List ℕ → Content → Decl → Type 0
-IsSymbolOf new name content decl = (tables : Symbols) → declaration_in new.table decl ≡ declaration_of tables name content
+IsSymbolOf new name content decl = (tables : SymbolMap) → declaration_in new.table decl ≡ declaration_of tables name content
 
 -- a tree is the declared type of a constant with a generic type
 abbrev pub IsGenericType : Module → Module → HolType → LpId → Type 0
-IsGenericType old new ty r = (tables : Symbols) → TellsType (declarations_of old) tables ty → Holds new.table r.0 (generic_tree tables ty)
+IsGenericType old new ty r = (tables : SymbolMap) → TellsType (declarations_of old) tables ty → Holds new.table r.0 (generic_tree tables ty)
 
 -- a tree is what a constant of a generic type stands for
 abbrev pub IsDefinitionBody : Module → Module → HolType → Term → LpId → Type 0
-IsDefinitionBody old new ty term r = (tables : Symbols) → TellsTerm (declarations_of old) tables term → Holds new.table r.0 (definition_tree tables ty term)
+IsDefinitionBody old new ty term r = (tables : SymbolMap) → TellsTerm (declarations_of old) tables term → Holds new.table r.0 (definition_tree tables ty term)

@@ -15,10 +15,10 @@ use Rattle.lp_term.specs.Tables.{Holds}
 use Rattle.module_spec.specs.Image.{step_name}
 use Rattle.module_spec.specs.Items.{Content, declaration_of}
 use Rattle.module_spec.specs.Rows.{proof_tree}
-use Rattle.module_spec.specs.Scopes.{Symbols, Scope, filled, proof_domains, scope_of, scope_of_terms, scope_of_types, term_domains, under_types, unfilled}
+use Rattle.module_spec.specs.Scopes.{SymbolMap, Scope, filled, proof_domains, scope_of, scope_of_terms, scope_of_types, term_domains, under_types, unfilled}
 use Rattle.rule_proofs.specs.declared.premise.Premise.{Premise}
 use Rattle.rule_proofs.specs.declared.scope.Environment.{Environment}
-use Rattle.rule_proofs.specs.Environments.{Stands}
+use Rattle.rule_proofs.specs.Environments.{Represents}
 use Rattle.rule_proofs.specs.Keeping.{AreKept}
 use Rattle.rule_proofs.specs.Told.{TellsSequent}
 use Rattle.translate_rule.specs.declared.declaration.Unnamed.{Unnamed}
@@ -42,21 +42,21 @@ abbrev pub own_sequent : OwnStep → Sequent
 own_sequent step = sequent_at (proof_in step).made step.id
 
 -- an environment stands for a scope over a module, for whatever symbols another told that grew into it
-abbrev pub StandsFor : Kept → (Symbols → Scope) → Module → Module → Environment → Type 0
-StandsFor k scope old new env = (declarations : List Declaration) (symbols : Symbols) → declarations_of old ≡ declarations
-    → Stands (record { declarations = declarations; symbols = symbols; scope = scope symbols }) new k.trees env
+abbrev pub StandsFor : Kept → (SymbolMap → Scope) → Module → Module → Environment → Type 0
+StandsFor k scope old new env = (declarations : List Declaration) (symbols : SymbolMap) → declarations_of old ≡ declarations
+    → Represents (record { declarations = declarations; symbols = symbols; scope = scope symbols }) new k.trees env
 
 -- the scope of a step's binders, that of its variables alone, what stands for its type variables alone, and that of a binder for each type variable
-abbrev pub own_scope : Kept → ℕ → Symbols → Scope
+abbrev pub own_scope : Kept → ℕ → SymbolMap → Scope
 own_scope k id symbols = scope_of symbols (sequent_at k.made id)
 
-abbrev pub variable_scope : Kept → ℕ → Symbols → Scope
+abbrev pub variable_scope : Kept → ℕ → SymbolMap → Scope
 variable_scope k id symbols = scope_of_terms symbols (sequent_at k.made id)
 
-abbrev pub outer_scope : Kept → ℕ → Symbols → Scope
+abbrev pub outer_scope : Kept → ℕ → SymbolMap → Scope
 outer_scope k id symbols = filled symbols (own_scope k id symbols).types
 
-abbrev pub types_scope : List Name → Symbols → Scope
+abbrev pub types_scope : List Name → SymbolMap → Scope
 types_scope names symbols = filled symbols (under_types names unfilled)
 
 -- an environment stands for what the scope of a step's binders becomes
@@ -73,30 +73,30 @@ pub record IsReady (step : OwnStep) (m : Module) : Type 0 where
 
 -- a module tells a step's sequent
 abbrev pub IsSequentTold : OwnStep → Module → Type 0
-IsSequentTold step m = (tables : Symbols) × TellsSequent (declarations_of m) tables (own_sequent step)
+IsSequentTold step m = (tables : SymbolMap) × TellsSequent (declarations_of m) tables (own_sequent step)
 
 -- a tree is this one of a step's sequent, where the module told the sequent before
-abbrev pub IsTreeOf : OwnStep → (Symbols → Sequent → Tree) → Module → Module → LpId → Type 0
-IsTreeOf step tree old new r = (tables : Symbols) → TellsSequent (declarations_of old) tables (own_sequent step) → Holds new.table r.0 (tree tables (own_sequent step))
+abbrev pub IsTreeOf : OwnStep → (SymbolMap → Sequent → Tree) → Module → Module → LpId → Type 0
+IsTreeOf step tree old new r = (tables : SymbolMap) → TellsSequent (declarations_of old) tables (own_sequent step) → Holds new.table r.0 (tree tables (own_sequent step))
 
 -- the products over a sequent's hypotheses, and over its free variables
-abbrev pub hypotheses_product : Tree → Symbols → Sequent → Tree
+abbrev pub hypotheses_product : Tree → SymbolMap → Sequent → Tree
 hypotheses_product inside tables s = products (proof_domains tables s.hypotheses (scope_of_terms tables s)) inside
 
-abbrev pub variables_product : Tree → Symbols → Sequent → Tree
+abbrev pub variables_product : Tree → SymbolMap → Sequent → Tree
 variables_product inside tables s = products (term_domains tables (free_variables_of s) (scope_of_types tables s)) inside
 
 -- a module tells what a proof of this step needs
 abbrev pub IsProofTold : OwnStep → Step → Module → Type 0
-IsProofTold step x m = (tables : Symbols) × TellsProof (declarations_of m) tables (proof_in step).made x
+IsProofTold step x m = (tables : SymbolMap) × TellsProof (declarations_of m) tables (proof_in step).made x
 
 -- a tree is the proof of this step by its rule, with the symbols of earlier declarations, where the module told before what it needs
 abbrev pub IsProofOf : OwnStep → List ℕ → Step → Module → Module → LpId → Type 0
-IsProofOf step numbers x old new r = (tables : Symbols) → TellsProof (declarations_of old) tables (proof_in step).made x
+IsProofOf step numbers x old new r = (tables : SymbolMap) → TellsProof (declarations_of old) tables (proof_in step).made x
     → Holds new.table r.0 (rule_tree tables (own_scope (proof_in step) step.id tables) numbers (proof_in step).made x)
 
 -- the proof of a step by its rule from premises
-abbrev pub tree_by : OwnStep → List Premise → Symbols → Tree
+abbrev pub tree_by : OwnStep → List Premise → SymbolMap → Tree
 tree_by step premises tables =
     let x = own_step step in
     proof_tree tables (own_scope (proof_in step) step.id tables) x.kind (map (λ (one : Premise). one.symbol) premises)
@@ -104,11 +104,11 @@ tree_by step premises tables =
 
 -- a tree is that proof
 abbrev pub IsProofBy : OwnStep → List Premise → Module → Module → LpId → Type 0
-IsProofBy step premises old new r = (tables : Symbols) → TellsProof (declarations_of old) tables (proof_in step).made (own_step step) → Holds new.table r.0 (tree_by step premises tables)
+IsProofBy step premises old new r = (tables : SymbolMap) → TellsProof (declarations_of old) tables (proof_in step).made (own_step step) → Holds new.table r.0 (tree_by step premises tables)
 
 -- a module tells what the content of a step asks for
 abbrev pub IsStepTold : Module → Content → Type 0
-IsStepTold m content = (tables : Symbols) × TellsContent (declarations_of m) tables content
+IsStepTold m content = (tables : SymbolMap) × TellsContent (declarations_of m) tables content
 
 -- the content of a step, with the symbols of earlier declarations
 abbrev pub own_content : OwnStep → List ℕ → Content
@@ -116,9 +116,9 @@ own_content step numbers = content_at numbers (proof_in step).made step.id
 
 -- what a declaration has beside its name is that of a content, under each name
 abbrev pub IsStated : Module → Module → Content → Unnamed → Type 0
-IsStated old new content x = (tables : Symbols) (name : List ℕ) → TellsContent (declarations_of old) tables content → named_in new.table name x ≡ declaration_of tables name content
+IsStated old new content x = (tables : SymbolMap) (name : List ℕ) → TellsContent (declarations_of old) tables content → named_in new.table name x ≡ declaration_of tables name content
 
 -- a declaration is that of a step of a run
 abbrev pub IsStepDeclared : Module → Module → Run → List ℕ → ℕ → Decl → Type 0
-IsStepDeclared old new run numbers id decl = (tables : Symbols) → TellsContent (declarations_of old) tables (content_at numbers run.proof.now.made id)
+IsStepDeclared old new run numbers id decl = (tables : SymbolMap) → TellsContent (declarations_of old) tables (content_at numbers run.proof.now.made id)
     → declaration_in new.table decl ≡ declaration_of tables (step_name (accepted run) id (step_at run.proof.now.made id).kind) (content_at numbers run.proof.now.made id)

@@ -17,12 +17,12 @@ use Rattle.lp_term.specs.declared.LpId.{LpId}
 use Rattle.lp_term.specs.Tables.{Holds}
 use Rattle.module_spec.specs.Items.{Content, part_definition_tree}
 use Rattle.module_spec.specs.ProofTrees.{part_tree}
-use Rattle.module_spec.specs.Scopes.{Symbols, generic_tree}
+use Rattle.module_spec.specs.Scopes.{SymbolMap, generic_tree}
 use Rattle.rule_proofs.specs.declared.parts.Part.{Part}
 use Rattle.rule_proofs.specs.declared.parts.Part.TheVariants as part
 use Rattle.rule_proofs.specs.declared.premise.Premise.{Premise}
 use Rattle.rule_proofs.specs.declared.scope.Environment.{Environment}
-use Rattle.rule_proofs.specs.Environments.{Given, Stands}
+use Rattle.rule_proofs.specs.Environments.{Given, Represents}
 use Rattle.rule_proofs.specs.Parts.{part_symbol, whole_type, TellsWhole}
 use Rattle.rule_proofs.specs.Told.{TellsSequent, TellsStep}
 use Rattle.telling_laws.specs.Told.{TellsContent}
@@ -40,7 +40,7 @@ part_variables part.Abstraction names c = type_variables (abstraction_type names
 part_variables part.Representation names c = type_variables (representation_type names c)
 
 -- the type at which it is declared
-abbrev pub part_type : Symbols → Part → TypeNames → HolType → Tree
+abbrev pub part_type : SymbolMap → Part → TypeNames → HolType → Tree
 part_type symbols part.Operator names c = products (replicate (length names.variables) types) types
 part_type symbols part.Abstraction names c = generic_tree symbols (abstraction_type names c)
 part_type symbols part.Representation names c = generic_tree symbols (representation_type names c)
@@ -51,26 +51,26 @@ IsDefining k x id = IsTypeDefinition (names_of_view x) (type_at k.trees x.whole.
 
 -- a module tells its type and its sequent
 abbrev pub IsDefiningTold : Kept → ℕ → Module → Type 0
-IsDefiningTold k id m = (tables : Symbols) × TellsType (declarations_of m) tables (whole_type k id) × TellsSequent (declarations_of m) tables (sequent_at k.made id)
+IsDefiningTold k id m = (tables : SymbolMap) × TellsType (declarations_of m) tables (whole_type k id) × TellsSequent (declarations_of m) tables (sequent_at k.made id)
 
 -- a tree is the declared type of a part, and what a part stands for, where the module told before what the part says
 abbrev pub IsPartType : Kept → Part → TypeOpView → Premise → Module → Module → LpId → Type 0
-IsPartType k own x one old new r = (tables : Symbols) → TellsContent (declarations_of old) tables (part_at k own x one)
+IsPartType k own x one old new r = (tables : SymbolMap) → TellsContent (declarations_of old) tables (part_at k own x one)
     → Holds new.table r.0 (part_type tables own (names_of_view x) (type_at k.trees x.whole.0))
 
 abbrev pub IsPartBody : Kept → Part → TypeOpView → Premise → Module → Module → LpId → Type 0
-IsPartBody k own x one old new r = (tables : Symbols) → TellsContent (declarations_of old) tables (part_at k own x one)
+IsPartBody k own x one old new r = (tables : SymbolMap) → TellsContent (declarations_of old) tables (part_at k own x one)
     → Holds new.table r.0 (part_definition_tree tables (part_variables own (names_of_view x) (type_at k.trees x.whole.0)) (part_symbol own)
     (type_at k.trees x.whole.0) one.symbol (sequent_at k.made one.id))
 
 -- a tree is a part over type variables, by its premise
 abbrev pub IsPartOver : Kept → Part → List Name → Premise → Module → Module → LpId → Type 0
-IsPartOver k own names one old new r = (tables : Symbols) → TellsType (declarations_of old) tables (whole_type k one.id)
+IsPartOver k own names one old new r = (tables : SymbolMap) → TellsType (declarations_of old) tables (whole_type k one.id)
     → TellsSequent (declarations_of old) tables (sequent_at k.made one.id)
     → Holds new.table r.0 (part_definition_tree tables names (part_symbol own) (whole_type k one.id) one.symbol (sequent_at k.made one.id))
 
 -- a tree is a part in an environment, under so many binders of simple types
 abbrev pub IsPartUnder : Kept → Environment → Part → ℕ → Premise → Module → Module → LpId → Type 0
-IsPartUnder k env own count one old new r = (given : Given) → Stands given old k.trees env → TellsWhole given k one.id → TellsStep given k one.id
+IsPartUnder k env own count one old new r = (given : Given) → Represents given old k.trees env → TellsWhole given k one.id → TellsStep given k one.id
     → Holds new.table r.0 (abstractions (replicate count types)
     (part_tree given.symbols given.scope (part_symbol own) (whole_type k one.id) (one.symbol, sequent_at k.made one.id)))

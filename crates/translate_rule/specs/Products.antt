@@ -16,17 +16,17 @@ use Rattle.lp_term.specs.declared.LpId.{LpId}
 use Rattle.lp_term.specs.Tables.{Holds}
 use Rattle.module_spec.specs.Scopes.{term_tree, type_tree}
 use Rattle.rule_proofs.specs.declared.scope.Environment.{Environment}
-use Rattle.rule_proofs.specs.Environments.{Given, IsTold, Stands}
+use Rattle.rule_proofs.specs.Environments.{Given, IsTold, Represents}
 use Rattle.translate_rule.specs.Domains.{lifted_domains}
 use Rattle.translate_term.specs.Told.{TellsType}
 
 -- an environment stands for what is given, of which this is told
 abbrev pub HasGiven : Kept → Environment → (Given → Type 0) → Module → Type 0
-HasGiven k env Tells m = (given : Given) × Stands given m k.trees env × Tells given
+HasGiven k env Tells m = (given : Given) × Represents given m k.trees env × Tells given
 
 -- a tree is this one for what is given, where that is told
 abbrev pub IsGivenTree : Kept → Environment → (Given → Type 0) → (Given → Tree) → Module → Module → LpId → Type 0
-IsGivenTree k env Tells tree old new r = (given : Given) → Stands given old k.trees env → Tells given → Holds new.table r.0 (tree given)
+IsGivenTree k env Tells tree old new r = (given : Given) → Represents given old k.trees env → Tells given → Holds new.table r.0 (tree given)
 
 -- a formula is told, and formulas are
 abbrev pub TellsFormula : Kept → TermId → Given → Type 0

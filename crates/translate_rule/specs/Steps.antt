@@ -16,7 +16,7 @@ use Rattle.lp_spec.specs.Trees.{Tree}
 use Rattle.module_spec.specs.Items.{Content, operator, constant, defined_constant, type_operator, type_abstraction, type_representation, unproved, step}
 use Rattle.module_spec.specs.MadeItems.{content_by, needed}
 use Rattle.module_spec.specs.Rows.{has_row, proof_tree}
-use Rattle.module_spec.specs.Scopes.{Symbols, Scope, filled, scope_of, under_types, unfilled}
+use Rattle.module_spec.specs.Scopes.{SymbolMap, Scope, filled, scope_of, under_types, unfilled}
 use Rattle.translate_term.specs.Told.{TellsConstant}
 use Rattle.rule_proofs.specs.declared.premise.Premise.{Premise}
 use Rattle.rule_proofs.specs.Environments.{Given}
@@ -37,16 +37,16 @@ content_at numbers made id =
     content_by (has_row x.kind) x.kind (map (symbol_in numbers) x.premises) (map (sequent_at made) x.premises) x.parameters x.sequent
 
 -- the proof of a step by its rule
-abbrev pub rule_tree : Symbols → Scope → List ℕ → List Made → Step → Tree
+abbrev pub rule_tree : SymbolMap → Scope → List ℕ → List Made → Step → Tree
 rule_tree symbols scope numbers made x = proof_tree symbols scope x.kind (map (symbol_in numbers) x.premises) (map (sequent_at made) x.premises) x.parameters
 
 -- a module tells the constants that are put for variables
-abbrev pub TellsGiven : List Declaration → Symbols → Parameters → Type 0
+abbrev pub TellsGiven : List Declaration → SymbolMap → Parameters → Type 0
 TellsGiven declarations symbols (Parameters.constants pairs) = AllByRecursion (λ p. TellsConstant declarations symbols p.0 p.1.1) pairs
 TellsGiven declarations symbols given = Unit {0}
 
 -- a module tells the symbol of each operator and each constant in what a content says, in the premises of a step, and in what it was given
-abbrev pub TellsContent : List Declaration → Symbols → Content → Type 0
+abbrev pub TellsContent : List Declaration → SymbolMap → Content → Type 0
 TellsContent declarations symbols (operator n k) = Unit {0}
 TellsContent declarations symbols (constant n a) = Unit {0}
 TellsContent declarations symbols (defined_constant n a t) = Unit {0}
@@ -57,17 +57,17 @@ TellsContent declarations symbols (unproved s) = TellsSequent declarations symbo
 TellsContent declarations symbols (step kind js premises given s) = TellsSequent declarations symbols s × AllByRecursion (TellsSequent declarations symbols) premises × TellsGiven declarations symbols given
 
 -- in a step, its premises and what it was given
-pub record TellsProof (declarations : List Declaration) (symbols : Symbols) (made : List Made) (x : Step) : Type 0 where
+pub record TellsProof (declarations : List Declaration) (symbols : SymbolMap) (made : List Made) (x : Step) : Type 0 where
   pub own : TellsSequent declarations symbols x.sequent
   pub premises : AllByRecursion (TellsSequent declarations symbols) (map (sequent_at made) x.premises)
   pub given : TellsGiven declarations symbols x.parameters
 
 -- the binders of a sequent stand for its parameters
-abbrev pub given_at : List Declaration → Symbols → Sequent → Given
+abbrev pub given_at : List Declaration → SymbolMap → Sequent → Given
 given_at declarations symbols s = record { declarations = declarations; symbols = symbols; scope = scope_of symbols s }
 
 -- a binder for each of some type variables stands for it, and nothing else is told
-abbrev pub given_over : List Declaration → Symbols → List Name → Given
+abbrev pub given_over : List Declaration → SymbolMap → List Name → Given
 given_over declarations symbols names = record { declarations = declarations; symbols = symbols; scope = filled symbols (under_types names unfilled) }
 
 -- these are the parameters of a step's sequent, in a table where nothing has two numbers

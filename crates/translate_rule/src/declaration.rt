@@ -7,7 +7,7 @@ ghost use Rattle.holide_sig.specs.Modules.{declaration_in, declarations_of, IsHe
 ghost use Rattle.module_spec.specs.Image.{step_name as name_of_step};
 ghost use Rattle.module_spec.specs.Items.{declaration_of};
 ghost use Rattle.module_spec.specs.Rows.{has_row};
-ghost use Rattle.module_spec.specs.Scopes.{Symbols, domains_of};
+ghost use Rattle.module_spec.specs.Scopes.{SymbolMap, domains_of};
 ghost use Rattle.translate_term.specs.Walks.{Grows};
 ghost use Rattle.rule_proofs.specs.Keeping.{AreKept};
 ghost use Rattle.rule_proofs.specs.Numbers.{IsRising};
@@ -59,8 +59,8 @@ pub fn step(
     requires exports { IsRising exports.now }
     requires symbols { id ≤ length symbols.now }
     requires held { IsHeld target.old }
-    requires told { (tables : Symbols) × TellsContent (declarations_of target.old) tables (content_at symbols.now proof.now.made id) }
-    ensures made { IfOk result (λ decl. (tables : Symbols) → TellsContent (declarations_of target.old) tables (content_at symbols.now proof.now.made id)
+    requires told { (tables : SymbolMap) × TellsContent (declarations_of target.old) tables (content_at symbols.now proof.now.made id) }
+    ensures made { IfOk result (λ decl. (tables : SymbolMap) → TellsContent (declarations_of target.old) tables (content_at symbols.now proof.now.made id)
         → declaration_in target.new.table decl ≡ declaration_of tables
         (name_of_step (record { made = proof.now.made; assumptions = assumptions.now; exports = exports.now }) id (step_at proof.now.made id).kind)
         (content_at symbols.now proof.now.made id)) }
@@ -191,7 +191,7 @@ fn has_proof(kind: StepKind) -> bool
 fn binder_count(proof: &Proof, params: &Params, id: StepId) -> u128
     requires id { id < step_count proof.now }
     requires params { AreParams proof.now id params.now.type_vars params.now.free_vars }
-    ensures { (tables : Symbols) → length (domains_of tables (sequent_at proof.now.made id)) ≡ result }
+    ensures { (tables : SymbolMap) → length (domains_of tables (sequent_at proof.now.made id)) ≡ result }
 {
     let names = params.type_vars.names().len();
     let variables = params.free_vars.variables().len();

@@ -7,7 +7,7 @@ ghost use Rattle.holide_sig.specs.Modules.{declarations_of, IsHeld, IsKnown};
 ghost use Rattle.lp_spec.specs.declared.form.Form.TheVariants as form;
 ghost use Rattle.module_spec.specs.Image.{constant_name as name_of_constant, input_constant_name as name_of_input_constant};
 ghost use Rattle.module_spec.specs.Items.{Content};
-ghost use Rattle.module_spec.specs.Scopes.{Symbols as Tables};
+ghost use Rattle.module_spec.specs.Scopes.{SymbolMap as Tables};
 ghost use Rattle.rule_proofs.specs.Keeping.{AreKept};
 ghost use Rattle.rule_proofs.specs.Numbers.{IsRising};
 ghost use Rattle.translate_term.specs.Told.{TellsTerm, TellsType};

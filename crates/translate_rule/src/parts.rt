@@ -7,7 +7,7 @@ ghost use Rattle.hol_spec.specs.Types.{type_variables};
 ghost use Rattle.hol_term.specs.Tables.{type_at};
 ghost use Rattle.hol_rules.specs.Kept.{step_count};
 ghost use Rattle.holide_sig.specs.Modules.{IsHeld, IsKnown};
-ghost use Rattle.rule_proofs.specs.Environments.{Given, Stands};
+ghost use Rattle.rule_proofs.specs.Environments.{Given, Represents};
 ghost use Rattle.rule_proofs.specs.Parts.{IsDefiningStep, TellsWhole};
 ghost use Rattle.rule_proofs.specs.Told.{TellsStep};
 ghost use Rattle.translate_term.specs.Walks.{Grows};
@@ -174,7 +174,7 @@ fn under_types(
 ) -> Result<LpId, Memory>
     requires one { one.id < step_count proof.now }
     requires defines { IsDefiningStep proof.now one.id }
-    requires told { (given : Given) × Stands given target.old proof.now.trees env.now × TellsWhole given proof.now one.id × TellsStep given proof.now one.id }
+    requires told { (given : Given) × Represents given target.old proof.now.trees env.now × TellsWhole given proof.now one.id × TellsStep given proof.now one.id }
     ensures made { IfOk result (IsPartUnder proof.now env.now part count one target.old target.new) }
     ensures known { IfOk result (λ r. r.0 < length target.new.table) }
     ensures grows { Grows target.old target.new }

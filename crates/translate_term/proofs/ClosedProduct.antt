@@ -9,7 +9,7 @@ use Rattle.lp_spec.specs.Modules.{products, types, proof_of}
 use Rattle.lp_term.specs.declared.LpId.{LpId}
 use Rattle.holide_sig.specs.declared.module.Module.{Module}
 use Rattle.holide_sig.specs.Modules.{declarations_of, IsHeld}
-use Rattle.module_spec.specs.Scopes.{Symbols, term_tree, sequent_tree}
+use Rattle.module_spec.specs.Scopes.{SymbolMap, term_tree, sequent_tree}
 use Rattle.sequent.specs.declared.closed.Closed.{Closed}
 use Rattle.sequent.specs.declared.closed.ClosedTerm.{ClosedTerm}
 use Rattle.sequent.specs.Closed.{closed_type_view, closed_term_view, closed_view}
@@ -20,7 +20,7 @@ use Rattle.translate_term.proofs.ParameterScopes.{sequent_tree-under, hypotheses
 use Rattle.translate_term.proofs.ClosedTurns.{IsNumbered-Grows}
 use Rattle.translate_term.proofs.ClosedParts.{pairwise-length, term_start}
 
-module _ (symbols : Symbols) (s : Sequent) (m : Module) (closed : Closed) (told : TellsClosed (declarations_of m) symbols s (closed_view closed)) (held : IsHeld m) where
+module _ (symbols : SymbolMap) (s : Sequent) (m : Module) (closed : Closed) (told : TellsClosed (declarations_of m) symbols s (closed_view closed)) (held : IsHeld m) where
   abbrev given : Numbered
   given = numbered_of (declarations_of m) symbols s
 

@@ -9,7 +9,7 @@ use Rattle.hol_spec.specs.ClosedForm.{closed_form}
 use Rattle.lp_spec.specs.Trees.{Var, Sym, App, Lam, Pi}
 use Rattle.lp_spec.specs.Modules.{Declaration, symbol, types, bools, arr_of, term_of, proof_of}
 use Rattle.module_spec.specs.Image.{input_constant_name}
-use Rattle.module_spec.specs.Scopes.{Symbols, sequent_tree, term_tree}
+use Rattle.module_spec.specs.Scopes.{SymbolMap, sequent_tree, term_tree}
 use Rattle.module_laws.specs.ListedScopes.{told}
 use Rattle.translate_term.specs.Told.{TellsType, TellsTerm, TellsConstant, TellsClosed, told_constant}
 
@@ -17,7 +17,7 @@ use Rattle.translate_term.specs.Told.{TellsType, TellsTerm, TellsConstant, Tells
 abbrev module_of_u : List Declaration
 module_of_u = symbol (input_constant_name (codes "u" ∷ [])) (Pi types (term_of (Var 0))) ∷ []
 
-abbrev symbols_of_u : Symbols
+abbrev symbols_of_u : SymbolMap
 symbols_of_u = record { operator = λ n k. 0; constant = λ n. 18; generic = λ n. variable (codes "A" ∷ []) }
 
 -- u (\y. x), with u : (bool -> bool) -> bool

@@ -10,7 +10,7 @@ use Rattle.lp_spec.specs.Modules.{Declaration, signature, symbol_type, products,
 use Rattle.lp_term.specs.declared.LpId.{LpId}
 use Rattle.lp_term.specs.Tables.{tree_at, trees_at, Holds}
 use Rattle.lp_term.specs.TableLaws.{Holds-tree_at}
-use Rattle.module_spec.specs.Scopes.{Symbols, TypeScope, type_tree, under_types, unfilled}
+use Rattle.module_spec.specs.Scopes.{SymbolMap, TypeScope, type_tree, under_types, unfilled}
 use Rattle.module_laws.specs.SequentEncoding.{types-are}
 use Rattle.translate_term.specs.Patterns.{IsGeneric, Mentions}
 use Rattle.translate_term.proofs.PatternLaws.{below, wants, pattern_of, pattern-becomes, generic-mentions, wants-arguments}
@@ -73,7 +73,7 @@ under_other trees id count k pattern t h o u = go u.left u.is
     go zero e = let no = other (term_of pattern) (sym (Holds-tree_at trees id t h) ∙ e) in cc
     go (suc left) e = let no = other (Pi types (products (replicate left types) (term_of pattern))) (sym (Holds-tree_at trees id t h) ∙ e) in cc
 
-module _ (m : List Declaration) (symbol : ℕ) (symbols : Symbols) (scope : TypeScope) (generic t : HolType) (trees : List Tree) (ty : LpId) (h : IsGeneric m symbol symbols scope generic t trees ty) (count : ℕ) (pattern : LpId)
+module _ (m : List Declaration) (symbol : ℕ) (symbols : SymbolMap) (scope : TypeScope) (generic t : HolType) (trees : List Tree) (ty : LpId) (h : IsGeneric m symbol symbols scope generic t trees ty) (count : ℕ) (pattern : LpId)
     (is : (k : ℕ) (p : Tree) → symbol_type m symbol ≡ Some (products (replicate k types) (term_of p)) → (count ≡ k) × (tree_at trees pattern.0 ≡ p)) where
   abbrev pub wanted_in : ℕ → Tree
   wanted_in k = type_tree symbols scope (wants symbols generic t h.instance k)

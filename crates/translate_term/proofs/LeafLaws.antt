@@ -19,7 +19,7 @@ use Rattle.lp_term.specs.Tables as lp
 use Rattle.lp_term.specs.TableLaws as lp_laws
 use Rattle.holide_sig.specs.declared.module.Module.{Module}
 use Rattle.holide_sig.specs.Modules.{declarations_of}
-use Rattle.module_spec.specs.Scopes.{Symbols, TypeScope, constant_symbol, constant_tree, generic_type, type_tree, filler}
+use Rattle.module_spec.specs.Scopes.{SymbolMap, TypeScope, constant_symbol, constant_tree, generic_type, type_tree, filler}
 use Rattle.module_laws.specs.ListedScopes.{told_types, told}
 use Rattle.sequent.specs.Params.{same_variable}
 use Rattle.translate_term.specs.Told.{TellsConstant, told_constant}
@@ -52,7 +52,7 @@ module _ (given : Given) (m : Module) (types : List HolType) (distinct : type.Is
       ∙ ap Some (sym (lift_zero (unwrap_or (lookup (variable_eq (n, type.tree_at types ty.0)) given.terms) filling)))
 
 -- a constant by the tree of its type
-module _ (symbols : Symbols) (scope : TypeScope) (t : HolType) (m : Module) (n : Name) (ty : LpId) (h : IsTypeTree symbols scope t m n ty) where
+module _ (symbols : SymbolMap) (scope : TypeScope) (t : HolType) (m : Module) (n : Name) (ty : LpId) (h : IsTypeTree symbols scope t m n ty) where
   pub constant-found : (o : Option ℕ) → o ≡ told_constant (declarations_of m) n → IsSome o
   constant-found o e = ap is_some (e ∙ h.told.named)
 

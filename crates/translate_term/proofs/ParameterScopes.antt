@@ -23,7 +23,7 @@ use Rattle.hol_laws.specs.Members.{All-each, All-at, All-append, IsIn-distinct_o
 use Rattle.hol_laws.specs.RenamedSequents.{free_variables-known}
 use Rattle.lp_spec.specs.Trees.{Tree, Var, Pi, raised}
 use Rattle.lp_spec.specs.Modules.{Declaration, products, types, bools, term_of, proof_of}
-use Rattle.module_spec.specs.Scopes.{Symbols, Scope, filler, type_tree, term_tree, inside, under_term, under_proof, under_proofs, term_domains, proof_domains, scope_of_types, scope_of_terms, conclusion_tree, sequent_tree}
+use Rattle.module_spec.specs.Scopes.{SymbolMap, Scope, filler, type_tree, term_tree, inside, under_term, under_proof, under_proofs, term_domains, proof_domains, scope_of_types, scope_of_terms, conclusion_tree, sequent_tree}
 use Rattle.module_laws.specs.ListedScopes.{told}
 use Rattle.module_laws.specs.ToldParameters.{TypesTold, TypesTold-lifted, TypesTold-own, TypesTold-terms, TermsTold, TermsTold-lifted, TermsTold-own}
 use Rattle.module_laws.specs.SequentEncoding.{told-at, types-are}
@@ -34,33 +34,33 @@ use Rattle.translate_term.specs.Told.{TellsType, TellsTerm, TellsClosed}
 use Rattle.translate_term.specs.Closed.{Numbered, types_under, scope_under, IsInside, IsTypeOf, IsTermOf, hypothesis_domains, variable_domains, numbered_of, statement_under}
 
 -- a told term's constants are instances
-pub TellsTerm-AreInstances : (declarations : List Declaration) (symbols : Symbols) (t : Term) → TellsTerm declarations symbols t → AreInstances symbols t
+pub TellsTerm-AreInstances : (declarations : List Declaration) (symbols : SymbolMap) (t : Term) → TellsTerm declarations symbols t → AreInstances symbols t
 TellsTerm-AreInstances d symbols (term.Term.free n t) h = tt
 TellsTerm-AreInstances d symbols (term.Term.bound k) h = tt
 TellsTerm-AreInstances d symbols (term.Term.constant n t) h = h.instance
 TellsTerm-AreInstances d symbols (term.Term.app f x) h = (TellsTerm-AreInstances d symbols f h.0, TellsTerm-AreInstances d symbols x h.1)
 TellsTerm-AreInstances d symbols (term.Term.lam t b) h = TellsTerm-AreInstances d symbols b h.1
 
-all_instances : (declarations : List Declaration) (symbols : Symbols) (ts : List Term) → AllByRecursion (TellsTerm declarations symbols) ts → AllByRecursion (AreInstances symbols) ts
+all_instances : (declarations : List Declaration) (symbols : SymbolMap) (ts : List Term) → AllByRecursion (TellsTerm declarations symbols) ts → AllByRecursion (AreInstances symbols) ts
 all_instances d symbols [] h = tt
 all_instances d symbols (t ∷ ts) h = (TellsTerm-AreInstances d symbols t h.0, all_instances d symbols ts h.1)
 
 -- and its free variables have told types
-free_types-told : (declarations : List Declaration) (symbols : Symbols) (t : Term) → TellsTerm declarations symbols t → AllByRecursion (λ (v : Variable). TellsType declarations symbols v.1) (free_places t)
+free_types-told : (declarations : List Declaration) (symbols : SymbolMap) (t : Term) → TellsTerm declarations symbols t → AllByRecursion (λ (v : Variable). TellsType declarations symbols v.1) (free_places t)
 free_types-told d symbols (term.Term.free n t) h = (h, tt {0})
 free_types-told d symbols (term.Term.bound k) h = tt
 free_types-told d symbols (term.Term.constant n t) h = tt
 free_types-told d symbols (term.Term.app f x) h = All-append _ (free_places f) (free_places x) (free_types-told d symbols f h.0) (free_types-told d symbols x h.1)
 free_types-told d symbols (term.Term.lam t b) h = free_types-told d symbols b h.1
 
-all_free_types-told : (declarations : List Declaration) (symbols : Symbols) (ts : List Term) → AllByRecursion (TellsTerm declarations symbols) ts → AllByRecursion (λ (v : Variable). TellsType declarations symbols v.1) (flat_map free_places ts)
+all_free_types-told : (declarations : List Declaration) (symbols : SymbolMap) (ts : List Term) → AllByRecursion (TellsTerm declarations symbols) ts → AllByRecursion (λ (v : Variable). TellsType declarations symbols v.1) (flat_map free_places ts)
 all_free_types-told d symbols [] h = tt
 all_free_types-told d symbols (t ∷ ts) h = All-append _ (free_places t) (flat_map free_places ts) (free_types-told d symbols t h.0) (all_free_types-told d symbols ts h.1)
 
-pub TellsClosed-HasInstances : (declarations : List Declaration) (symbols : Symbols) (s : Sequent) (closed : ClosedSequent) → TellsClosed declarations symbols s closed → HasInstances symbols s
+pub TellsClosed-HasInstances : (declarations : List Declaration) (symbols : SymbolMap) (s : Sequent) (closed : ClosedSequent) → TellsClosed declarations symbols s closed → HasInstances symbols s
 TellsClosed-HasInstances d symbols s closed h = record { hypotheses = all_instances d symbols s.hypotheses h.hypotheses; conclusion = TellsTerm-AreInstances d symbols s.conclusion h.conclusion }
 
-TellsClosed-terms : (declarations : List Declaration) (symbols : Symbols) (s : Sequent) (closed : ClosedSequent) → TellsClosed declarations symbols s closed → AllByRecursion (TellsTerm declarations symbols) (terms_of s)
+TellsClosed-terms : (declarations : List Declaration) (symbols : SymbolMap) (s : Sequent) (closed : ClosedSequent) → TellsClosed declarations symbols s closed → AllByRecursion (TellsTerm declarations symbols) (terms_of s)
 TellsClosed-terms d symbols s closed h = All-append _ s.hypotheses (s.conclusion ∷ []) h.hypotheses (h.conclusion, tt {0})
 
 module _ (given : Numbered) where
@@ -135,7 +135,7 @@ products-append [] ys t = refl
 products-append (x ∷ xs) ys t = ap (Pi x) (products-append xs ys t)
 
 -- what the parameters of a sequent are
-module _ (declarations : List Declaration) (symbols : Symbols) (s : Sequent) (closed : ClosedSequent) (told_here : TellsClosed declarations symbols s closed) where
+module _ (declarations : List Declaration) (symbols : SymbolMap) (s : Sequent) (closed : ClosedSequent) (told_here : TellsClosed declarations symbols s closed) where
   abbrev given : Numbered
   given = numbered_of declarations symbols s
 

@@ -19,7 +19,7 @@ use Rattle.lp_spec.specs.Substitution.{sub}
 use Rattle.lp_spec.specs.Modules.{applied}
 use Rattle.lp_binding.specs.Composition.{lift_zero}
 use Rattle.lp_binding.specs.Binding.{lift-lift}
-use Rattle.module_spec.specs.Scopes.{Symbols, operator_symbol, TypeScope, type_tree, type_trees, under_type, under_types, unfilled}
+use Rattle.module_spec.specs.Scopes.{SymbolMap, operator_symbol, TypeScope, type_tree, type_trees, under_type, under_types, unfilled}
 use Rattle.module_laws.specs.ScopeLaws.{through_types, type_tree-sub, type_tree-substitute}
 use Rattle.module_laws.specs.TermScopeLaws.{type_tree-agrees}
 use Rattle.proof_laws.specs.SymbolGrowth.{symmetric}
@@ -148,7 +148,7 @@ mentions-argument k h [] m = absurd m
 mentions-argument k h (x ∷ xs) (inl m) = mentions-head k (App h x) xs (inr m)
 mentions-argument k h (x ∷ xs) (inr m) = mentions-argument k (App h x) xs m
 
-module _ (symbols : Symbols) (scope : TypeScope) (n : Name) (k : ℕ) (stands : scope n ≡ Var k) where
+module _ (symbols : SymbolMap) (scope : TypeScope) (n : Name) (k : ℕ) (stands : scope n ≡ Var k) where
   mutual
     pub type-mentions : (t : HolType) → IsIn (variable_places t) n → Mentions k (type_tree symbols scope t)
     type-mentions (variable m) (inl e) = subst (λ x. Mentions k x) (sym (ap scope (sym e) ∙ stands)) refl
@@ -160,7 +160,7 @@ module _ (symbols : Symbols) (scope : TypeScope) (n : Name) (k : ℕ) (stands : 
     types-mention (more t ts) i = ⊎_elim (λ l. inl (type-mentions t l)) (λ r. inr (types-mention ts r)) (IsIn-either (variable_places t) (variable_places_of_all ts) n i)
 
 -- a generic type's tree becomes that of an instance, and has every variable
-module _ (symbols : Symbols) (generic t : HolType) (h : Instance generic t) where
+module _ (symbols : SymbolMap) (generic t : HolType) (h : Instance generic t) where
   abbrev pub filling_of : Name → HolType
   filling_of = image h.0
 

@@ -17,7 +17,7 @@ use Rattle.lp_binding.specs.Composition.{lift_zero, lift_is, ren_is_sub}
 use Rattle.lp_term.specs.declared.LpId.{LpId}
 use Rattle.lp_term.specs.Tables as lp
 use Rattle.holide_sig.specs.declared.module.Module.{Module}
-use Rattle.module_spec.specs.Scopes.{Symbols, constant_tree, type_tree, term_tree}
+use Rattle.module_spec.specs.Scopes.{SymbolMap, constant_tree, type_tree, term_tree}
 use Rattle.module_laws.specs.DeepScopes.{deep, deep-suc}
 use Rattle.module_laws.specs.ListedScopes.{told_types, told}
 use Rattle.module_laws.specs.ScopeLaws.{type_tree-sub, term_tree-sub}
@@ -36,7 +36,7 @@ use Rattle.std.proofs.lemmas.Option.{same_Some}
 lift-sub : (d : ℕ) (t : Tree) → lift d t ≡ sub (λ n. Var (n + d)) t
 lift-sub d t = lift_is d t ∙ ren_is_sub (λ n. n + d) t
 
-pub type-lift : (symbols : Symbols) (scope : Name → Tree) (d : ℕ) (t : HolType) → lift d (type_tree symbols scope t) ≡ type_tree symbols (λ n. lift d (scope n)) t
+pub type-lift : (symbols : SymbolMap) (scope : Name → Tree) (d : ℕ) (t : HolType) → lift d (type_tree symbols scope t) ≡ type_tree symbols (λ n. lift d (scope n)) t
 type-lift symbols scope d t = lift-sub d (type_tree symbols scope t) ∙ type_tree-sub symbols (λ n. Var (n + d)) scope t ∙ ap (λ w. type_tree symbols w t) (fun_ext (λ n. sym (lift-sub d (scope n))))
 
 -- a constant and a free variable under binders are lifted from under none

@@ -15,7 +15,7 @@ use Rattle.lp_term.specs.declared.LpId.{LpId}
 use Rattle.lp_term.specs.Tables.{trees_at, AreKnown, Holds}
 use Rattle.holide_sig.specs.declared.module.Module.{Module}
 use Rattle.holide_sig.specs.Modules.{declarations_of, IsHeld}
-use Rattle.module_spec.specs.Scopes.{Symbols, TypeScope, Scope, type_tree, term_tree}
+use Rattle.module_spec.specs.Scopes.{SymbolMap, TypeScope, Scope, type_tree, term_tree}
 use Rattle.module_laws.specs.ListedScopes.{parameters}
 use Rattle.module_laws.specs.ListedScopes.{told_types, told}
 use Rattle.sequent.specs.declared.closed.TypeNode.{TypeNode}
@@ -30,7 +30,7 @@ use Rattle.translate_term.specs.Told.{TellsType, TellsTerm}
 -- numbers are
 pub record Numbered : Type 0 where
   pub declarations : List Declaration
-  pub symbols : Symbols
+  pub symbols : SymbolMap
   pub names : List Name
   pub variables : List Variable
 
@@ -156,7 +156,7 @@ variable_domains given depth [] = []
 variable_domains given depth (t ∷ ts) = term_of (type_tree given.symbols (types_under given depth) t) ∷ variable_domains given (suc depth) ts
 
 -- the parameters of a sequent, and the product over its hypotheses under the binders of these
-abbrev pub numbered_of : List Declaration → Symbols → Sequent → Numbered
+abbrev pub numbered_of : List Declaration → SymbolMap → Sequent → Numbered
 numbered_of declarations symbols s = record { declarations = declarations; symbols = symbols; names = type_variables_of s; variables = free_variables_of s }
 
 abbrev pub statement_under : Numbered → Sequent → Tree

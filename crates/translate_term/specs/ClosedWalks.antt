@@ -11,7 +11,7 @@ use Rattle.lp_term.specs.declared.LpId.{LpId}
 use Rattle.lp_term.specs.Tables.{tree_at, Holds}
 use Rattle.holide_sig.specs.declared.module.Module.{Module}
 use Rattle.holide_sig.specs.Modules.{declarations_of}
-use Rattle.module_spec.specs.Scopes.{Symbols, TypeScope, constant_tree, sequent_tree, term_tree, type_tree}
+use Rattle.module_spec.specs.Scopes.{SymbolMap, TypeScope, constant_tree, sequent_tree, term_tree, type_tree}
 use Rattle.sequent.specs.declared.closed.TypeNode.{TypeNode}
 use Rattle.sequent.specs.declared.closed.TermNode.{TermNode}
 use Rattle.sequent.specs.Closed.{spelled_terms, spelled_types, term_step, type_step}
@@ -112,11 +112,11 @@ MakesVariables m type_vars closed inside n r =
 
 -- a sequent with this closed form, and what stands under its parameters
 abbrev pub MakesSequent : Module → form.ClosedSequent → Module → LpId → Type 0
-MakesSequent m closed n r = (symbols : Symbols) (s : Sequent) → TellsClosed (declarations_of m) symbols s closed → Holds n.table r.0 (sequent_tree symbols s)
+MakesSequent m closed n r = (symbols : SymbolMap) (s : Sequent) → TellsClosed (declarations_of m) symbols s closed → Holds n.table r.0 (sequent_tree symbols s)
 
 abbrev pub MakesStatement : Module → form.ClosedSequent → Module → LpId → Type 0
 MakesStatement m closed n r =
-    (symbols : Symbols) (s : Sequent) → TellsClosed (declarations_of m) symbols s closed
+    (symbols : SymbolMap) (s : Sequent) → TellsClosed (declarations_of m) symbols s closed
     → Holds n.table r.0 (statement_under (numbered_of (declarations_of m) symbols s) s)
 
 -- the symbol that is told of an operator, and a constant at a type with this tree, are put on what was made
@@ -125,4 +125,4 @@ PutsOperator m name arity made n now = (symbol : ℕ) → told_operator (declara
 
 abbrev pub PutsConstant : Module → Name → LpId → List LpId → Module → List LpId → Type 0
 PutsConstant m name ty made n now =
-    (symbols : Symbols) (scope : TypeScope) (t : HolType) → IsTypeTree symbols scope t m name ty → IsPut made now n.table (constant_tree symbols scope name t)
+    (symbols : SymbolMap) (scope : TypeScope) (t : HolType) → IsTypeTree symbols scope t m name ty → IsPut made now n.table (constant_tree symbols scope name t)

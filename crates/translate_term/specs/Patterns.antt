@@ -10,20 +10,20 @@ use Rattle.lp_term.specs.declared.LpId.{LpId}
 use Rattle.lp_term.specs.Tables.{tree_at, trees_at, Holds}
 use Rattle.holide_sig.specs.declared.module.Module.{Module}
 use Rattle.holide_sig.specs.Modules.{declarations_of, IsHeld}
-use Rattle.module_spec.specs.Scopes.{Symbols, TypeScope, constant_tree, type_tree, generic_tree}
+use Rattle.module_spec.specs.Scopes.{SymbolMap, TypeScope, constant_tree, type_tree, generic_tree}
 use Rattle.translate_term.specs.declared.generic.Meeting.{Meeting}
 use Rattle.translate_term.specs.Tasks.{IsNoted, IsDone}
 use Rattle.translate_term.specs.Told.{TellsConstant}
 
 -- this number has the tree of a constant's type in a scope, and the module tells the constant's symbol
-pub record IsTypeTree (symbols : Symbols) (scope : TypeScope) (t : HolType) (m : Module) (n : Name) (ty : LpId) : Type 0 where
+pub record IsTypeTree (symbols : SymbolMap) (scope : TypeScope) (t : HolType) (m : Module) (n : Name) (ty : LpId) : Type 0 where
   pub held : IsHeld m
   pub known : ty.0 < length m.table
   pub is : tree_at m.table ty.0 ≡ type_tree symbols scope t
   pub told : TellsConstant (declarations_of m) symbols n t
 
 -- a symbol is declared at a generic type, and this number has the tree of an instance
-pub record IsGeneric (declarations : List Declaration) (symbol : ℕ) (symbols : Symbols) (scope : TypeScope) (generic t : HolType)
+pub record IsGeneric (declarations : List Declaration) (symbol : ℕ) (symbols : SymbolMap) (scope : TypeScope) (generic t : HolType)
     (trees : List Tree) (ty : LpId) : Type 0 where
   pub declared : symbol_type declarations symbol ≡ Some (generic_tree symbols generic)
   pub instance : Instance generic t
@@ -66,17 +66,17 @@ work trees (task ∷ tasks) = size (tree_at trees task.pattern.0) + work trees t
 -- this number has the tree of the constant at the type
 abbrev pub MakesInstance : Module → Name → LpId → Module → LpId → Type 0
 MakesInstance m n ty now r =
-    (symbols : Symbols) (scope : TypeScope) (t : HolType) → IsTypeTree symbols scope t m n ty → Holds now.table r.0 (constant_tree symbols scope n t)
+    (symbols : SymbolMap) (scope : TypeScope) (t : HolType) → IsTypeTree symbols scope t m n ty → Holds now.table r.0 (constant_tree symbols scope n t)
 
 -- a symbol of a module is declared at some generic type, and this number has the tree of an instance
 abbrev pub IsInstance : Module → ℕ → LpId → Type 0
 IsInstance m symbol ty =
-    (symbols : Symbols) × (scope : TypeScope) × (generic : HolType) × (t : HolType) × IsGeneric (declarations_of m) symbol symbols scope generic t m.table ty
+    (symbols : SymbolMap) × (scope : TypeScope) × (generic : HolType) × (t : HolType) × IsGeneric (declarations_of m) symbol symbols scope generic t m.table ty
 
 -- these have the trees of the types for the variables of the generic type
 abbrev pub AreArguments : Module → ℕ → LpId → List LpId → Type 0
 AreArguments m symbol ty args =
-    (symbols : Symbols) (scope : TypeScope) (generic t : HolType) → IsGeneric (declarations_of m) symbol symbols scope generic t m.table ty
+    (symbols : SymbolMap) (scope : TypeScope) (generic t : HolType) → IsGeneric (declarations_of m) symbol symbols scope generic t m.table ty
     → trees_at m.table args ≡ map (type_tree symbols scope) (type_arguments generic t)
 
 -- if a symbol is declared at a product over types, then over so many, and this number has the tree of the type under them

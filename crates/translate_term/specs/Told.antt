@@ -18,7 +18,7 @@ use Rattle.lp_term.specs.Tables.{tree_at}
 use Rattle.hol_type.specs.Tables as type
 use Rattle.holide_sig.specs.Modules.{symbol_number}
 use Rattle.module_spec.specs.Image.{input_constant_name, input_operator_name, constant_name, operator_name}
-use Rattle.module_spec.specs.Scopes.{Symbols, operator_symbol, constant_symbol, generic_type}
+use Rattle.module_spec.specs.Scopes.{SymbolMap, operator_symbol, constant_symbol, generic_type}
 use Rattle.module_laws.specs.ScopeTyping.{DeclaresConstant}
 
 -- the first of two that there is
@@ -44,24 +44,24 @@ told_constant declarations n =
 
 -- a module tells the symbol of each operator in a type
 abbrev mutual
-  pub TellsType : List Declaration → Symbols → HolType → Type 0
+  pub TellsType : List Declaration → SymbolMap → HolType → Type 0
   TellsType declarations symbols (variable n) = Unit {0}
   TellsType declarations symbols (operator n ts) =
       (told_operator declarations n (count ts) ≡ Some (operator_symbol symbols n (count ts))) × TellsTypes declarations symbols ts
 
-  pub TellsTypes : List Declaration → Symbols → HolTypes → Type 0
+  pub TellsTypes : List Declaration → SymbolMap → HolTypes → Type 0
   TellsTypes declarations symbols none = Unit {0}
   TellsTypes declarations symbols (more t ts) = TellsType declarations symbols t × TellsTypes declarations symbols ts
 
 -- it tells the symbol of a constant and declares it at its generic type, of which the constant's type is an instance
-pub record TellsConstant (declarations : List Declaration) (symbols : Symbols) (n : Name) (t : HolType) : Type 0 where
+pub record TellsConstant (declarations : List Declaration) (symbols : SymbolMap) (n : Name) (t : HolType) : Type 0 where
   pub named : told_constant declarations n ≡ Some (constant_symbol symbols n)
   pub declared : DeclaresConstant declarations symbols n
   pub instance : Instance (generic_type symbols n) t
   pub ty : TellsType declarations symbols t
 
 -- it tells the symbol of each operator and each constant in a term
-abbrev pub TellsTerm : List Declaration → Symbols → Term → Type 0
+abbrev pub TellsTerm : List Declaration → SymbolMap → Term → Type 0
 TellsTerm declarations symbols (free n t) = TellsType declarations symbols t
 TellsTerm declarations symbols (bound k) = Unit {0}
 TellsTerm declarations symbols (constant n t) = TellsConstant declarations symbols n t
@@ -69,7 +69,7 @@ TellsTerm declarations symbols (app f x) = TellsTerm declarations symbols f × T
 TellsTerm declarations symbols (lam t b) = TellsType declarations symbols t × TellsTerm declarations symbols b
 
 -- this is the closed form of a sequent, and the module tells the symbol of each operator and each constant in it
-pub record TellsClosed (declarations : List Declaration) (symbols : Symbols) (s : Sequent) (form : ClosedSequent) : Type 0 where
+pub record TellsClosed (declarations : List Declaration) (symbols : SymbolMap) (s : Sequent) (form : ClosedSequent) : Type 0 where
   pub is_sequent : IsSequent s
   pub hypotheses : AllByRecursion (TellsTerm declarations symbols) s.hypotheses
   pub conclusion : TellsTerm declarations symbols s.conclusion

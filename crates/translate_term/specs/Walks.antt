@@ -16,7 +16,7 @@ use Rattle.lp_term.specs.declared.LpId.{LpId}
 use Rattle.lp_term.specs.Tables as lp
 use Rattle.holide_sig.specs.declared.module.Module.{Module}
 use Rattle.holide_sig.specs.Modules.{declarations_of, IsHeld}
-use Rattle.module_spec.specs.Scopes.{Symbols, type_tree, term_tree}
+use Rattle.module_spec.specs.Scopes.{SymbolMap, type_tree, term_tree}
 use Rattle.module_laws.specs.DeepScopes.{deep}
 use Rattle.module_laws.specs.ListedScopes.{told_types, told}
 use Rattle.translate_term.specs.declared.memo.Place.{Place}
@@ -32,7 +32,7 @@ pub record Grows (old new : Module) : Type 0 where
 -- what a walk is given: the declarations of its module, the symbols that these tell, and what stands for type variables and free variables
 pub record Given : Type 0 where
   pub declarations : List Declaration
-  pub symbols : Symbols
+  pub symbols : SymbolMap
   pub types : List (Name × Tree)
   pub terms : List (Variable × Tree)
 

@@ -7,7 +7,7 @@ ghost use Rattle.lp_spec.specs.Modules.{products, term_of, types as sorts};
 ghost use Rattle.lp_spec.specs.Trees.{App, Lam, Pi, Sym, Var};
 ghost use Rattle.lp_term.specs.Tables.{tree_at, tree_of_node, Holds, PartsBelow};
 ghost use Rattle.holide_sig.specs.Modules.{declarations_of, IsHeld};
-ghost use Rattle.module_spec.specs.Scopes.{Symbols, TypeScope};
+ghost use Rattle.module_spec.specs.Scopes.{SymbolMap, TypeScope};
 ghost use Rattle.sequent.specs.Closed.{closed_term_view, closed_type_view, closed_view};
 ghost use Rattle.translate_term.specs.declared.closed.TermWork.TheVariants as term_work;
 ghost use Rattle.translate_term.specs.declared.closed.TypeWork.TheVariants as type_work;
@@ -72,7 +72,7 @@ pub(crate) fn closed_type(
     closed: &Closed,
 ) -> Result<LpId, Memory>
     requires held { IsHeld target.old }
-    requires told { (symbols : Symbols) × (s : Sequent) × TellsClosed (declarations_of target.old) symbols s (closed_view closed.now) }
+    requires told { (symbols : SymbolMap) × (s : Sequent) × TellsClosed (declarations_of target.old) symbols s (closed_view closed.now) }
     ensures made { IfOk result (MakesSequent target.old (closed_view closed.now) target.new) }
     ensures grows { Grows target.old target.new }
 {
@@ -90,7 +90,7 @@ pub(crate) fn closed_type(
 // The product over the hypotheses of a closed sequent, which ends in the proofs of its conclusion.
 fn statement(alloc: Global, target: &mut Module, closed: &Closed) -> Result<LpId, Memory>
     requires held { IsHeld target.old }
-    requires told { (symbols : Symbols) × (s : Sequent) × TellsClosed (declarations_of target.old) symbols s (closed_view closed.now) }
+    requires told { (symbols : SymbolMap) × (s : Sequent) × TellsClosed (declarations_of target.old) symbols s (closed_view closed.now) }
     ensures made { IfOk result (MakesStatement target.old (closed_view closed.now) target.new) }
     ensures grows { Grows target.old target.new }
 {
@@ -534,7 +534,7 @@ fn put_constant(
     text: &mut Vec<u8>,
     made: &mut Stack<LpId>,
 ) -> Result<(), Memory>
-    requires { (symbols : Symbols) × (scope : TypeScope) × (t : HolType) × IsTypeTree symbols scope t target.old name.now ty }
+    requires { (symbols : SymbolMap) × (scope : TypeScope) × (t : HolType) × IsTypeTree symbols scope t target.old name.now ty }
     ensures made { OnOk result (PutsConstant target.old name.now ty made.old target.new made.new) }
     ensures grows { Grows target.old target.new }
 {

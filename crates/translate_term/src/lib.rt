@@ -33,7 +33,7 @@ ghost use Rattle.hol_term.specs.Tables.{term_at};
 ghost use Rattle.holide_sig.specs.Modules.{declarations_of, IsHeld};
 ghost use Rattle.lp_term.specs.Tables.{tree_at, Holds, Keeps};
 ghost use Rattle.module_spec.specs.Enc.{Enc};
-ghost use Rattle.module_spec.specs.Scopes.{Symbols, constant_tree, filler as filler_of, sequent_tree, term_tree as tree_of_term, type_tree as tree_of_type};
+ghost use Rattle.module_spec.specs.Scopes.{SymbolMap, constant_tree, filler as filler_of, sequent_tree, term_tree as tree_of_term, type_tree as tree_of_type};
 ghost use Rattle.module_laws.specs.ListedScopes.{told, told_types};
 ghost use Rattle.module_laws.specs.SequentEncoding.{TermMeant};
 ghost use Rattle.sequent.specs.Closed.{closed_view};
@@ -82,8 +82,8 @@ pub fn ty(
     requires held { IsHeld target.old }
     requires id { id.0 < length table.now }
     requires types { AreTypesKnown target.old.table scope.now.types }
-    requires told { (symbols : Symbols) × TellsType (declarations_of target.old) symbols (type.tree_at table.now id.0) }
-    ensures made { IfOk result (λ r. (symbols : Symbols) → TellsType (declarations_of target.old) symbols (type.tree_at table.now id.0)
+    requires told { (symbols : SymbolMap) × TellsType (declarations_of target.old) symbols (type.tree_at table.now id.0) }
+    ensures made { IfOk result (λ r. (symbols : SymbolMap) → TellsType (declarations_of target.old) symbols (type.tree_at table.now id.0)
         → Holds target.new.table r.0 (tree_of_type symbols (told_types (types_in target.old.table scope.now.types)) (type.tree_at table.now id.0))) }
     ensures known { IfOk result (λ r. r.0 < length target.new.table) }
     ensures keeps { Keeps target.old.table target.new.table }
@@ -112,8 +112,8 @@ pub fn tm(
     requires id { id.0 < length table.now.terms }
     requires types { AreTypesKnown target.old.table scope.now.types }
     requires terms { AreTermsKnown table.now.types target.old.table scope.now.terms }
-    requires told { (symbols : Symbols) × TellsTerm (declarations_of target.old) symbols (term_at table.now id.0) }
-    ensures made { IfOk result (λ r. (symbols : Symbols) → TellsTerm (declarations_of target.old) symbols (term_at table.now id.0)
+    requires told { (symbols : SymbolMap) × TellsTerm (declarations_of target.old) symbols (term_at table.now id.0) }
+    ensures made { IfOk result (λ r. (symbols : SymbolMap) → TellsTerm (declarations_of target.old) symbols (term_at table.now id.0)
         → Holds target.new.table r.0
         (tree_of_term symbols (told symbols (types_in target.old.table scope.now.types) (terms_in table.now.types target.old.table scope.now.terms))
         (term_at table.now id.0))) }
@@ -145,8 +145,8 @@ pub fn constant(
     requires held { IsHeld target.old }
     requires ty { ty.0 < length table.now }
     requires types { AreTypesKnown target.old.table scope.now.types }
-    requires told { (symbols : Symbols) × TellsConstant (declarations_of target.old) symbols name.now (type.tree_at table.now ty.0) }
-    ensures made { IfOk result (λ r. (symbols : Symbols) → TellsConstant (declarations_of target.old) symbols name.now (type.tree_at table.now ty.0)
+    requires told { (symbols : SymbolMap) × TellsConstant (declarations_of target.old) symbols name.now (type.tree_at table.now ty.0) }
+    ensures made { IfOk result (λ r. (symbols : SymbolMap) → TellsConstant (declarations_of target.old) symbols name.now (type.tree_at table.now ty.0)
         → Holds target.new.table r.0 (constant_tree symbols (told_types (types_in target.old.table scope.now.types)) name.now (type.tree_at table.now ty.0))) }
     ensures known { IfOk result (λ r. r.0 < length target.new.table) }
     ensures keeps { Keeps target.old.table target.new.table }
@@ -173,10 +173,10 @@ pub fn constant(
 /// its hypotheses, which ends in the proofs of its conclusion. It stands for the closed sequent.
 pub fn closed_ty(alloc: Global, target: &mut Module, closed: &Closed) -> Result<LpId, Memory>
     requires held { IsHeld target.old }
-    requires told { (symbols : Symbols) × (s : Sequent) × TellsClosed (declarations_of target.old) symbols s (closed_view closed.now) }
-    ensures made { IfOk result (λ r. (symbols : Symbols) (s : Sequent) → TellsClosed (declarations_of target.old) symbols s (closed_view closed.now)
+    requires told { (symbols : SymbolMap) × (s : Sequent) × TellsClosed (declarations_of target.old) symbols s (closed_view closed.now) }
+    ensures made { IfOk result (λ r. (symbols : SymbolMap) (s : Sequent) → TellsClosed (declarations_of target.old) symbols s (closed_view closed.now)
         → Holds target.new.table r.0 (sequent_tree symbols s)) }
-    ensures encoded { IfOk result (λ r. (symbols : Symbols) (s : Sequent) → TellsClosed (declarations_of target.old) symbols s (closed_view closed.now)
+    ensures encoded { IfOk result (λ r. (symbols : SymbolMap) (s : Sequent) → TellsClosed (declarations_of target.old) symbols s (closed_view closed.now)
         → SequentWithin s → AllByRecursion (TermMeant (declarations_of target.old) symbols) (terms_of s)
         → Enc (declarations_of target.old) (closed_view closed.now) (tree_at target.new.table r.0)) }
     ensures known { IfOk result (λ r. r.0 < length target.new.table) }

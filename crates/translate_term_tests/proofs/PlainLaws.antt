@@ -19,7 +19,7 @@ use Rattle.lp_term.specs.Tables as lp
 use Rattle.holide_sig.specs.declared.module.Module.{Module}
 use Rattle.holide_sig.specs.Modules.{declarations_of, IsHeld}
 use Rattle.holide_sig.specs.ModuleLaws.{IsHeld-Keeps, declarations_of-Keeps}
-use Rattle.module_spec.specs.Scopes.{Symbols}
+use Rattle.module_spec.specs.Scopes.{SymbolMap}
 use Rattle.translate_term.specs.Told.{TellsConstant, TellsTerm, TellsType}
 use Rattle.translate_term_tests.specs.Inputs.{input_symbols, input_module}
 use Rattle.translate_term_tests.specs.Plain.{IsPlainType, IsPlainTerm, HasPlainType, HasPlainTree, KeepsPlain}
@@ -70,14 +70,14 @@ pub plain_kept : (old new : Trees) → Keeps old new → KeepsPlain old new
 plain_kept old new k = record { types = λ id h. type_stays old.types new.types id k.types h; terms = λ id h. tree_stays old new id k h }
 
 -- what a translation asks of a type, and of a term
-pub type_told : (m : List Declaration) (types : List HolType) (id : ℕ) → HasPlainType types id → (symbols : Symbols) × TellsType m symbols (type.tree_at types id)
+pub type_told : (m : List Declaration) (types : List HolType) (id : ℕ) → HasPlainType types id → (symbols : SymbolMap) × TellsType m symbols (type.tree_at types id)
 type_told m types id h = (input_symbols, h.plain.told m)
 
-pub term_told : (m : List Declaration) (trees : Trees) (id : ℕ) → HasPlainTree trees id → (symbols : Symbols) × TellsTerm m symbols (term_at trees id)
+pub term_told : (m : List Declaration) (trees : Trees) (id : ℕ) → HasPlainTree trees id → (symbols : SymbolMap) × TellsTerm m symbols (term_at trees id)
 term_told m trees id h = (input_symbols, h.plain.told m)
 
 -- and of the input constant, in a module that declares it
-pub input_told : (m : List Declaration) (types : List HolType) (id : ℕ) (n : Name) → m ≡ input_module → n ≡ codes "u" ∷ [] → HasPlainType types id → (symbols : Symbols) × TellsConstant m symbols n (type.tree_at types id)
+pub input_told : (m : List Declaration) (types : List HolType) (id : ℕ) (n : Name) → m ≡ input_module → n ≡ codes "u" ∷ [] → HasPlainType types id → (symbols : SymbolMap) × TellsConstant m symbols n (type.tree_at types id)
 input_told m types id n e f h =
     let told : TellsConstant input_module input_symbols (codes "u" ∷ []) (type.tree_at types id) = record { named = refl; declared = refl; instance = ((codes "A" ∷ [], type.tree_at types id) ∷ [], refl); ty = h.plain.told input_module } in
     (input_symbols, subst (λ k. TellsConstant m input_symbols k (type.tree_at types id)) (sym f) (subst (λ ds. TellsConstant ds input_symbols (codes "u" ∷ []) (type.tree_at types id)) (sym e) told))

@@ -14,7 +14,7 @@ use Rattle.hol_laws.specs.ListLaws.{distinct-IsDistinct}
 use Rattle.hol_laws.specs.PositionLaws.{turned}
 use Rattle.hol_laws.specs.TermLaws.{term_eq-Decides}
 use Rattle.lp_spec.specs.Modules.{Declaration}
-use Rattle.module_spec.specs.Scopes.{Symbols}
+use Rattle.module_spec.specs.Scopes.{SymbolMap}
 use Rattle.sequent.specs.declared.closed.ClosedTerm.{ClosedTerm}
 use Rattle.sequent.specs.Closed.{closed_term_view}
 use Rattle.translate_term.specs.Told.{TellsClosed}
@@ -83,7 +83,7 @@ quantified_told = record {
 pub quantified_is : (c : ClosedSequent) → c ≡ quantified → IsToldClosed c
 quantified_is c e = subst IsToldClosed (sym e) quantified_told
 
-pub closed_told : (m : List Declaration) (c : ClosedSequent) → m ≡ input_module → IsToldClosed c → (symbols : Symbols) × (s : Sequent) × TellsClosed m symbols s c
+pub closed_told : (m : List Declaration) (c : ClosedSequent) → m ≡ input_module → IsToldClosed c → (symbols : SymbolMap) × (s : Sequent) × TellsClosed m symbols s c
 closed_told m c e p = (input_symbols, p.sequent, subst (λ ds. TellsClosed ds input_symbols p.sequent c) (sym e) p.told)
 
 -- with one free variable more

@@ -69,7 +69,7 @@ fn application(table: &mut TermTable, f: TermId, x: TermId) -> Result<TermId, Me
     ensures plain { IfOk result (λ id. HasPlainTree table.new id.0) }
     ensures keeps { KeepsPlain table.old table.new }
 {
-    table.application(f, x)
+    table.raw_application(f, x)
 }
 
 /// a -> bool

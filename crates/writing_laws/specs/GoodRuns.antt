@@ -8,7 +8,7 @@ use Rattle.article_spec.specs.declared.commands.Item.{Item}
 use Rattle.article_spec.specs.declared.commands.Item.TheVariants as item
 use Rattle.article_spec.specs.declared.commands.Word.{Word}
 use Rattle.article_spec.specs.declared.commands.Word.TheVariants as word
-use Rattle.article_spec.specs.State.{State, Place, initial, start, version, body}
+use Rattle.article_spec.specs.State.{State, Stage, initial, start, version, body}
 use Rattle.article_spec.specs.Step.{obey, in_body, obey_item, second_word, step_at, step, finish}
 use Rattle.article_spec.specs.Lines.{Lines, End, ended, refused}
 use Rattle.article_spec.specs.Run.{machine, at_line, obey_all, obey_article, accepted_state, Outcome, accepted, refused_at, RunsFrom, finished, passed, stopped, Run}
@@ -78,7 +78,7 @@ second_word-told s w h k g t e = elim (second_word-cases s w) [
   | inr f ↦ obey-told (in_body Five s) w (in_body-sound s h) k g t (sym f ∙ e)
 ]
 
-step_at-told : (s : State) (p : Place) (i : Item) → IsSound s → AreGoodObjects s.stack → IsTold s → Tells (step_at p s i)
+step_at-told : (s : State) (p : Stage) (i : Item) → IsSound s → AreGoodObjects s.stack → IsTold s → Tells (step_at p s i)
 step_at-told s (start v) (item.Number z) h k g = here _ g
 step_at-told s (start v) (item.Name m) h k g = obey_item-told (in_body Five s) (item.Name m) (in_body-sound s h) k g
 step_at-told s (start v) (item.Word w) h k g = obey_item-told (in_body Five s) (item.Word w) (in_body-sound s h) k g

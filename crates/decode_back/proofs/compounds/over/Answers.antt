@@ -18,8 +18,8 @@ returns-in-Err-Refused-clause-made c named there left paid fresh =
 
 pub returns-clause-made : goal.returns-clause-made
 returns-clause-made c named there left paid fresh =
-    lam-made (type_at c.args.table.now c.args.variable.now.ty.0) (term_at c.args.table.now c.args.body.0) there left c.abstraction.new.self c.in_ok-made.made fresh
-    (lam-held c.args.table.now c.free.new.self c.instance.new.self c.abstraction.new.self c.args.variable.now.ty c.args.variable.now.name c.args.body c.in-Ok.outside c.in_ok-open.open c.in_ok-made.made c.in-Ok.ensures.keeps c.in_ok-open.ensures.keeps
+    lam-made (type_at c.args.table.now c.args.variable.now.ty.0) (term_at c.args.table.now c.args.body.0) there left c.raw_abstraction.new.self c.in_ok-made.made fresh
+    (lam-held c.args.table.now c.free.new.self c.raw_instance.new.self c.raw_abstraction.new.self c.args.variable.now.ty c.args.variable.now.name c.args.body c.in-Ok.outside c.in_ok-open.open c.in_ok-made.made c.in-Ok.ensures.keeps c.in_ok-open.ensures.keeps
     c.requires.ty c.requires.body named c.in-Ok.ensures.made c.in_ok-open.ensures.made c.in_ok-made.ensures.made) paid
 
 pub returns-in-Err-Memory-clause-keeps : goal.returns-in-Err-Memory-clause-keeps
@@ -29,13 +29,13 @@ pub returns-in-Err-Refused-clause-keeps : goal.returns-in-Err-Refused-clause-kee
 returns-in-Err-Refused-clause-keeps c = c.free.ensures.keeps
 
 pub returns-in_err-open-clause-keeps : goal.returns-in_err-open-clause-keeps
-returns-in_err-open-clause-keeps c = Keeps-trans c.free.ensures.keeps c.instance.ensures.keeps
+returns-in_err-open-clause-keeps c = Keeps-trans c.free.ensures.keeps c.raw_instance.ensures.keeps
 
 pub returns-in_err-made-clause-keeps : goal.returns-in_err-made-clause-keeps
-returns-in_err-made-clause-keeps c = Keeps-trans (Keeps-trans c.free.ensures.keeps c.instance.ensures.keeps) c.abstraction.ensures.keeps
+returns-in_err-made-clause-keeps c = Keeps-trans (Keeps-trans c.free.ensures.keeps c.raw_instance.ensures.keeps) c.raw_abstraction.ensures.keeps
 
 pub returns-clause-keeps : goal.returns-clause-keeps
-returns-clause-keeps c = Keeps-trans (Keeps-trans c.free.ensures.keeps c.instance.ensures.keeps) c.abstraction.ensures.keeps
+returns-clause-keeps c = Keeps-trans (Keeps-trans c.free.ensures.keeps c.raw_instance.ensures.keeps) c.raw_abstraction.ensures.keeps
 
 pub returns-clause-known : goal.returns-clause-known
 returns-clause-known c = c.in_ok-made.ensures.known

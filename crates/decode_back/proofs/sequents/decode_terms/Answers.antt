@@ -53,18 +53,18 @@ returns-in_default-found c = record {
       (subst (IsTermFound greatest_depth types c.decode_hypotheses.new.budget c.decode_term.new.budget (term_from (declarations_of c.args.base.now) (tree_at c.args.base.now.table c.args.parts.now.conclusion.0) (place c.args.parts.now.type_variables (length c.args.variables.now) c.len.result 0)) c.decode_term.new.table) c.in_default-found.is (c.in_ok-found-2.ensures.decoded types (AreVariables-Keeps c.args.variables.now types c.decode_hypotheses.ensures.keeps c.requires.variables typed.1)));
 }
 
-pub judge-requires-clause-variables : goal.judge-requires-clause-variables
-judge-requires-clause-variables c = AreKnown-Keeps (Keeps-trans c.decode_hypotheses.ensures.keeps c.decode_term.ensures.keeps) c.args.variables.now c.requires.variables
+pub check_sequent-requires-clause-variables : goal.check_sequent-requires-clause-variables
+check_sequent-requires-clause-variables c = AreKnown-Keeps (Keeps-trans c.decode_hypotheses.ensures.keeps c.decode_term.ensures.keeps) c.args.variables.now c.requires.variables
 
-pub judge-requires-clause-ids : goal.judge-requires-clause-ids
-judge-requires-clause-ids c =
+pub check_sequent-requires-clause-ids : goal.check_sequent-requires-clause-ids
+check_sequent-requires-clause-ids c =
     subst (AreKnown c.decode_term.new.table) (sym c.deref-2.ensures.value) (AreKnown-Keeps c.decode_term.ensures.keeps c.in-Some.hyps.items
     (subst (λ o. IfSome o (λ (ids : Vec TermId Global). AreKnown c.decode_hypotheses.new.table ids.items)) c.in-Some.is c.in_ok-found.ensures.known))
 
 pub returns : goal.returns
 returns c = record {
   found =
-      IfOk-weaker _ _ c.judge.result c.judge.ensures.judged (λ closed judged types typed p are.
+      IfOk-weaker _ _ c.check_sequent.result c.check_sequent.ensures.judged (λ closed judged types typed p are.
       terms-answer (declarations_of c.args.base.now) c.args.base.now.table p c.args.parts.now are types typed.0 c.args.table.now c.args.variables.now typed.1 c.decode_hypotheses.new.budget c.decode_hypotheses.new.table c.in-Some.hyps
       (subst (λ xs. AreHypothesesFound types greatest_size c.decode_hypotheses.new.budget (hypotheses_from (declarations_of c.args.base.now) (trees_at c.args.base.now.table xs) c.args.parts.now.type_variables (length c.args.variables.now) 0) c.decode_hypotheses.new.table (Some c.in-Some.hyps)) c.deref.ensures.value
       (subst (AreHypothesesFound types greatest_size c.decode_hypotheses.new.budget (hypotheses_from (declarations_of c.args.base.now) (trees_at c.args.base.now.table c.deref.result.now) c.args.parts.now.type_variables (length c.args.variables.now) 0) c.decode_hypotheses.new.table) c.in-Some.is (c.in_ok-found.ensures.found types typed.1)))

@@ -17,11 +17,11 @@ applied-requires c = (type_of (term_at c.args.self.now c.args.f.0), c.ty.ensures
 pub returns-in_default-clause-keeps : goal.returns-in_default-clause-keeps
 returns-in_default-clause-keeps c = Keeps-refl c.args.self.now
 
-pub application-made-requires-clause-function : goal.application-made-requires-clause-function
-application-made-requires-clause-function c = known_term c.args.self.now c.args.f.0 c.requires.function
+pub raw_application-made-requires-clause-function : goal.raw_application-made-requires-clause-function
+raw_application-made-requires-clause-function c = known_term c.args.self.now c.args.f.0 c.requires.function
 
-pub application-made-requires-clause-argument : goal.application-made-requires-clause-argument
-application-made-requires-clause-argument c = known_term c.args.self.now c.args.x.0 c.requires.argument
+pub raw_application-made-requires-clause-argument : goal.raw_application-made-requires-clause-argument
+raw_application-made-requires-clause-argument c = known_term c.args.self.now c.args.x.0 c.requires.argument
 
 -- the application is a term, as it has a type
 it : (c : goal.After-settle) → IsTerm (app (term_at c.args.self.now c.args.f.0) (term_at c.args.self.now c.args.x.0))
@@ -30,25 +30,25 @@ it c =
     (c.in-Some.ensures (type_of (term_at c.args.self.now c.args.f.0)) (type_of (term_at c.args.self.now c.args.x.0)) c.ty.ensures.typed c.ty-2.ensures.typed)
 
 pub settle-requires-clause-earlier : goal.settle-requires-clause-earlier
-settle-requires-clause-earlier c = (c.args.self.now, record { keeps = c.application-made.ensures.keeps; own = c.mark-mark.ensures.own; types = c.mark-mark.ensures.types; terms = c.mark-mark.ensures.terms })
+settle-requires-clause-earlier c = (c.args.self.now, record { keeps = c.raw_application-made.ensures.keeps; own = c.mark-mark.ensures.own; types = c.mark-mark.ensures.types; terms = c.mark-mark.ensures.terms })
 
 pub settle-requires-clause-made : goal.settle-requires-clause-made
-settle-requires-clause-made c = c.application-made.ensures.known
+settle-requires-clause-made c = c.raw_application-made.ensures.known
 
 pub returns-clause-known : goal.returns-clause-known
 returns-clause-known c = c.settle.ensures.known
 
 pub returns-clause-made : goal.returns-clause-made
-returns-clause-made c = c.settle.ensures.made (app (term_at c.args.self.now c.args.f.0) (term_at c.args.self.now c.args.x.0)) c.application-made.ensures.made
+returns-clause-made c = c.settle.ensures.made (app (term_at c.args.self.now c.args.f.0) (term_at c.args.self.now c.args.x.0)) c.raw_application-made.ensures.made
 
 pub returns-clause-within : goal.returns-clause-within
-returns-clause-within c = c.settle.ensures.within (app (term_at c.args.self.now c.args.f.0) (term_at c.args.self.now c.args.x.0)) c.application-made.ensures.made
+returns-clause-within c = c.settle.ensures.within (app (term_at c.args.self.now c.args.f.0) (term_at c.args.self.now c.args.x.0)) c.raw_application-made.ensures.made
 
 pub returns-clause-keeps : goal.returns-clause-keeps
-returns-clause-keeps c = c.settle.ensures.keeps c.args.self.now (record { keeps = c.application-made.ensures.keeps; own = c.mark-mark.ensures.own; types = c.mark-mark.ensures.types; terms = c.mark-mark.ensures.terms })
+returns-clause-keeps c = c.settle.ensures.keeps c.args.self.now (record { keeps = c.raw_application-made.ensures.keeps; own = c.mark-mark.ensures.own; types = c.mark-mark.ensures.types; terms = c.mark-mark.ensures.terms })
 
 pub returns-clause-unchanged : goal.returns-clause-unchanged
-returns-clause-unchanged c = on_err_weaker c.settle.result (λ back. back c.args.self.now (record { keeps = c.application-made.ensures.keeps; own = c.mark-mark.ensures.own; types = c.mark-mark.ensures.types; terms = c.mark-mark.ensures.terms })) c.settle.ensures.unchanged
+returns-clause-unchanged c = on_err_weaker c.settle.result (λ back. back c.args.self.now (record { keeps = c.raw_application-made.ensures.keeps; own = c.mark-mark.ensures.own; types = c.mark-mark.ensures.types; terms = c.mark-mark.ensures.terms })) c.settle.ensures.unchanged
 
 pub returns-clause-typed : goal.returns-clause-typed
 returns-clause-typed c = IfOk-weaker c.settle.result _ _ (λ id k. it c) c.settle.ensures.known
@@ -56,4 +56,4 @@ returns-clause-typed c = IfOk-weaker c.settle.result _ _ (λ id k. it c) c.settl
 pub returns-clause-refusal : goal.returns-clause-refusal
 returns-clause-refusal c =
     let t = app (term_at c.args.self.now c.args.f.0) (term_at c.args.self.now c.args.x.0) in
-    IfErr-map c.settle.result (typed_refusal t (it c)) (c.settle.ensures.refusal t c.application-made.ensures.made)
+    IfErr-map c.settle.result (typed_refusal t (it c)) (c.settle.ensures.refusal t c.raw_application-made.ensures.made)

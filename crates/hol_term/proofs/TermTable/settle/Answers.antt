@@ -9,11 +9,11 @@ cut-requires c = c.requires.earlier
 pub cut-requires-in-Err : goal.cut-requires-in-Err
 cut-requires-in-Err c = c.requires.earlier
 
-pub returns-in-Ok-judge-clause-keeps : goal.returns-in-Ok-judge-clause-keeps
-returns-in-Ok-judge-clause-keeps c = λ before h. h.keeps
+pub returns-in-Ok-check_limits-clause-keeps : goal.returns-in-Ok-check_limits-clause-keeps
+returns-in-Ok-check_limits-clause-keeps c = λ before h. h.keeps
 
-pub returns-in-Err-judge-clause-keeps : goal.returns-in-Err-judge-clause-keeps
-returns-in-Err-judge-clause-keeps c = λ before h. subst (Keeps before) (sym (c.cut.ensures before h)) (Keeps-refl before)
+pub returns-in-Err-check_limits-clause-keeps : goal.returns-in-Err-check_limits-clause-keeps
+returns-in-Err-check_limits-clause-keeps c = λ before h. subst (Keeps before) (sym (c.cut.ensures before h)) (Keeps-refl before)
 
 pub returns-in-Err-clause-keeps : goal.returns-in-Err-clause-keeps
 returns-in-Err-clause-keeps c = λ before h. subst (Keeps before) (sym (c.cut-in-Err.ensures before h)) (Keeps-refl before)

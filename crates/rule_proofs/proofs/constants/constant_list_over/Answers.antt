@@ -16,7 +16,7 @@ use Rattle.translate_term.specs.GrowLaws.{Grows-trans, Grows-table}
 use Rattle.rule_proofs.proofs.SequentLaws.{variables-told}
 use Rattle.rule_proofs.proofs.TheoremLaws.{Ready-start, theorem-args}
 use Rattle.rule_proofs.specs.StepSequents.{step-IsSequent}
-use Rattle.rule_proofs.specs.EnvironmentLaws.{Stands-Grows}
+use Rattle.rule_proofs.specs.EnvironmentLaws.{Represents-Grows}
 use Rattle.rule_proofs.proofs.constants.constant_list_over.Goals as goal
 
 pub add_constants-requires-clause-variables : goal.add_constants-requires-clause-variables
@@ -29,7 +29,7 @@ add_constants-requires-clause-told c =
     let given = c.requires.told.0 in
     let variables = ap (variables_of trees) c.variables-variables.ensures ∙ c.requires.params.free_vars in (
       given,
-      Stands-Grows c.add_type_variables.ensures.grows given trees c.args.ground.env.now c.requires.told.1,
+      Represents-Grows c.add_type_variables.ensures.grows given trees c.args.ground.env.now c.requires.told.1,
       c.requires.told.2,
       subst (AllByRecursion (λ (v : Variable). TellsType given.declarations given.symbols v.1)) (sym variables) (variables-told given.declarations given.symbols s c.requires.told.3),
     )
@@ -49,7 +49,7 @@ add_self_proofs-requires-clause-told c =
     let given = c.requires.told.0 in
     let hyps = ap (terms_at trees) c.ids.ensures.numbers ∙ ap (λ s. s.hypotheses) c.sequent-sequent.ensures.is in (
       given,
-      Stands-Grows (Grows-trans c.add_type_variables.ensures.grows c.add_constants.ensures.grows) given trees c.args.ground.env.now c.requires.told.1,
+      Represents-Grows (Grows-trans c.add_type_variables.ensures.grows c.add_constants.ensures.grows) given trees c.args.ground.env.now c.requires.told.1,
       subst (AllByRecursion (TellsTerm given.declarations given.symbols)) (sym hyps) c.requires.told.3.hypotheses,
     )
 

@@ -19,7 +19,7 @@ use Rattle.rule_proofs.specs.Images.{type_pairs, term_pairs, variable_image, Has
 use Rattle.translate_term.specs.GrowLaws.{Grows-trans, Grows-table}
 use Rattle.rule_proofs.proofs.ImageLaws.{names-told, images-are-told, variables-there, hypotheses-there}
 use Rattle.rule_proofs.proofs.TheoremLaws.{Ready-start, theorem-args}
-use Rattle.rule_proofs.specs.EnvironmentLaws.{Stands-Grows}
+use Rattle.rule_proofs.specs.EnvironmentLaws.{Represents-Grows}
 use Rattle.rule_proofs.proofs.images.subst_onto.Goals as goal
 
 pub add_type_images-requires-clause-told : goal.add_type_images-requires-clause-told
@@ -48,7 +48,7 @@ add_term_images-requires-clause-told c =
     let given = c.requires.told.0 in
     let variables = ap (variables_of k.trees) c.variables-general.ensures ∙ c.requires.params.free_vars in (
       given,
-      Stands-Grows c.add_type_images.ensures.grows given k.trees c.args.ground.env.now c.requires.told.1,
+      Represents-Grows c.add_type_images.ensures.grows given k.trees c.args.ground.env.now c.requires.told.1,
       subst (AllByRecursion (λ (v : Variable). IsTold given (variable_image k.trees c.args.step.put.now v))) (sym variables) (images-are-told k c.args.step.put.now c.args.step.id c.args.step.one.id c.requires.substituted given c.requires.told.2),
     )
 

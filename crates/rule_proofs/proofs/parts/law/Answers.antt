@@ -15,7 +15,7 @@ use Rattle.rule_proofs.proofs.SequentLaws.{left-told, right-told}
 use Rattle.rule_proofs.proofs.StandLaws.{Ready-other}
 use Rattle.rule_proofs.proofs.StandTrees.{Ready-more}
 use Rattle.rule_proofs.proofs.TheoremLaws.{Ready-start}
-use Rattle.rule_proofs.specs.EnvironmentLaws.{Stands-Grows}
+use Rattle.rule_proofs.specs.EnvironmentLaws.{Represents-Grows}
 use Rattle.rule_proofs.proofs.parts.law.Goals as goal
 
 pub ty-requires-clause-told : goal.ty-requires-clause-told
@@ -81,7 +81,7 @@ add_part-requires-clause-told c =
     let fourth = c.in_ok-add_term-2.ensures.ready given _ third (right-told k c.args.id f.result.sides f.ensures.sides given c.requires.told.3) in
     let inner = with_scope given (lifted given.scope) in
     let grows = Grows-trans c.ty.ensures.grows (Grows-trans c.add_type.ensures.grows (Grows-trans c.add_term.ensures.grows c.add_term-2.ensures.grows)) in
-    let under = Ready-other (Grows-refl c.add_term-2.new.target) given inner k.trees c.args.ground.env.now c.args.inner.now _ _ fourth (Stands-Grows grows inner k.trees c.args.inner.now c.requires.told.2) in
+    let under = Ready-other (Grows-refl c.add_term-2.new.target) given inner k.trees c.args.ground.env.now c.args.inner.now _ _ fourth (Represents-Grows grows inner k.trees c.args.inner.now c.requires.told.2) in
     (inner, under.stands, c.requires.told.4, c.requires.told.5)
 
 pub call-requires : goal.call-requires
@@ -97,7 +97,7 @@ call-requires c =
     let fourth = c.in_ok-add_term-2.ensures.ready given _ third (right-told k c.args.id f.result.sides f.ensures.sides given c.requires.told.3) in
     let inner = with_scope given (lifted given.scope) in
     let grows = Grows-trans c.ty.ensures.grows (Grows-trans c.add_type.ensures.grows (Grows-trans c.add_term.ensures.grows c.add_term-2.ensures.grows)) in
-    let under = Ready-other (Grows-refl c.add_term-2.new.target) given inner k.trees c.args.ground.env.now c.args.inner.now _ _ fourth (Stands-Grows grows inner k.trees c.args.inner.now c.requires.told.2) in
+    let under = Ready-other (Grows-refl c.add_term-2.new.target) given inner k.trees c.args.ground.env.now c.args.inner.now _ _ fourth (Represents-Grows grows inner k.trees c.args.inner.now c.requires.told.2) in
     let last = c.in_ok-add_part.ensures.ready inner _ under c.requires.told.4 c.requires.told.5 in
     subst (AreKnown _) (sym c.deref.ensures.value) last.known
 
@@ -115,7 +115,7 @@ returns-clause-made c =
     let fourth = c.in_ok-add_term-2.ensures.ready given _ third (right-told k c.args.id f.result.sides f.ensures.sides given own) in
     let inner = with_scope given (lifted given.scope) in
     let grows = Grows-trans c.ty.ensures.grows (Grows-trans c.add_type.ensures.grows (Grows-trans c.add_term.ensures.grows c.add_term-2.ensures.grows)) in
-    let under = Ready-other (Grows-refl c.add_term-2.new.target) given inner k.trees c.args.ground.env.now c.args.inner.now _ _ fourth (Stands-Grows grows inner k.trees c.args.inner.now inside) in
+    let under = Ready-other (Grows-refl c.add_term-2.new.target) given inner k.trees c.args.ground.env.now c.args.inner.now _ _ fourth (Represents-Grows grows inner k.trees c.args.inner.now inside) in
     let last = c.in_ok-add_part.ensures.ready inner _ under whole one in
     let later = Grows-trans c.add_type.ensures.grows (Grows-trans c.add_term.ensures.grows c.add_term-2.ensures.grows) in
     let domain = sym (tree_at-Stays later.table.stays c.in_ok-domain.domain.0 (Holds-within _ c.in_ok-domain.domain.0 _ from)) ∙ Holds-tree_at _ c.in_ok-domain.domain.0 _ from in

@@ -5,7 +5,7 @@ use Rattle.lp_spec.specs.Trees.{Sym}
 use Rattle.lp_term.specs.Tables.{trees_at, AreKnown}
 use Rattle.module_spec.specs.ProofTrees.{sym_symbol}
 use Rattle.translate_term.specs.GrowLaws.{Grows-refl, Grows-trans, Grows-table}
-use Rattle.rule_proofs.specs.EnvironmentLaws.{Stands-Grows}
+use Rattle.rule_proofs.specs.EnvironmentLaws.{Represents-Grows}
 use Rattle.rule_proofs.proofs.FreeLaws.{free-left, variable-told, second_free-made}
 use Rattle.rule_proofs.proofs.LawEquations.{second-defining, second-equation, second_free-told}
 use Rattle.rule_proofs.proofs.SequentLaws.{type-told, left-told, right-told}
@@ -41,7 +41,7 @@ add_type-requires-clause-told c =
     let k = c.args.ground.proof.now in
     let own = c.sides-own in
     let q = c.requires.told in
-    let stands = Stands-Grows c.part_at.ensures.grows q.0 k.trees c.args.ground.env.now q.1 in
+    let stands = Represents-Grows c.part_at.ensures.grows q.0 k.trees c.args.ground.env.now q.1 in
     let start = Ready-start q.0 c.part_at.new.target k.trees c.args.ground.env.now _ c.new-args.ensures.items stands in
     (q.0, start.stands, type-told k c.args.id own.result own.ensures q.0 q.3)
 
@@ -50,7 +50,7 @@ add_term-requires-clause-told c =
     let k = c.args.ground.proof.now in
     let own = c.sides-own in
     let q = c.requires.told in
-    let stands = Stands-Grows c.part_at.ensures.grows q.0 k.trees c.args.ground.env.now q.1 in
+    let stands = Represents-Grows c.part_at.ensures.grows q.0 k.trees c.args.ground.env.now q.1 in
     let start = Ready-start q.0 c.part_at.new.target k.trees c.args.ground.env.now _ c.new-args.ensures.items stands in
     let first = c.in_ok-add_type.ensures.ready q.0 _ start (type-told k c.args.id own.result own.ensures q.0 q.3) in
     (q.0, first.stands, right-told k c.args.id own.result own.ensures q.0 q.3)
@@ -60,7 +60,7 @@ add_term-requires-2-clause-told c =
     let k = c.args.ground.proof.now in
     let own = c.sides-own in
     let q = c.requires.told in
-    let stands = Stands-Grows c.part_at.ensures.grows q.0 k.trees c.args.ground.env.now q.1 in
+    let stands = Represents-Grows c.part_at.ensures.grows q.0 k.trees c.args.ground.env.now q.1 in
     let start = Ready-start q.0 c.part_at.new.target k.trees c.args.ground.env.now _ c.new-args.ensures.items stands in
     let first = c.in_ok-add_type.ensures.ready q.0 _ start (type-told k c.args.id own.result own.ensures q.0 q.3) in
     let second = c.in_ok-add_term.ensures.ready q.0 _ first (right-told k c.args.id own.result own.ensures q.0 q.3) in
@@ -71,7 +71,7 @@ call-requires c =
     let k = c.args.ground.proof.now in
     let own = c.sides-own in
     let q = c.requires.told in
-    let stands = Stands-Grows c.part_at.ensures.grows q.0 k.trees c.args.ground.env.now q.1 in
+    let stands = Represents-Grows c.part_at.ensures.grows q.0 k.trees c.args.ground.env.now q.1 in
     let start = Ready-start q.0 c.part_at.new.target k.trees c.args.ground.env.now _ c.new-args.ensures.items stands in
     let first = c.in_ok-add_type.ensures.ready q.0 _ start (type-told k c.args.id own.result own.ensures q.0 q.3) in
     let second = c.in_ok-add_term.ensures.ready q.0 _ first (right-told k c.args.id own.result own.ensures q.0 q.3) in
@@ -88,7 +88,7 @@ returns-clause-made c =
     let own = c.sides-own in
     IfOk-weaker c.call.result _ _
     (λ r h given names is stands outer told one.
-    let here = Stands-Grows c.part_at.ensures.grows given k.trees c.args.ground.env.now stands in
+    let here = Represents-Grows c.part_at.ensures.grows given k.trees c.args.ground.env.now stands in
     let start = Ready-start given c.part_at.new.target k.trees c.args.ground.env.now _ c.new-args.ensures.items here in
     let first = c.in_ok-add_type.ensures.ready given _ start (type-told k c.args.id own.result own.ensures given told) in
     let second = c.in_ok-add_term.ensures.ready given _ first (right-told k c.args.id own.result own.ensures given told) in

@@ -13,7 +13,7 @@ use Rattle.rule_proofs.proofs.SequentLaws.{equated-type, equated-left, equated-r
 use Rattle.rule_proofs.proofs.StandLaws.{Ready-other}
 use Rattle.rule_proofs.proofs.StandTrees.{Ready-more}
 use Rattle.rule_proofs.proofs.TheoremLaws.{Ready-start}
-use Rattle.rule_proofs.specs.EnvironmentLaws.{Stands-Grows}
+use Rattle.rule_proofs.specs.EnvironmentLaws.{Represents-Grows}
 use Rattle.rule_proofs.proofs.rows.abs_thm.Goals as goal
 
 pub ty-requires-clause-told : goal.ty-requires-clause-told
@@ -23,7 +23,7 @@ pub add_type-requires-clause-told : goal.add_type-requires-clause-told
 add_type-requires-clause-told c =
     let k = c.args.ground.proof.now in
     let q = c.requires.told in
-    (q.0, Stands-Grows c.ty.ensures.grows q.0 k.trees c.args.ground.env.now q.1, type-told k c.args.one.id c.sides-first.result c.sides-first.ensures q.0 q.4)
+    (q.0, Represents-Grows c.ty.ensures.grows q.0 k.trees c.args.ground.env.now q.1, type-told k c.args.one.id c.sides-first.result c.sides-first.ensures q.0 q.4)
 
 pub add_function-requires-clause-domain : goal.add_function-requires-clause-domain
 add_function-requires-clause-domain c =
@@ -37,7 +37,7 @@ add_function-requires-clause-told c =
     let v = c.args.variable.now in
     let q = c.requires.told in
     let under = under_variable k v q.0 in
-    (under, Stands-Grows (Grows-trans c.ty.ensures.grows c.add_type.ensures.grows) under k.trees c.args.inner.now q.2, left-told k c.args.one.id c.sides-first.result c.sides-first.ensures under q.4)
+    (under, Represents-Grows (Grows-trans c.ty.ensures.grows c.add_type.ensures.grows) under k.trees c.args.inner.now q.2, left-told k c.args.one.id c.sides-first.result c.sides-first.ensures under q.4)
 
 pub add_function-requires-2-clause-domain : goal.add_function-requires-2-clause-domain
 add_function-requires-2-clause-domain c =
@@ -51,7 +51,7 @@ add_function-requires-2-clause-told c =
     let v = c.args.variable.now in
     let q = c.requires.told in
     let under = under_variable k v q.0 in
-    (under, Stands-Grows (Grows-trans c.ty.ensures.grows (Grows-trans c.add_type.ensures.grows c.add_function.ensures.grows)) under k.trees c.args.inner.now q.2, right-told k c.args.one.id c.sides-first.result c.sides-first.ensures under q.4)
+    (under, Represents-Grows (Grows-trans c.ty.ensures.grows (Grows-trans c.add_type.ensures.grows c.add_function.ensures.grows)) under k.trees c.args.inner.now q.2, right-told k c.args.one.id c.sides-first.result c.sides-first.ensures under q.4)
 
 pub add_abstracted-requires-clause-index : goal.add_abstracted-requires-clause-index
 add_abstracted-requires-clause-index c =
@@ -65,7 +65,7 @@ add_abstracted-requires-clause-told c =
     let v = c.args.variable.now in
     let q = c.requires.told in
     let under = under_variable k v q.0 in
-    (under, Stands-Grows (Grows-trans c.ty.ensures.grows (Grows-trans c.add_type.ensures.grows (Grows-trans c.add_function.ensures.grows c.add_function-2.ensures.grows))) under k.trees c.args.inner.now q.2, q.4)
+    (under, Represents-Grows (Grows-trans c.ty.ensures.grows (Grows-trans c.add_type.ensures.grows (Grows-trans c.add_function.ensures.grows c.add_function-2.ensures.grows))) under k.trees c.args.inner.now q.2, q.4)
 
 pub call-requires : goal.call-requires
 call-requires c =
@@ -77,7 +77,7 @@ call-requires c =
     let domain = c.in_ok-domain.ensures.made q.0 q.1 q.3 in
     let first = Ready-more c.ty.ensures.grows q.0 k.trees c.args.ground.env.now _ _ _ c.in_ok-domain.domain _ domain c.in_ok-push.ensures.items none in
     let second = c.in_ok-add_type.ensures.ready q.0 _ first (type-told k c.args.one.id c.sides-first.result c.sides-first.ensures q.0 q.4) in
-    let inner = Stands-Grows (Grows-trans c.ty.ensures.grows c.add_type.ensures.grows) under k.trees c.args.inner.now q.2 in
+    let inner = Represents-Grows (Grows-trans c.ty.ensures.grows c.add_type.ensures.grows) under k.trees c.args.inner.now q.2 in
     let here = Ready-other (Grows-refl c.add_type.new.target) q.0 under k.trees c.args.ground.env.now c.args.inner.now _ _ second inner in
     let third = c.in_ok-add_function.ensures.ready under _ here (left-told k c.args.one.id c.sides-first.result c.sides-first.ensures under q.4) in
     let fourth = c.in_ok-add_function-2.ensures.ready under _ third (right-told k c.args.one.id c.sides-first.result c.sides-first.ensures under q.4) in
@@ -110,7 +110,7 @@ returns-clause-made c =
     let domain = c.in_ok-domain.ensures.made given stands told_type in
     let first = Ready-more c.ty.ensures.grows given k.trees c.args.ground.env.now _ _ _ c.in_ok-domain.domain _ domain c.in_ok-push.ensures.items none in
     let second = c.in_ok-add_type.ensures.ready given _ first (type-told k c.args.one.id c.sides-first.result c.sides-first.ensures given told) in
-    let inner = Stands-Grows (Grows-trans c.ty.ensures.grows c.add_type.ensures.grows) under k.trees c.args.inner.now inside in
+    let inner = Represents-Grows (Grows-trans c.ty.ensures.grows c.add_type.ensures.grows) under k.trees c.args.inner.now inside in
     let here = Ready-other (Grows-refl c.add_type.new.target) given under k.trees c.args.ground.env.now c.args.inner.now _ _ second inner in
     let third = c.in_ok-add_function.ensures.ready under _ here (left-told k c.args.one.id c.sides-first.result c.sides-first.ensures under told) in
     let fourth = c.in_ok-add_function-2.ensures.ready under _ third (right-told k c.args.one.id c.sides-first.result c.sides-first.ensures under told) in

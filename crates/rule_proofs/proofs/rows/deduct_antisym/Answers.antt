@@ -10,7 +10,7 @@ use Rattle.translate_term.specs.GrowLaws.{Grows-refl, Grows-trans, Grows-table}
 use Rattle.rule_proofs.proofs.StandLaws.{Ready-other}
 use Rattle.rule_proofs.proofs.StandTrees.{Ready-more}
 use Rattle.rule_proofs.proofs.TheoremLaws.{Ready-start}
-use Rattle.rule_proofs.specs.EnvironmentLaws.{Stands-Grows}
+use Rattle.rule_proofs.specs.EnvironmentLaws.{Represents-Grows}
 use Rattle.rule_proofs.proofs.rows.deduct_antisym.Goals as goal
 
 pub conclusion-requires-clause-told : goal.conclusion-requires-clause-told
@@ -20,7 +20,7 @@ pub conclusion-requires-2-clause-told : goal.conclusion-requires-2-clause-told
 conclusion-requires-2-clause-told c =
     let k = c.args.ground.proof.now in
     let q = c.requires.told in
-    (q.0, Stands-Grows c.conclusion.ensures.grows q.0 k.trees c.args.ground.env.now q.1, q.5)
+    (q.0, Represents-Grows c.conclusion.ensures.grows q.0 k.trees c.args.ground.env.now q.1, q.5)
 
 pub add_abstracted-requires-clause-index : goal.add_abstracted-requires-clause-index
 add_abstracted-requires-clause-index c =
@@ -33,13 +33,13 @@ add_abstracted-requires-clause-told c =
     let k = c.args.ground.proof.now in
     let q = c.requires.told in
     let under = under_conclusion k c.args.one.id q.0 in
-    (under, Stands-Grows (Grows-trans c.conclusion.ensures.grows c.conclusion-2.ensures.grows) under k.trees c.args.first.now q.2, q.5)
+    (under, Represents-Grows (Grows-trans c.conclusion.ensures.grows c.conclusion-2.ensures.grows) under k.trees c.args.first.now q.2, q.5)
 
 pub add_abstracted-requires-2-clause-index : goal.add_abstracted-requires-2-clause-index
 add_abstracted-requires-2-clause-index c =
     let k = c.args.ground.proof.now in
     let q = c.requires.told in
-    let here = Stands-Grows c.conclusion.ensures.grows q.0 k.trees c.args.ground.env.now q.1 in
+    let here = Represents-Grows c.conclusion.ensures.grows q.0 k.trees c.args.ground.env.now q.1 in
     let first = Holds-within _ c.in_ok-q.q.0 _ (c.in_ok-q.ensures.made q.0 here q.5) in
     omega (arith, first, c.add_abstracted.ensures.grows.table.longer)
 
@@ -48,7 +48,7 @@ add_abstracted-requires-2-clause-told c =
     let k = c.args.ground.proof.now in
     let q = c.requires.told in
     let under = under_conclusion k c.args.two.id q.0 in
-    (under, Stands-Grows (Grows-trans c.conclusion.ensures.grows (Grows-trans c.conclusion-2.ensures.grows c.add_abstracted.ensures.grows)) under k.trees c.args.second.now q.3, q.4)
+    (under, Represents-Grows (Grows-trans c.conclusion.ensures.grows (Grows-trans c.conclusion-2.ensures.grows c.add_abstracted.ensures.grows)) under k.trees c.args.second.now q.3, q.4)
 
 pub call-requires : goal.call-requires
 call-requires c =
@@ -61,9 +61,9 @@ call-requires c =
     let first = Ready-more c.conclusion.ensures.grows q.0 k.trees c.args.ground.env.now _ _ _ c.in_ok-p.p _ p c.in_ok-push.ensures.items none in
     let q_made = c.in_ok-q.ensures.made q.0 first.stands q.5 in
     let second = Ready-more c.conclusion-2.ensures.grows q.0 k.trees c.args.ground.env.now _ _ _ c.in_ok-q.q _ q_made c.in_ok-push-2.ensures.items first in
-    let in_first = Stands-Grows (Grows-trans c.conclusion.ensures.grows c.conclusion-2.ensures.grows) under_one k.trees c.args.first.now q.2 in
+    let in_first = Represents-Grows (Grows-trans c.conclusion.ensures.grows c.conclusion-2.ensures.grows) under_one k.trees c.args.first.now q.2 in
     let third = c.in_ok-add_abstracted.ensures.ready under_one _ (Ready-other (Grows-refl c.conclusion-2.new.target) q.0 under_one k.trees c.args.ground.env.now c.args.first.now _ _ second in_first) q.5 in
-    let in_second = Stands-Grows (Grows-trans c.conclusion.ensures.grows (Grows-trans c.conclusion-2.ensures.grows c.add_abstracted.ensures.grows)) under_two k.trees c.args.second.now q.3 in
+    let in_second = Represents-Grows (Grows-trans c.conclusion.ensures.grows (Grows-trans c.conclusion-2.ensures.grows c.add_abstracted.ensures.grows)) under_two k.trees c.args.second.now q.3 in
     let fourth = c.in_ok-add_abstracted-2.ensures.ready under_two _ (Ready-other (Grows-refl c.add_abstracted.new.target) under_one under_two k.trees c.args.first.now c.args.second.now _ _ third in_second) q.4 in
     subst (AreKnown _) (sym c.deref.ensures.value) fourth.known
 
@@ -94,9 +94,9 @@ returns-clause-made c =
     let first = Ready-more c.conclusion.ensures.grows given k.trees c.args.ground.env.now _ _ _ c.in_ok-p.p _ p c.in_ok-push.ensures.items none in
     let q_made = c.in_ok-q.ensures.made given first.stands two in
     let second = Ready-more c.conclusion-2.ensures.grows given k.trees c.args.ground.env.now _ _ _ c.in_ok-q.q _ q_made c.in_ok-push-2.ensures.items first in
-    let in_first = Stands-Grows (Grows-trans c.conclusion.ensures.grows c.conclusion-2.ensures.grows) under_one k.trees c.args.first.now inside in
+    let in_first = Represents-Grows (Grows-trans c.conclusion.ensures.grows c.conclusion-2.ensures.grows) under_one k.trees c.args.first.now inside in
     let third = c.in_ok-add_abstracted.ensures.ready under_one _ (Ready-other (Grows-refl c.conclusion-2.new.target) given under_one k.trees c.args.ground.env.now c.args.first.now _ _ second in_first) two in
-    let in_second = Stands-Grows (Grows-trans c.conclusion.ensures.grows (Grows-trans c.conclusion-2.ensures.grows c.add_abstracted.ensures.grows)) under_two k.trees c.args.second.now other in
+    let in_second = Represents-Grows (Grows-trans c.conclusion.ensures.grows (Grows-trans c.conclusion-2.ensures.grows c.add_abstracted.ensures.grows)) under_two k.trees c.args.second.now other in
     let fourth = c.in_ok-add_abstracted-2.ensures.ready under_two _ (Ready-other (Grows-refl c.add_abstracted.new.target) under_one under_two k.trees c.args.first.now c.args.second.now _ _ third in_second) one in
     h ∙ ap (λ l. Some (applied (Sym prop_ext_symbol) l)) (ap (trees_at _) c.deref.ensures.value ∙ fourth.are)
     ∙ ap Some (prop_ext-made given.symbols given.scope (conclusion_at k c.args.one.id) (conclusion_at k c.args.two.id) (premise_at k c.args.one) (premise_at k c.args.two) _ _

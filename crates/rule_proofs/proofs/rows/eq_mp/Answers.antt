@@ -6,7 +6,7 @@ use Rattle.lp_spec.specs.Trees.{Sym}
 use Rattle.lp_term.specs.Tables.{trees_at, AreKnown}
 use Rattle.module_spec.specs.ProofTrees.{eq_mp_tree}
 use Rattle.translate_term.specs.GrowLaws.{Grows-trans, Grows-table}
-use Rattle.rule_proofs.specs.EnvironmentLaws.{Stands-Grows}
+use Rattle.rule_proofs.specs.EnvironmentLaws.{Represents-Grows}
 use Rattle.rule_proofs.proofs.SequentLaws.{equated-left, equated-right, left-told, right-told}
 use Rattle.rule_proofs.proofs.TheoremLaws.{Ready-start}
 use Rattle.rule_proofs.proofs.rows.eq_mp.Goals as goal
@@ -21,7 +21,7 @@ pub add_term-requires-2-clause-told : goal.add_term-requires-2-clause-told
 add_term-requires-2-clause-told c =
     let k = c.args.ground.proof.now in
     let q = c.requires.told in
-    (q.0, Stands-Grows c.add_term.ensures.grows q.0 k.trees c.args.ground.env.now q.1, right-told k c.args.one.id c.sides-first.result c.sides-first.ensures q.0 q.2)
+    (q.0, Represents-Grows c.add_term.ensures.grows q.0 k.trees c.args.ground.env.now q.1, right-told k c.args.one.id c.sides-first.result c.sides-first.ensures q.0 q.2)
 
 pub returns-in_err-add_term-2-clause-grows : goal.returns-in_err-add_term-2-clause-grows
 returns-in_err-add_term-2-clause-grows c = Grows-trans c.add_term.ensures.grows c.add_term-2.ensures.grows
@@ -30,7 +30,7 @@ pub add_theorem-requires-clause-told : goal.add_theorem-requires-clause-told
 add_theorem-requires-clause-told c =
     let k = c.args.ground.proof.now in
     let q = c.requires.told in
-    (q.0, Stands-Grows (Grows-trans c.add_term.ensures.grows c.add_term-2.ensures.grows) q.0 k.trees c.args.ground.env.now q.1, q.2)
+    (q.0, Represents-Grows (Grows-trans c.add_term.ensures.grows c.add_term-2.ensures.grows) q.0 k.trees c.args.ground.env.now q.1, q.2)
 
 pub returns-in_err-add_theorem-clause-grows : goal.returns-in_err-add_theorem-clause-grows
 returns-in_err-add_theorem-clause-grows c = Grows-trans c.add_term.ensures.grows (Grows-trans c.add_term-2.ensures.grows c.add_theorem.ensures.grows)
@@ -39,7 +39,7 @@ pub add_theorem-requires-2-clause-told : goal.add_theorem-requires-2-clause-told
 add_theorem-requires-2-clause-told c =
     let k = c.args.ground.proof.now in
     let q = c.requires.told in
-    (q.0, Stands-Grows (Grows-trans c.add_term.ensures.grows (Grows-trans c.add_term-2.ensures.grows c.add_theorem.ensures.grows)) q.0 k.trees c.args.ground.env.now q.1, q.3)
+    (q.0, Represents-Grows (Grows-trans c.add_term.ensures.grows (Grows-trans c.add_term-2.ensures.grows c.add_theorem.ensures.grows)) q.0 k.trees c.args.ground.env.now q.1, q.3)
 
 pub returns-in_err-add_theorem-2-clause-grows : goal.returns-in_err-add_theorem-2-clause-grows
 returns-in_err-add_theorem-2-clause-grows c = Grows-trans c.add_term.ensures.grows (Grows-trans c.add_term-2.ensures.grows (Grows-trans c.add_theorem.ensures.grows c.add_theorem-2.ensures.grows))

@@ -5,7 +5,7 @@ use Rattle.lp_spec.specs.Trees.{Sym}
 use Rattle.lp_term.specs.Tables.{trees_at, AreKnown}
 use Rattle.module_spec.specs.ProofTrees.{refl_tree}
 use Rattle.translate_term.specs.GrowLaws.{Grows-trans, Grows-table}
-use Rattle.rule_proofs.specs.EnvironmentLaws.{Stands-Grows}
+use Rattle.rule_proofs.specs.EnvironmentLaws.{Represents-Grows}
 use Rattle.rule_proofs.proofs.SequentLaws.{equated-type, equated-right, type-told, right-told}
 use Rattle.rule_proofs.proofs.TheoremLaws.{Ready-start}
 use Rattle.rule_proofs.proofs.rows.refl.Goals as goal
@@ -20,7 +20,7 @@ pub add_term-requires-clause-told : goal.add_term-requires-clause-told
 add_term-requires-clause-told c =
     let k = c.args.ground.proof.now in
     let q = c.requires.told in
-    (q.0, Stands-Grows c.add_type.ensures.grows q.0 k.trees c.args.ground.env.now q.1, right-told k c.args.id c.sides-own.result c.sides-own.ensures q.0 q.2)
+    (q.0, Represents-Grows c.add_type.ensures.grows q.0 k.trees c.args.ground.env.now q.1, right-told k c.args.id c.sides-own.result c.sides-own.ensures q.0 q.2)
 
 pub returns-in_err-add_term-clause-grows : goal.returns-in_err-add_term-clause-grows
 returns-in_err-add_term-clause-grows c = Grows-trans c.add_type.ensures.grows c.add_term.ensures.grows

@@ -3,7 +3,7 @@ use Rattle.holide_sig.specs.Modules.{declarations_of}
 use Rattle.hol_term.specs.Tables.{term_at}
 use Rattle.hol_type.specs.Tables as type
 use Rattle.lp_term.specs.Tables.{Holds}
-use Rattle.module_spec.specs.Scopes.{Symbols, generic_tree}
+use Rattle.module_spec.specs.Scopes.{SymbolMap, generic_tree}
 use Rattle.translate_term.specs.Told.{TellsTerm, TellsType}
 use Rattle.translate_term.specs.GrowLaws.{IsHeld-Grows, declarations_of-Grows}
 use Rattle.translate_rule.proofs.ItemLaws.{defined-declared}
@@ -27,6 +27,6 @@ definition-requires-clause-told c = (
 pub returns-clause-made : goal.returns-clause-made
 returns-clause-made c = λ tables told.
     let made =
-    subst (λ ts. (tables : Symbols) → TellsType (declarations_of c.args.target.now) tables (type.tree_at ts c.args.id.0) → Holds c.constant_type.new.target.table c.in_ok-ty.ty.0 (generic_tree tables (type.tree_at ts c.args.id.0))) c.types.ensures.types c.in_ok-ty.ensures.made in
+    subst (λ ts. (tables : SymbolMap) → TellsType (declarations_of c.args.target.now) tables (type.tree_at ts c.args.id.0) → Holds c.constant_type.new.target.table c.in_ok-ty.ty.0 (generic_tree tables (type.tree_at ts c.args.id.0))) c.types.ensures.types c.in_ok-ty.ensures.made in
     defined-declared _ _ c.new-name.result c.in_ok-ty.ty c.in_ok-body.body _ _ (c.new-name.ensures ∙ c.in_ok-constant_name.ensures) (c.in_ok-body.ensures.grows.table.stays.each _ _ (made tables told.0))
     (c.in_ok-body.ensures.made tables (subst (λ ds. TellsTerm ds tables (term_at c.args.table.now c.args.term.0)) (sym (declarations_of-Grows c.args.target.now _ c.constant_type.ensures.grows c.requires.held)) told.1))

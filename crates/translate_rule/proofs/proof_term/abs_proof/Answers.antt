@@ -5,7 +5,7 @@ use Rattle.hol_spec.specs.declared.StepKind.TheVariants as kinds
 use Rattle.hol_rules.specs.Views.{parameters_view, variable_view}
 use Rattle.holide_sig.specs.Modules.{declarations_of}
 use Rattle.module_spec.specs.Rows.{proof_tree}
-use Rattle.rule_proofs.specs.EnvironmentLaws.{Stands-Grows}
+use Rattle.rule_proofs.specs.EnvironmentLaws.{Represents-Grows}
 use Rattle.translate_rule.specs.OwnSteps.{own_scope, own_sequent, proof_in}
 use Rattle.translate_rule.specs.Steps.{given_at}
 use Rattle.translate_term.specs.GrowLaws.{Grows-trans}
@@ -33,7 +33,7 @@ abs_thm-requires-clause-told c =
     let given = given_at d q.0 (own_sequent c.args.step) in
     let by = rule-one k id l p kinds.AbsThm c.args.one.id c.requires.kind c.requires.premise in (
       given,
-      Stands-Grows c.under_variable.ensures.grows given k.trees c.args.step.ground.env.now (c.requires.step.stands d q.0 refl),
+      Represents-Grows c.under_variable.ensures.grows given k.trees c.args.step.ground.env.now (c.requires.step.stands d q.0 refl),
       c.in_ok-inner.ensures.made d q.0 refl,
       variable-told d q.0 (variable_view k.trees c.in-Variable.variable) _ _ _ by (ap (parameters_view k.trees) (sym c.in-Variable.is) ∙ c.params.ensures.is) (own-told k id l p d q.0 q.1),
       one-told k id l p d q.0 q.1 c.args.one.id c.requires.premise,
@@ -53,7 +53,7 @@ returns-clause-made c =
     IfOk-weaker c.abs_thm.result _ _
     (λ r h tables told.
     let own = given_at d tables (own_sequent c.args.step) in
-    h own (Stands-Grows c.under_variable.ensures.grows own k.trees c.args.step.ground.env.now (c.requires.step.stands d tables refl)) (c.in_ok-inner.ensures.made d tables refl)
+    h own (Represents-Grows c.under_variable.ensures.grows own k.trees c.args.step.ground.env.now (c.requires.step.stands d tables refl)) (c.in_ok-inner.ensures.made d tables refl)
     (variable-told d tables (variable_view k.trees c.in-Variable.variable) _ _ _ by given (own-told k id l p d tables told)) (one-told k id l p d tables told c.args.one.id c.requires.premise)
     ∙ ap (λ g. Some (proof_tree tables (own_scope k id tables) kinds.AbsThm js ss g)) given ∙ ap Some (tree-kind k id l p tables (own_scope k id tables) kinds.AbsThm c.requires.kind js ss))
     c.abs_thm.ensures.made

@@ -4,7 +4,7 @@ use Rattle.hol_spec.specs.Proofs.{sequent_at}
 use Rattle.hol_spec.specs.declared.StepKind.TheVariants as kinds
 use Rattle.holide_sig.specs.Modules.{declarations_of}
 use Rattle.module_spec.specs.Rows.{proof_tree}
-use Rattle.rule_proofs.specs.EnvironmentLaws.{Stands-Grows}
+use Rattle.rule_proofs.specs.EnvironmentLaws.{Represents-Grows}
 use Rattle.translate_rule.specs.OwnSteps.{own_scope, own_sequent, proof_in}
 use Rattle.translate_rule.specs.Steps.{given_at}
 use Rattle.translate_term.specs.GrowLaws.{Grows-trans}
@@ -24,7 +24,7 @@ second_law-requires-clause-told c =
     let q = c.requires.told in
     let given = given_at d q.0 (own_sequent c.args.step) in (
       given,
-      Stands-Grows c.under_binder.ensures.grows given k.trees c.args.step.ground.env.now (c.requires.step.stands d q.0 refl),
+      Represents-Grows c.under_binder.ensures.grows given k.trees c.args.step.ground.env.now (c.requires.step.stands d q.0 refl),
       c.in_ok-inner.ensures.made d q.0 refl,
       own-told k id l p d q.0 q.1,
       one-told k id l p d q.0 q.1 c.args.one.id c.requires.premise,
@@ -43,7 +43,7 @@ returns-clause-made c =
     IfOk-weaker c.second_law.result _ _
     (λ r h tables told.
     let given = given_at d tables (own_sequent c.args.step) in
-    h given law.operator.names law.law (Stands-Grows c.under_binder.ensures.grows given k.trees c.args.step.ground.env.now (c.requires.step.stands d tables refl)) (c.in_ok-inner.ensures.made d tables refl) (own-told k id l p d tables told)
+    h given law.operator.names law.law (Represents-Grows c.under_binder.ensures.grows given k.trees c.args.step.ground.env.now (c.requires.step.stands d tables refl)) (c.in_ok-inner.ensures.made d tables refl) (own-told k id l p d tables told)
     (one-told k id l p d tables told c.args.one.id c.requires.premise)
     ∙ ap (λ g. Some (proof_tree tables (own_scope k id tables) kinds.SecondLaw js ss g)) law.operator.given ∙ ap Some (tree-kind k id l p tables (own_scope k id tables) kinds.SecondLaw c.requires.kind js ss))
     c.second_law.ensures.made

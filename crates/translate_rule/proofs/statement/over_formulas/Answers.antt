@@ -6,7 +6,7 @@ use Rattle.lp_spec.specs.Modules.{proof_symbol}
 use Rattle.lp_term.specs.TableLaws.{Holds-tree_at, tree_at-Holds}
 use Rattle.module_spec.specs.Scopes.{term_tree}
 use Rattle.translate_term.specs.GrowLaws.{Grows-refl, Grows-trans}
-use Rattle.rule_proofs.specs.EnvironmentLaws.{Stands-Grows}
+use Rattle.rule_proofs.specs.EnvironmentLaws.{Represents-Grows}
 use Rattle.rule_proofs.specs.Environments.{IsTold}
 use Rattle.translate_rule.proofs.OwnLaws.{terms-count}
 use Rattle.translate_rule.proofs.StatementLaws.{front-last, no-item, known-split, terms-last, folded-last, folded-more, folded-end}
@@ -31,7 +31,7 @@ over_formula-requires c =
       id = (known-split trees front rest last split h.hyps).1;
       inside = h.known;
       told =
-          (q.0, Stands-Grows h.grows q.0 trees c.args.env.now q.1, folded-last (IsTold q.0) proof_symbol (term_tree q.0.symbols q.0.scope) (terms_at trees rest) (terms_at trees front) (term_at trees last.0) _ _ (terms-last trees front rest last split) (h.folded q.0 q.1 q.2));
+          (q.0, Represents-Grows h.grows q.0 trees c.args.env.now q.1, folded-last (IsTold q.0) proof_symbol (term_tree q.0.symbols q.0.scope) (terms_at trees rest) (terms_at trees front) (term_at trees last.0) _ _ (terms-last trees front rest last split) (h.folded q.0 q.1 q.2));
     }
 
 pub loop-rest-preserved : goal.loop-rest-preserved
@@ -51,7 +51,7 @@ loop-rest-preserved c =
           let whole = terms-last trees front rest last split in
           let f = h.folded given stands told in
           folded-more (IsTold given) proof_symbol tree (terms_at trees rest) (terms_at trees front) (term_at trees last.0) (length front) _ _ _ whole (sym (terms-count trees front))
-          (Holds-tree_at _ c.in_ok-product.product.0 _ (c.in_ok-product.ensures.made given (Stands-Grows h.grows given trees c.args.env.now stands) (folded-last (IsTold given) proof_symbol tree (terms_at trees rest) (terms_at trees front) (term_at trees last.0) _ _ whole f))) f;
+          (Holds-tree_at _ c.in_ok-product.product.0 _ (c.in_ok-product.ensures.made given (Represents-Grows h.grows given trees c.args.env.now stands) (folded-last (IsTold given) proof_symbol tree (terms_at trees rest) (terms_at trees front) (term_at trees last.0) _ _ whole f))) f;
       shorter = omega (arith, h.shorter, length-take (length rest - 1) rest);
     }
 

@@ -8,7 +8,7 @@ use Rattle.lp_term.specs.TableLaws.{Holds-tree_at, tree_at-Holds}
 use Rattle.module_spec.specs.Scopes.{type_tree}
 use Rattle.translate_term.specs.GrowLaws.{Grows-refl, Grows-trans}
 use Rattle.translate_term.specs.Told.{TellsType}
-use Rattle.rule_proofs.specs.EnvironmentLaws.{Stands-Grows}
+use Rattle.rule_proofs.specs.EnvironmentLaws.{Represents-Grows}
 use Rattle.translate_rule.proofs.OwnLaws.{variables-count}
 use Rattle.translate_rule.proofs.StatementLaws.{front-item, no-item, types-split, variables-last, folded-last, folded-more, folded-end}
 use Rattle.translate_rule.proofs.statement.over_terms.Goals as goal
@@ -30,7 +30,7 @@ over_type-requires c =
       inside = h.known;
       told = (
         q.0,
-        Stands-Grows h.grows q.0 trees c.args.env.now q.1,
+        Represents-Grows h.grows q.0 trees c.args.env.now q.1,
         folded-last (λ (v : Variable). TellsType q.0.declarations q.0.symbols v.1) term_symbol (λ (v : Variable). type_tree q.0.symbols q.0.scope.types v.1) (variables_of trees rest) (variables_of trees front) (last.name, type_at trees last.ty.0) _ _
             (variables-last trees front rest last split) (h.folded q.0 q.1 q.2),
       );
@@ -54,7 +54,7 @@ loop-rest-preserved c =
           let whole = variables-last trees front rest last split in
           let f = h.folded given stands told in
           folded-more P term_symbol tree (variables_of trees rest) (variables_of trees front) (last.name, type_at trees last.ty.0) (length front) _ _ _ whole (sym (variables-count trees front))
-          (Holds-tree_at _ c.in_ok-product.product.0 _ (c.in_ok-product.ensures.made given (Stands-Grows h.grows given trees c.args.env.now stands) (folded-last P term_symbol tree (variables_of trees rest) (variables_of trees front) (last.name, type_at trees last.ty.0) _ _ whole f))) f;
+          (Holds-tree_at _ c.in_ok-product.product.0 _ (c.in_ok-product.ensures.made given (Represents-Grows h.grows given trees c.args.env.now stands) (folded-last P term_symbol tree (variables_of trees rest) (variables_of trees front) (last.name, type_at trees last.ty.0) _ _ whole f))) f;
       shorter = omega (arith, h.shorter, length-take (length rest - 1) rest);
     }
 

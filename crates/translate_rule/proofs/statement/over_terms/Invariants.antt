@@ -7,7 +7,7 @@ use Rattle.lp_term.specs.Tables.{tree_at}
 use Rattle.module_spec.specs.Scopes.{type_tree}
 use Rattle.translate_term.specs.Told.{TellsType}
 use Rattle.translate_term.specs.Walks.{Grows}
-use Rattle.rule_proofs.specs.Environments.{Given, Stands}
+use Rattle.rule_proofs.specs.Environments.{Given, Represents}
 use Rattle.translate_rule.specs.Domains.{lifted_domains}
 use Rattle.translate_rule.proofs.StatementLaws.{IsFolded}
 use Rattle.translate_rule.proofs.statement.over_terms.Given as goal
@@ -17,7 +17,7 @@ invariant-loop-rest l = record {
   grows : Grows l.fn.target l.target;
   known : l.product.0 < length l.target.table;
   variables : HaveTypes l.proof.trees l.rest;
-  folded : (given : Given) → Stands given l.fn.target l.proof.trees l.env → AllByRecursion (λ (v : Variable). TellsType given.declarations given.symbols v.1) (variables_of l.proof.trees l.variables)
+  folded : (given : Given) → Represents given l.fn.target l.proof.trees l.env → AllByRecursion (λ (v : Variable). TellsType given.declarations given.symbols v.1) (variables_of l.proof.trees l.variables)
       → IsFolded (λ (v : Variable). TellsType given.declarations given.symbols v.1) term_symbol (λ (v : Variable). type_tree given.symbols given.scope.types v.1) (variables_of l.proof.trees l.rest) (tree_at l.target.table l.product.0)
       (products (lifted_domains term_symbol (λ (v : Variable). type_tree given.symbols given.scope.types v.1) 0 (variables_of l.proof.trees l.variables)) (tree_at l.fn.target.table l.fn.inside.0));
   shorter : length l.rest ≤ length l.variables;

@@ -13,7 +13,7 @@ pub add-requires-clause-measured : goal.add-requires-clause-measured
 add-requires-clause-measured c = rw c.in_ok-from_slice.ensures.items (c.measures-measures.ensures _)
 
 pub returns-clause-within : goal.returns-clause-within
-returns-clause-within c = c.in_ok-judge.ensures.within _ (c.measures-measures.ensures _)
+returns-clause-within c = c.in_ok-check_limits.ensures.within _ (c.measures-measures.ensures _)
 
-pub returns-in_err-judge-clause-refusal : goal.returns-in_err-judge-clause-refusal
-returns-in_err-judge-clause-refusal c = if_err c.from_residual.result (λ e is. subst (λ f. RefusesType f (operator c.args.name.now (types_of (types_at c.args.self.now c.args.args.now)))) (sym is) (c.in_err-judge.ensures.refusal _ (c.measures-measures.ensures c.args.name.now))) c.from_residual.ensures.1
+pub returns-in_err-check_limits-clause-refusal : goal.returns-in_err-check_limits-clause-refusal
+returns-in_err-check_limits-clause-refusal c = if_err c.from_residual.result (λ e is. subst (λ f. RefusesType f (operator c.args.name.now (types_of (types_at c.args.self.now c.args.args.now)))) (sym is) (c.in_err-check_limits.ensures.refusal _ (c.measures-measures.ensures c.args.name.now))) c.from_residual.ensures.1

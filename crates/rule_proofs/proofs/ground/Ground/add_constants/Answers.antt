@@ -10,7 +10,7 @@ use Rattle.rule_proofs.proofs.AddLaws.{adds-begin, adds-next, adds-end, All-drop
 use Rattle.translate_term.specs.GrowLaws.{Grows-refl, Grows-trans}
 use Rattle.rule_proofs.proofs.ListSteps.{drop-item}
 use Rattle.rule_proofs.proofs.PlaceLaws.{HaveTypes-drop}
-use Rattle.rule_proofs.specs.EnvironmentLaws.{Stands-Grows}
+use Rattle.rule_proofs.specs.EnvironmentLaws.{Represents-Grows}
 use Rattle.rule_proofs.proofs.ground.Ground.add_constants.Goals as goal
 
 pub add_constant-requires-clause-variable : goal.add_constant-requires-clause-variable
@@ -24,7 +24,7 @@ add_constant-requires-clause-told c =
     let given = c.requires.told.0 in
     let trees = c.args.self.proof.now.trees in
     let P = λ (v : Variable). TellsType given.declarations given.symbols v.1 in
-    (given, Stands-Grows c.loop-variable.invariant.grows given trees c.args.self.env.now c.requires.told.1, c.requires.told.2, (subst (λ l. AllByRecursion P (variables_of trees l)) split (All-drop P trees c.loop-variable.variable-index c.args.variables.now c.requires.told.3)).0)
+    (given, Represents-Grows c.loop-variable.invariant.grows given trees c.args.self.env.now c.requires.told.1, c.requires.told.2, (subst (λ l. AllByRecursion P (variables_of trees l)) split (All-drop P trees c.loop-variable.variable-index c.args.variables.now c.requires.told.3)).0)
 
 pub loop-variable-init : goal.loop-variable-init
 loop-variable-init c = record { grows = Grows-refl _; adds = λ given constants told. adds-begin (scope_with given c.args.self.proof.now.trees c.args.pairs.now).terms _ _ }

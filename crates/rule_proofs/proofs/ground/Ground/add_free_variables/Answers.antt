@@ -9,7 +9,7 @@ use Rattle.rule_proofs.proofs.AddLaws.{adds-begin, adds-next, adds-end, All-drop
 use Rattle.translate_term.specs.GrowLaws.{Grows-refl, Grows-trans}
 use Rattle.rule_proofs.proofs.ListSteps.{drop-item}
 use Rattle.rule_proofs.proofs.PlaceLaws.{HaveTypes-drop}
-use Rattle.rule_proofs.specs.EnvironmentLaws.{Stands-Grows}
+use Rattle.rule_proofs.specs.EnvironmentLaws.{Represents-Grows}
 use Rattle.rule_proofs.proofs.ground.Ground.add_free_variables.Goals as goal
 
 pub add_free_variable-requires-clause-variable : goal.add_free_variable-requires-clause-variable
@@ -23,7 +23,7 @@ add_free_variable-requires-clause-told c =
     let given = c.requires.told.0 in
     let trees = c.args.self.proof.now.trees in
     let P = λ (v : Variable). TellsType given.declarations given.symbols v.1 in
-    (given, Stands-Grows c.loop-variable.invariant.grows given trees c.args.self.env.now c.requires.told.1, (subst (λ l. AllByRecursion P (variables_of trees l)) split (All-drop P trees c.loop-variable.variable-index c.args.variables.now c.requires.told.2)).0)
+    (given, Represents-Grows c.loop-variable.invariant.grows given trees c.args.self.env.now c.requires.told.1, (subst (λ l. AllByRecursion P (variables_of trees l)) split (All-drop P trees c.loop-variable.variable-index c.args.variables.now c.requires.told.2)).0)
 
 pub loop-variable-init : goal.loop-variable-init
 loop-variable-init c = record { grows = Grows-refl _; adds = λ given told. adds-begin given.scope.terms _ _ }

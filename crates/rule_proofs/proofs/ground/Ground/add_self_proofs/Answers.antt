@@ -10,7 +10,7 @@ use Rattle.rule_proofs.proofs.AddLaws.{adds-begin, adds-next, adds-end}
 use Rattle.translate_term.specs.GrowLaws.{Grows-refl, Grows-trans}
 use Rattle.rule_proofs.proofs.ListSteps.{terms-drop}
 use Rattle.rule_proofs.proofs.PlaceLaws.{AreKnown-drop}
-use Rattle.rule_proofs.specs.EnvironmentLaws.{Stands-Grows}
+use Rattle.rule_proofs.specs.EnvironmentLaws.{Represents-Grows}
 use Rattle.rule_proofs.proofs.ground.Ground.add_self_proofs.Goals as goal
 
 pub add_self_proof-requires-clause-hyp : goal.add_self_proof-requires-clause-hyp
@@ -30,7 +30,7 @@ add_self_proof-requires-clause-told c =
     let given = c.requires.told.0 in
     let P = TellsTerm given.declarations given.symbols in
     let split = drop_more c.args.hyps.now c.loop-hyp.hyp-index (record { 0 = 0 }) c.loop-hyp-test.true in
-    (given, Stands-Grows c.loop-hyp.invariant.grows given trees c.args.self.env.now c.requires.told.1, (subst (λ l. AllByRecursion P (terms_at trees l)) split (terms-drop P trees c.loop-hyp.hyp-index c.args.hyps.now c.requires.told.2)).0)
+    (given, Represents-Grows c.loop-hyp.invariant.grows given trees c.args.self.env.now c.requires.told.1, (subst (λ l. AllByRecursion P (terms_at trees l)) split (terms-drop P trees c.loop-hyp.hyp-index c.args.hyps.now c.requires.told.2)).0)
 
 pub loop-hyp-init : goal.loop-hyp-init
 loop-hyp-init c = record { grows = Grows-refl _; adds = λ given told. adds-begin (self_proof given.symbols given.scope) _ _ }

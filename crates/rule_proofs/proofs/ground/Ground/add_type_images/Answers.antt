@@ -10,7 +10,7 @@ use Rattle.rule_proofs.specs.Images.{type_pairs, term_pairs}
 use Rattle.rule_proofs.proofs.AddLaws.{adds-begin, adds-next, adds-end}
 use Rattle.translate_term.specs.GrowLaws.{Grows-refl, Grows-trans}
 use Rattle.rule_proofs.proofs.ListSteps.{drop-item, drop-each}
-use Rattle.rule_proofs.specs.EnvironmentLaws.{Stands-Grows}
+use Rattle.rule_proofs.specs.EnvironmentLaws.{Represents-Grows}
 use Rattle.rule_proofs.proofs.ground.Ground.add_type_images.Goals as goal
 
 pub add_type_image-requires-clause-told : goal.add_type_image-requires-clause-told
@@ -18,7 +18,7 @@ add_type_image-requires-clause-told c =
     let split = drop-item c.args.names.now c.loop-name.name-index c.name-item.result c.name-item.is c.loop-name-test.true in
     let given = c.requires.told.0 in
     let P = λ (n : Name). TellsType given.declarations given.symbols (image (type_pairs c.args.self.proof.now.trees c.args.put.now) n) in
-    (given, Stands-Grows c.loop-name.invariant.grows given c.args.self.proof.now.trees c.args.self.env.now c.requires.told.1, (subst (AllByRecursion P) split (drop-each P c.loop-name.name-index c.args.names.now c.requires.told.2)).0)
+    (given, Represents-Grows c.loop-name.invariant.grows given c.args.self.proof.now.trees c.args.self.env.now c.requires.told.1, (subst (AllByRecursion P) split (drop-each P c.loop-name.name-index c.args.names.now c.requires.told.2)).0)
 
 pub loop-name-init : goal.loop-name-init
 loop-name-init c = record { grows = Grows-refl _; adds = λ given told. adds-begin (images given.symbols _ (term_pairs c.args.self.proof.now.trees c.args.put.now) given.scope).types _ _ }

@@ -12,7 +12,7 @@ use Rattle.translate_term.specs.Told.{TellsType}
 use Rattle.translate_term.specs.GrowLaws.{Grows-trans, Grows-table}
 use Rattle.rule_proofs.proofs.SequentLaws.{variables-told}
 use Rattle.rule_proofs.proofs.TheoremLaws.{Ready-start, theorem-args}
-use Rattle.rule_proofs.specs.EnvironmentLaws.{Stands-Grows}
+use Rattle.rule_proofs.specs.EnvironmentLaws.{Represents-Grows}
 use Rattle.rule_proofs.specs.ProvedHypotheses.{scope_proved}
 use Rattle.rule_proofs.proofs.ProvedLaws.{IsPut-Grows}
 use Rattle.rule_proofs.proofs.ground.Ground.theorem_over.Goals as goal
@@ -24,7 +24,7 @@ add_free_variables-requires-clause-told c =
     let given = c.requires.told.0 in
     let are = ap (variables_of trees) c.variables.ensures ∙ c.requires.params.free_vars in (
       given,
-      Stands-Grows c.add_type_variables.ensures.grows given trees c.args.self.env.now c.requires.told.1,
+      Represents-Grows c.add_type_variables.ensures.grows given trees c.args.self.env.now c.requires.told.1,
       subst (AllByRecursion (λ (v : Variable). TellsType given.declarations given.symbols v.1)) (sym are) (variables-told given.declarations given.symbols s c.requires.told.2),
     )
 

@@ -1,6 +1,6 @@
 use Rattle.translate_term.specs.GrowLaws.{Grows-table}
-use Rattle.rule_proofs.proofs.SetLaws.{Stands-set_proof}
-use Rattle.rule_proofs.specs.EnvironmentLaws.{Stands-Grows}
+use Rattle.rule_proofs.proofs.SetLaws.{Represents-set_proof}
+use Rattle.rule_proofs.specs.EnvironmentLaws.{Represents-Grows}
 use Rattle.rule_proofs.proofs.scope.Environment.bind_proof.Goals as goal
 
 pub returns-in_err-tree-clause-grows : goal.returns-in_err-tree-clause-grows
@@ -11,8 +11,8 @@ returns-in_err-set_proof-clause-grows c = Grows-table _ _ c.node.ensures.keeps
 
 pub returns-clause-bound : goal.returns-clause-bound
 returns-clause-bound c = λ given trees stands known.
-    Stands-set_proof given _ trees c.args.self.now c.set_proof.new.self c.args.id c.in_ok-tree.tree _ known c.in_ok-tree.ensures.made c.in_ok-set_proof.ensures.proofs c.in_ok-set_proof.ensures.alone
-    (Stands-Grows (Grows-table _ _ c.in_ok-tree.ensures.keeps) given trees c.args.self.now stands)
+    Represents-set_proof given _ trees c.args.self.now c.set_proof.new.self c.args.id c.in_ok-tree.tree _ known c.in_ok-tree.ensures.made c.in_ok-set_proof.ensures.proofs c.in_ok-set_proof.ensures.alone
+    (Represents-Grows (Grows-table _ _ c.in_ok-tree.ensures.keeps) given trees c.args.self.now stands)
 
 pub returns-clause-grows : goal.returns-clause-grows
 returns-clause-grows c = Grows-table _ _ c.node.ensures.keeps

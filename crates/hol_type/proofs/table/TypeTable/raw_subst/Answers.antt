@@ -8,7 +8,7 @@ use Rattle.hol_type.specs.Tables.{tree_at, pairs_at, Holds}
 use Rattle.hol_type.specs.TableLaws.{Keeps-refl, Keeps-trans, Holds-within, tree_at-Holds}
 use Rattle.hol_type.proofs.MadeLaws.{is_some, if_some}
 use Rattle.hol_type.proofs.SubstitutionTurns.{walk_begins, walk_ends}
-use Rattle.hol_type.proofs.table.TypeTable.instance.Goals as goal
+use Rattle.hol_type.proofs.table.TypeTable.raw_subst.Goals as goal
 
 pub loop-task-init : goal.loop-task-init
 loop-task-init c = (Keeps-refl _, rw (c.in_ok-push.ensures.pushed, c.new.ensures.empty) (walk_begins _ _ c.args.root _ c.requires.pairs c.requires.root c.new-2.ensures.empty))

@@ -1,6 +1,6 @@
 use Rattle.hol_type.specs.Tables.{pairs_at, Keeps}
 use Rattle.hol_type.specs.Walks.{IsWalk, work}
-use Rattle.hol_type.proofs.table.TypeTable.instance.Given as goal
+use Rattle.hol_type.proofs.table.TypeTable.raw_subst.Given as goal
 
 abbrev pub invariant-loop-task : goal.invariant-loop-task
 invariant-loop-task l = Keeps l.fn.self l.self × IsWalk (pairs_at l.fn.self l.pairs) l.fn.root l.self l.pairs l.walk.tasks l.walk.made

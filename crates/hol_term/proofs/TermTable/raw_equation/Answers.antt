@@ -3,7 +3,7 @@ use Rattle.std.proofs.lemmas.Result.{IfOk-weaker}
 use Rattle.hol_term.specs.Tables.{type_at}
 use Rattle.hol_term.specs.TableLaws.{Keeps-trans}
 use Rattle.hol_term.proofs.Settled.{made_equation}
-use Rattle.hol_term.proofs.TermTable.equation.Goals as goal
+use Rattle.hol_term.proofs.TermTable.raw_equation.Goals as goal
 
 pub add-requires : goal.add-requires
 add-requires c = (c.in_ok-constant.ensures.known, omega (arith, c.requires.left, c.equality.ensures.keeps.longer))

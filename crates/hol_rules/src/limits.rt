@@ -13,7 +13,7 @@ use hol_term::TermTable;
 use sequent::Sequent;
 
 // Refuses what passes a limit: that of size, or else that of depth, or else that of the number of parameters.
-pub(crate) fn judge(
+pub(crate) fn check_limits(
     terms: &TermTable,
     params: &mut ParamMemo,
     sequent: &Sequent,

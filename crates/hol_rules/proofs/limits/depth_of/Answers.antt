@@ -1,7 +1,7 @@
 use Rattle.std.proofs.Common.{arith, subst, sym}
 use Rattle.std.proofs.lemmas.List.{drop_all, drop_more}
 use Rattle.hol_rules.proofs.Measuring.{IsDeepening, deepening_begins, deepening_goes_on, deepening_ends}
-use Rattle.hol_rules.proofs.judge.depth_of.Goals as goal
+use Rattle.hol_rules.proofs.limits.depth_of.Goals as goal
 
 pub loop-id-init : goal.loop-id-init
 loop-id-init c =

@@ -2,7 +2,7 @@ use Rattle.std.proofs.Common.{ap, ◌∙◌, Some}
 use Rattle.std.proofs.lemmas.Result.{IfOk-weaker}
 use Rattle.hol_laws.specs.TermRenamings.{put_all_at-one}
 use Rattle.hol_term.specs.Tables.{term_at}
-use Rattle.hol_term.proofs.TermTable.instance.Goals as goal
+use Rattle.hol_term.proofs.TermTable.raw_instance.Goals as goal
 
 pub returns-clause-made : goal.returns-clause-made
 returns-clause-made c =

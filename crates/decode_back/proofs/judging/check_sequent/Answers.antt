@@ -1,5 +1,5 @@
 use Rattle.decode_back.proofs.TypeWalk.{IfOk-weaker}
-use Rattle.decode_back.proofs.judging.judge.Goals as goal
+use Rattle.decode_back.proofs.judging.check_sequent.Goals as goal
 
 pub returns : goal.returns
 returns c = record {

@@ -4,7 +4,7 @@ use Rattle.hol_spec.specs.TermBinding.{close}
 use Rattle.hol_term.specs.Tables.{term_at, type_at}
 use Rattle.hol_term.specs.TableLaws.{Keeps-trans}
 use Rattle.hol_term.proofs.Settled.{made_abs}
-use Rattle.hol_term.proofs.TermTable.abstraction.Goals as goal
+use Rattle.hol_term.proofs.TermTable.raw_abstraction.Goals as goal
 
 pub add-requires : goal.add-requires
 add-requires c = (omega (arith, c.requires.variable, c.closed.ensures.keeps.types.longer), c.in_ok-body.ensures.known)
