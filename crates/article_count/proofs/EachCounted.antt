@@ -2,8 +2,8 @@
 use Rattle.std.proofs.Common.{◌≡◌, ℕ, ◌+◌, ◌<◌, ◌≤◌, List, [], ◌∷◌, length, drop, get_or, refl, sym, ap, subst, ◌∙◌}
 use Rattle.std.proofs.lemmas.List.{drop_all, drop_more}
 use Rattle.hol_term.specs.Tables.{Trees}
-use Rattle.writing_spec.specs.Lengths.{Tally, add, count_each, capped}
-use Rattle.writing_spec.specs.ArticleLength.{list_length, count_list}
+use Rattle.article_write_spec.specs.Lengths.{Tally, add, count_each, capped}
+use Rattle.article_write_spec.specs.ArticleLength.{list_length, count_list}
 use Rattle.article_lines.specs.Greatest.{greatest_length}
 use Rattle.article_count.specs.declared.terms.TermCount.{TermCount}
 use Rattle.article_count.specs.Counts.{added}

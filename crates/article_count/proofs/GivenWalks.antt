@@ -8,10 +8,10 @@ use Rattle.hol_term.specs.declared.TermId.{TermId}
 use Rattle.hol_term.specs.declared.Variable.{Variable as AVariable}
 use Rattle.hol_term.specs.Substitutions.{term_pairs_at}
 use Rattle.hol_term.specs.Tables.{Trees}
-use Rattle.writing_spec.specs.Drafts.{Kept}
-use Rattle.writing_spec.specs.Lengths.{name_length, Tally, add}
-use Rattle.writing_spec.specs.TermLengths.{count_type, count_variable}
-use Rattle.writing_laws.specs.CountedOnce.{type-notes}
+use Rattle.article_write_spec.specs.Drafts.{Kept}
+use Rattle.article_write_spec.specs.Lengths.{name_length, Tally, add}
+use Rattle.article_write_spec.specs.TermLengths.{count_type, count_variable}
+use Rattle.article_write_laws.specs.CountedOnce.{type-notes}
 use Rattle.article_count.specs.declared.tally.Count.{Count}
 use Rattle.article_count.specs.declared.terms.TermCount.{TermCount}
 use Rattle.article_count.specs.Counts.{Counts}

@@ -10,13 +10,13 @@ use Rattle.hol_spec.specs.Rules.{Parameters}
 use Rattle.hol_spec.specs.Proofs.{Step}
 use Rattle.hol_spec.specs.declared.StepKind.{StepKind}
 use Rattle.hol_spec.specs.declared.StepKind.TheVariants.{Axiom, Restate, DefineConst, DefineConstList, FirstLaw, SecondLaw}
-use Rattle.writing_spec.specs.Drafts.{Kept, kept_eq}
-use Rattle.writing_spec.specs.Lengths.{name_length, word_length, Tally, key_in, add, count_each}
-use Rattle.writing_spec.specs.TermLengths.{count_type, count_variable, count_under}
-use Rattle.writing_spec.specs.ArticleLength.{count_list, count_pair, count_premise, count_theorem, count_made, count_given, count_by, count_inferred, count_assumption}
-use Rattle.writing_spec.specs.WrittenSteps.{word_of}
-use Rattle.writing_laws.specs.KeptOnce.{no-key, IsTypeUpTo, IsTermUpTo}
-use Rattle.writing_laws.specs.CountedOnce.{type-notes, term-notes}
+use Rattle.article_write_spec.specs.Drafts.{Kept, kept_eq}
+use Rattle.article_write_spec.specs.Lengths.{name_length, word_length, Tally, key_in, add, count_each}
+use Rattle.article_write_spec.specs.TermLengths.{count_type, count_variable, count_under}
+use Rattle.article_write_spec.specs.ArticleLength.{count_list, count_pair, count_premise, count_theorem, count_made, count_given, count_by, count_inferred, count_assumption}
+use Rattle.article_write_spec.specs.WrittenSteps.{word_of}
+use Rattle.article_write_laws.specs.KeptOnce.{no-key, IsTypeUpTo, IsTermUpTo}
+use Rattle.article_write_laws.specs.CountedOnce.{type-notes, term-notes}
 
 module _ (j : ℕ) where
   -- theorem j still has no key

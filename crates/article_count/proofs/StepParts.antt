@@ -12,9 +12,9 @@ use Rattle.hol_spec.specs.declared.StepKind.TheVariants.{Axiom, Restate, DefineC
 use Rattle.hol_type.specs.Tables as type
 use Rattle.hol_term.specs.Tables.{Trees, IsDistinct}
 use Rattle.article_spec.specs.declared.commands.Word.TheVariants as word
-use Rattle.writing_spec.specs.ArticleLength.{count_by, count_inferred, count_premise, count_theorem, count_made}
-use Rattle.writing_spec.specs.Drafts.{Kept}
-use Rattle.writing_spec.specs.Lengths.{word_length, told_length, key_length, Tally, capped}
+use Rattle.article_write_spec.specs.ArticleLength.{count_by, count_inferred, count_premise, count_theorem, count_made}
+use Rattle.article_write_spec.specs.Drafts.{Kept}
+use Rattle.article_write_spec.specs.Lengths.{word_length, told_length, key_length, Tally, capped}
 use Rattle.article_lines.specs.declared.keys.Thing.{Thing}
 use Rattle.article_lines.specs.declared.keys.Thing.TheVariants as thing
 use Rattle.article_lines.specs.Greatest.{greatest_length}

@@ -8,10 +8,10 @@ use Rattle.hol_spec.specs.declared.StepKind.{StepKind}
 use Rattle.hol_spec.specs.declared.StepKind.TheVariants.{FirstLaw, SecondLaw}
 use Rattle.hol_term.specs.Tables.{Trees}
 use Rattle.hol_rules.specs.Views.{step_in}
-use Rattle.writing_spec.specs.ArticleLength.{count_by, count_step}
-use Rattle.writing_spec.specs.Drafts.{Kept}
-use Rattle.writing_spec.specs.Lengths.{Tally, count_each}
-use Rattle.writing_laws.specs.Flags.{selected}
+use Rattle.article_write_spec.specs.ArticleLength.{count_by, count_step}
+use Rattle.article_write_spec.specs.Drafts.{Kept}
+use Rattle.article_write_spec.specs.Lengths.{Tally, count_each}
+use Rattle.article_write_laws.specs.Flags.{selected}
 use Rattle.article_lines.specs.declared.keys.Thing.TheVariants as thing
 use Rattle.article_lines.specs.Flagged.{flag, AreExports, ArePairs}
 use Rattle.article_lines.specs.NewSteps.{IsNewStep}

@@ -4,7 +4,7 @@ use Rattle.std.specs.Option.{option_map}
 use Rattle.std.proofs.lemmas.List.{length-map}
 use Rattle.hol_laws.specs.Members.{All-append}
 use Rattle.hol_term.specs.Tables.{Trees}
-use Rattle.writing_spec.specs.Lengths.{Tally, told_length, key_in, add, note, capped}
+use Rattle.article_write_spec.specs.Lengths.{Tally, told_length, key_in, add, note, capped}
 use Rattle.article_lines.specs.declared.keys.Thing.{Thing}
 use Rattle.article_count.specs.declared.tally.Count.{Count}
 use Rattle.article_lines.specs.Greatest.{greatest_length}

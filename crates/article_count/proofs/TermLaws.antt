@@ -11,12 +11,12 @@ use Rattle.hol_spec.specs.Terms.{Term}
 use Rattle.hol_spec.specs.TermBinding.{loose}
 use Rattle.hol_term.specs.Tables.{Trees, term_at}
 use Rattle.article_spec.specs.declared.commands.Word.TheVariants as word
-use Rattle.writing_spec.specs.BinderNames.{binder_name}
-use Rattle.writing_spec.specs.Drafts.{Kept, kept_eq}
-use Rattle.writing_spec.specs.Lengths.{name_length, word_length, told_length, Tally, key_in, key_length, add, note, count_once_at, capped}
-use Rattle.writing_spec.specs.TermLengths.{count_type, count_variable, binder_length, count_binder, closed_or, count_closed, count_under, place_length, HasKey, closed_has, AreKept}
-use Rattle.writing_laws.specs.KeptOnce.{no-key, new-place, IsTypeUpTo}
-use Rattle.writing_laws.specs.CountedOnce.{type-notes, term-notes, app-unnoted, lam-unnoted, place-stays, count-placed, kept-counted, kept-stay}
+use Rattle.article_write_spec.specs.BinderNames.{binder_name}
+use Rattle.article_write_spec.specs.Drafts.{Kept, kept_eq}
+use Rattle.article_write_spec.specs.Lengths.{name_length, word_length, told_length, Tally, key_in, key_length, add, note, count_once_at, capped}
+use Rattle.article_write_spec.specs.TermLengths.{count_type, count_variable, binder_length, count_binder, closed_or, count_closed, count_under, place_length, HasKey, closed_has, AreKept}
+use Rattle.article_write_laws.specs.KeptOnce.{no-key, new-place, IsTypeUpTo}
+use Rattle.article_write_laws.specs.CountedOnce.{type-notes, term-notes, app-unnoted, lam-unnoted, place-stays, count-placed, kept-counted, kept-stay}
 use Rattle.article_count.specs.declared.memo.Memo.{Memo}
 use Rattle.article_lines.specs.Greatest.{greatest_length}
 use Rattle.article_count.specs.TermTasks.{ArePlaces, behind, note_if, term_made, IsFinishing, ArePartsMade}

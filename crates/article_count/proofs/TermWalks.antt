@@ -14,11 +14,11 @@ use Rattle.article_count.specs.Noted.{IsNoted}
 use Rattle.hol_type.specs.declared.table.TypeId.{TypeId}
 use Rattle.hol_term.specs.Tables.{Trees, term_at, type_at}
 use Rattle.article_spec.specs.declared.commands.Word.TheVariants as word
-use Rattle.writing_spec.specs.BinderNames.{binder_name}
-use Rattle.writing_spec.specs.Drafts.{Kept}
-use Rattle.writing_spec.specs.Lengths.{name_length, word_length, told_length, key_length, Tally, key_in, add, note, capped}
-use Rattle.writing_spec.specs.TermLengths.{count_type, count_variable, uses, binder_length, count_under, number_length, place_length, AreKept}
-use Rattle.writing_laws.specs.CountedOnce.{type-notes}
+use Rattle.article_write_spec.specs.BinderNames.{binder_name}
+use Rattle.article_write_spec.specs.Drafts.{Kept}
+use Rattle.article_write_spec.specs.Lengths.{name_length, word_length, told_length, key_length, Tally, key_in, add, note, capped}
+use Rattle.article_write_spec.specs.TermLengths.{count_type, count_variable, uses, binder_length, count_under, number_length, place_length, AreKept}
+use Rattle.article_write_laws.specs.CountedOnce.{type-notes}
 use Rattle.article_lines.specs.declared.keys.Thing.TheVariants as thing
 use Rattle.article_count.specs.declared.memo.Memo.{Memo}
 use Rattle.article_count.specs.declared.memo.Place.{Place}

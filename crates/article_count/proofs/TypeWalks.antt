@@ -10,10 +10,10 @@ use Rattle.hol_type.specs.declared.table.TypeId.{TypeId}
 use Rattle.hol_type.specs.Tables.{types_at, AreKnown}
 use Rattle.hol_term.specs.Tables.{Trees, type_at}
 use Rattle.article_spec.specs.declared.commands.Word.TheVariants as word
-use Rattle.writing_spec.specs.Drafts.{Kept}
-use Rattle.writing_spec.specs.Lengths.{name_length, word_length, told_length, Tally, key_in, add, note, count_once_at, capped}
-use Rattle.writing_spec.specs.TermLengths.{count_type, count_types}
-use Rattle.writing_laws.specs.CountedOnce.{type-unnoted}
+use Rattle.article_write_spec.specs.Drafts.{Kept}
+use Rattle.article_write_spec.specs.Lengths.{name_length, word_length, told_length, Tally, key_in, add, note, count_once_at, capped}
+use Rattle.article_write_spec.specs.TermLengths.{count_type, count_types}
+use Rattle.article_write_laws.specs.CountedOnce.{type-unnoted}
 use Rattle.article_lines.specs.declared.keys.Thing.TheVariants as thing
 use Rattle.article_count.specs.declared.tally.Count.{Count}
 use Rattle.article_count.specs.declared.types.TypeTask.{TypeTask}

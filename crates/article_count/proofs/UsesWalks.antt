@@ -6,9 +6,9 @@ use Rattle.hol_spec.specs.Terms.{Term}
 use Rattle.hol_spec.specs.Limits.{term_size}
 use Rattle.article_count.specs.Noted.{IsNoted}
 use Rattle.hol_term.specs.Tables.{Trees, term_at}
-use Rattle.writing_spec.specs.Lengths.{capped}
-use Rattle.writing_spec.specs.TermLengths.{uses}
-use Rattle.writing_laws.specs.CountedTerms.{uses-none}
+use Rattle.article_write_spec.specs.Lengths.{capped}
+use Rattle.article_write_spec.specs.TermLengths.{uses}
+use Rattle.article_write_laws.specs.CountedTerms.{uses-none}
 use Rattle.article_count.specs.declared.memo.Place.{Place}
 use Rattle.article_count.specs.declared.uses.UsesTask.{UsesTask}
 use Rattle.article_count.specs.declared.uses.UsesTask.TheVariants as task

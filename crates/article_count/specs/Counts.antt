@@ -6,8 +6,8 @@ use Rattle.hol_spec.specs.Types.{HolType}
 use Rattle.hol_type.specs.declared.table.TypeId.{TypeId}
 use Rattle.hol_term.specs.Tables.{Trees, type_at}
 use Rattle.article_spec.specs.declared.commands.Word.TheVariants as word
-use Rattle.writing_spec.specs.Lengths.{Tally, add, name_length, word_length, told_length, capped}
-use Rattle.writing_spec.specs.TermLengths.{count_type, count_variable}
+use Rattle.article_write_spec.specs.Lengths.{Tally, add, name_length, word_length, told_length, capped}
+use Rattle.article_write_spec.specs.TermLengths.{count_type, count_variable}
 use Rattle.article_count.specs.declared.tally.Count.{Count}
 use Rattle.article_lines.specs.declared.keys.Thing.{Thing}
 use Rattle.article_lines.specs.declared.keys.Thing.TheVariants as thing

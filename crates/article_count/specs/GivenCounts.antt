@@ -8,9 +8,9 @@ use Rattle.hol_type.specs.Tables.{pairs_at}
 use Rattle.hol_term.specs.Tables.{Trees}
 use Rattle.hol_term.specs.Substitutions.{term_pairs_at}
 use Rattle.hol_rules.specs.declared.made.Substitution.{Substitution}
-use Rattle.writing_spec.specs.Lengths.{name_length, Tally, add}
-use Rattle.writing_spec.specs.TermLengths.{count_type, count_variable, count_under}
-use Rattle.writing_spec.specs.ArticleLength.{count_pair}
+use Rattle.article_write_spec.specs.Lengths.{name_length, Tally, add}
+use Rattle.article_write_spec.specs.TermLengths.{count_type, count_variable, count_under}
+use Rattle.article_write_spec.specs.ArticleLength.{count_pair}
 
 -- a type variable, and the type that is put for it
 abbrev pub type_pair : Name × HolType → Tally → Tally

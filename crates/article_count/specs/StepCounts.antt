@@ -6,12 +6,12 @@ use Rattle.hol_spec.specs.declared.StepKind.TheVariants.{FirstLaw, SecondLaw}
 use Rattle.hol_spec.specs.declared.Version.{Version}
 use Rattle.hol_term.specs.Tables.{Trees}
 use Rattle.hol_rules.specs.Views.{step_in}
-use Rattle.writing_spec.specs.Article.{version_items}
-use Rattle.writing_spec.specs.ArticleLength.{count_by, count_step}
-use Rattle.writing_spec.specs.Drafts.{Kept}
-use Rattle.writing_spec.specs.Lengths.{capped, items_length, Tally, key_in, count_each}
-use Rattle.writing_spec.specs.ReachedSteps.{Numbered}
-use Rattle.writing_laws.specs.Flags.{selected}
+use Rattle.article_write_spec.specs.Article.{version_items}
+use Rattle.article_write_spec.specs.ArticleLength.{count_by, count_step}
+use Rattle.article_write_spec.specs.Drafts.{Kept}
+use Rattle.article_write_spec.specs.Lengths.{capped, items_length, Tally, key_in, count_each}
+use Rattle.article_write_spec.specs.ReachedSteps.{Numbered}
+use Rattle.article_write_laws.specs.Flags.{selected}
 use Rattle.article_lines.specs.Flagged.{flag}
 use Rattle.article_lines.specs.Greatest.{greatest_length}
 use Rattle.article_lines.specs.NewSteps.{AreNewLaws, IsNew}

@@ -8,10 +8,10 @@ use Rattle.hol_type.specs.declared.table.TypeId.{TypeId}
 use Rattle.hol_term.specs.declared.TermId.{TermId}
 use Rattle.hol_term.specs.Tables.{Trees, term_at}
 use Rattle.article_spec.specs.declared.commands.Word.TheVariants as word
-use Rattle.writing_spec.specs.BinderNames.{binder_name}
-use Rattle.writing_spec.specs.Drafts.{Kept}
-use Rattle.writing_spec.specs.Lengths.{name_length, word_length, Tally, key_in, add, note, capped}
-use Rattle.writing_spec.specs.TermLengths.{count_binder, count_under, place_length, AreKept}
+use Rattle.article_write_spec.specs.BinderNames.{binder_name}
+use Rattle.article_write_spec.specs.Drafts.{Kept}
+use Rattle.article_write_spec.specs.Lengths.{name_length, word_length, Tally, key_in, add, note, capped}
+use Rattle.article_write_spec.specs.TermLengths.{count_binder, count_under, place_length, AreKept}
 use Rattle.article_count.specs.declared.memo.Memo.{Memo}
 use Rattle.article_count.specs.declared.memo.Place.{Place}
 use Rattle.article_count.specs.declared.terms.TermTask.{TermTask}

@@ -5,9 +5,9 @@ use Rattle.hol_spec.specs.Limits.{type_size}
 use Rattle.hol_type.specs.declared.table.TypeId.{TypeId}
 use Rattle.hol_term.specs.Tables.{Trees, type_at}
 use Rattle.article_spec.specs.declared.commands.Word.TheVariants as word
-use Rattle.writing_spec.specs.Drafts.{Kept}
-use Rattle.writing_spec.specs.Lengths.{word_length, Tally, key_in, add, note}
-use Rattle.writing_spec.specs.TermLengths.{count_type}
+use Rattle.article_write_spec.specs.Drafts.{Kept}
+use Rattle.article_write_spec.specs.Lengths.{word_length, Tally, key_in, add, note}
+use Rattle.article_write_spec.specs.TermLengths.{count_type}
 use Rattle.article_count.specs.declared.tally.Count.{Count}
 use Rattle.article_count.specs.declared.types.TypeTask.{TypeTask}
 use Rattle.article_count.specs.declared.types.TypeTask.TheVariants as task

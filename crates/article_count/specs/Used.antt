@@ -4,8 +4,8 @@ use Rattle.hol_spec.specs.Limits.{term_size}
 use Rattle.article_count.specs.Noted.{IsNoted}
 use Rattle.hol_term.specs.declared.TermId.{TermId}
 use Rattle.hol_term.specs.Tables.{Trees, term_at}
-use Rattle.writing_spec.specs.Lengths.{capped}
-use Rattle.writing_spec.specs.TermLengths.{uses}
+use Rattle.article_write_spec.specs.Lengths.{capped}
+use Rattle.article_write_spec.specs.TermLengths.{uses}
 use Rattle.article_count.specs.declared.memo.Memo.{Memo}
 use Rattle.article_count.specs.declared.memo.Place.{Place}
 use Rattle.article_count.specs.declared.uses.UsesTask.{UsesTask}

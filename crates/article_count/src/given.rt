@@ -6,9 +6,9 @@ ghost use Rattle.hol_term.specs.Tables.{Trees, term_at, terms_at, type_at, AreKn
 ghost use Rattle.hol_defs.specs.Lists.{pairs_at, variable_at, ArePairsKnown};
 ghost use Rattle.sequent.specs.Sequents.{sequent_at, IsKnown};
 ghost use Rattle.hol_rules.specs.Views.{parameters_view, AreParametersKnown};
-ghost use Rattle.writing_spec.specs.Lengths.{add, name_length as name_length_of};
-ghost use Rattle.writing_spec.specs.TermLengths.{count_under, count_variable as count_of_variable};
-ghost use Rattle.writing_spec.specs.ArticleLength.{count_given as count_of_given, count_list, count_sequent as count_of_sequent};
+ghost use Rattle.article_write_spec.specs.Lengths.{add, name_length as name_length_of};
+ghost use Rattle.article_write_spec.specs.TermLengths.{count_under, count_variable as count_of_variable};
+ghost use Rattle.article_write_spec.specs.ArticleLength.{count_given as count_of_given, count_list, count_sequent as count_of_sequent};
 ghost use Rattle.article_count.specs.GivenCounts.{constant_pair, put_at, term_pair, type_pair};
 ghost use Rattle.article_count.specs.TermTasks.{CanCountTerms, CountsTerms};
 

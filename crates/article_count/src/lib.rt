@@ -1,6 +1,6 @@
 //! The length of the article of the steps that a run tells, counted without writing it.
 //!
-//! [`article_length`] counts step by step what these steps add to the text, as it is defined (`ArticleLength` of `writing_spec`). A length past the
+//! [`article_length`] counts step by step what these steps add to the text, as it is defined (`ArticleLength` of `article_write_spec`). A length past the
 //! greatest `u128` is told as that number. It makes no part of the text, and walks over none: a type, a term without loose numbers and a theorem are
 //! counted at their first place as they are built, and later by their key. A part with loose numbers is written anew at each of its places; what it adds
 //! there is noted for each number of binders that it stands under, so that however often it stands there it is counted once.

@@ -1,7 +1,7 @@
 //! An article as far as it is counted: its keys and its length.
 ghost use Rattle.std.specs.Prelude.{◌≡◌, None, length};
 ghost use Rattle.std.specs.Option.{option_map};
-ghost use Rattle.writing_spec.specs.Lengths.{told_length as told_length_of};
+ghost use Rattle.article_write_spec.specs.Lengths.{told_length as told_length_of};
 ghost use Rattle.article_count.specs.Counts.{added, noted, told};
 ghost use Rattle.article_lines.specs.Things.{thing_key, HasRoom};
 

@@ -1,7 +1,7 @@
 //! The count of a type.
 ghost use Rattle.std.specs.Prelude.{◌≡◌, ◌<◌, ◌∷◌, List, length, None, OnOk};
 ghost use Rattle.hol_term.specs.Tables.{type_at};
-ghost use Rattle.writing_spec.specs.TermLengths.{count_type as count_of_type};
+ghost use Rattle.article_write_spec.specs.TermLengths.{count_type as count_of_type};
 ghost use Rattle.article_lines.specs.declared.keys.Thing.TheVariants as thing;
 ghost use Rattle.article_count.specs.declared.types.TypeTask.{TypeTask};
 ghost use Rattle.article_count.specs.declared.types.TypeTask.TheVariants as the_task;

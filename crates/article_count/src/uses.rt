@@ -2,8 +2,8 @@
 ghost use Rattle.std.specs.Prelude.{◌≡◌, ◌<◌, ◌∷◌, if◌then◌else◌, length, IfOk, OnOk};
 ghost use Rattle.hol_term.specs.Tables.{term_at};
 ghost use Rattle.hol_term.specs.Walks.{NotEmpty};
-ghost use Rattle.writing_spec.specs.Lengths.{capped};
-ghost use Rattle.writing_spec.specs.TermLengths.{uses as uses_of};
+ghost use Rattle.article_write_spec.specs.Lengths.{capped};
+ghost use Rattle.article_write_spec.specs.TermLengths.{uses as uses_of};
 ghost use Rattle.article_count.specs.declared.uses.UsesTask.TheVariants as the_task;
 ghost use Rattle.article_lines.specs.Greatest.{greatest_length};
 ghost use Rattle.article_count.specs.LooseNumbers.{AreLoose};

@@ -15,9 +15,9 @@ use Rattle.hol_spec.specs.Symbols.{Symbol, generic_type, operator_arity, new_con
 use Rattle.hol_spec.specs.Taken.{OperatorTaken, TypeTaken, TypesTaken, TermTaken}
 use Rattle.hol_spec.specs.Rules.{abstraction}
 use Rattle.hol_spec.specs.Proofs.{Made, symbols_of}
-use Rattle.proof_laws.specs.TakenTerms.{close-taken}
-use Rattle.proof_laws.specs.SymbolGrowth.{type-more, types-more}
-use Rattle.proof_laws.specs.ProofLaws.{symbols_of-symbols}
+use Rattle.hol_proof_laws.specs.TakenTerms.{close-taken}
+use Rattle.hol_proof_laws.specs.SymbolGrowth.{type-more, types-more}
+use Rattle.hol_proof_laws.specs.ProofLaws.{symbols_of-symbols}
 use Rattle.article_spec.specs.State.{State}
 use Rattle.article_spec.specs.Conditions.{arity_fits, generic_fits}
 use Rattle.article_laws.specs.Moves.{with_operator, with_constant}

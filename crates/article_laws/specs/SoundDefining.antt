@@ -27,27 +27,27 @@ use Rattle.hol_spec.specs.Definitions.{Definition, TypeNames}
 use Rattle.hol_spec.specs.Defining.{is_closed, has_type_variables_of}
 use Rattle.hol_spec.specs.Repeats.{no_repeats}
 use Rattle.hol_spec.specs.Equations.{Equation, equation_parts}
-use Rattle.proof_laws.specs.EquationLaws.{equation_parts-is, equation-sides}
+use Rattle.hol_proof_laws.specs.EquationLaws.{equation_parts-is, equation-sides}
 use Rattle.hol_spec.specs.DefinitionLists.{ConstantPairs, names_of, variables_of, variable_side, of_equation, variable_equation, defining_equations, definiens, is_definition_list, definitions_in}
 use Rattle.hol_spec.specs.TypeDefinitions.{IsTypeDefinition, are_type_variables_of, first_law_of, second_law_of}
 use Rattle.hol_spec.specs.Symbols.{Symbol, defined, generic_type, is_input_constant, is_taken_constant}
-use Rattle.proof_laws.specs.SymbolGrowth.{symmetric, generic_type-new, term-more, type-more}
+use Rattle.hol_proof_laws.specs.SymbolGrowth.{symmetric, generic_type-new, term-more, type-more}
 use Rattle.hol_spec.specs.Taking.{AreNew}
 use Rattle.hol_spec.specs.Taking as taking
 use Rattle.hol_spec.specs.Taken.{TypeTaken, TermTaken, TermsTaken}
-use Rattle.proof_laws.specs.TakenTerms.{type_of-taken, sides}
+use Rattle.hol_proof_laws.specs.TakenTerms.{type_of-taken, sides}
 use Rattle.hol_laws.specs.Members.{All-weaker}
 use Rattle.hol_laws.specs.PlaceLaws.{slice_get-append}
 use Rattle.hol_spec.specs.Rules.{Parameters, IsDefining}
 use Rattle.hol_spec.specs.Rules as rule
-use Rattle.proof_laws.specs.RuleTaken.{lookup-All, list_parts}
-use Rattle.proof_laws.specs.RuleSequents.{predicate-typed}
+use Rattle.hol_proof_laws.specs.RuleTaken.{lookup-All, list_parts}
+use Rattle.hol_proof_laws.specs.RuleSequents.{predicate-typed}
 use Rattle.hol_spec.specs.Derivations.{type_definition_in}
-use Rattle.proof_laws.specs.StepsDerive.{among-front}
+use Rattle.hol_proof_laws.specs.StepsDerive.{among-front}
 use Rattle.hol_spec.specs.Limits.{SequentWithin}
 use Rattle.hol_spec.specs.Proofs.{Made, Step, symbols_of, steps_of, sequents_of, sequent_at, definitions_of}
-use Rattle.proof_laws.specs.ProofGrowth.{All-get, symbols_of-append, sequents_of-append, definitions_of-append, over-sequents}
-use Rattle.proof_laws.specs.ProofLaws.{symbols_of-symbols}
+use Rattle.hol_proof_laws.specs.ProofGrowth.{All-get, symbols_of-append, sequents_of-append, definitions_of-append, over-sequents}
+use Rattle.hol_proof_laws.specs.ProofLaws.{symbols_of-symbols}
 use Rattle.hol_spec.specs.declared.StepKind.TheVariants as by_rule
 use Rattle.article_spec.specs.State.{State, version_at}
 use Rattle.article_spec.specs.Conditions.{demand, in_limits, typed}

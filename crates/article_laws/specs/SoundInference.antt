@@ -15,14 +15,14 @@ use Rattle.hol_laws.specs.TermSubstitutionLaws.{application_type-is}
 use Rattle.hol_spec.specs.Sequents.{Sequent, IsSequent}
 use Rattle.common.specs.declared.faults.Kind.TheVariants.{NotBool, NotEquation, TypeMismatch, NotAlike, VarInHyps, NotRedex, BadSubst}
 use Rattle.hol_spec.specs.Equations.{Equation, equation_parts}
-use Rattle.proof_laws.specs.EquationLaws.{equation_parts-is, equation-sides}
+use Rattle.hol_proof_laws.specs.EquationLaws.{equation_parts-is, equation-sides}
 use Rattle.hol_spec.specs.Taken.{TypeTaken, TermTaken, ParametersTaken}
 use Rattle.hol_spec.specs.Derivations.{definitions_used, infers, type_definition_in}
 use Rattle.hol_laws.specs.Members.{All-weaker}
 use Rattle.hol_spec.specs.Rules.{Parameters, derived, is_free_in, Rule}
 use Rattle.hol_spec.specs.Rules as rule
 use Rattle.hol_spec.specs.Proofs.{Step, symbols_of, steps_of, sequents_of, sequent_at, definitions_of, ArePremises, Made, IsLawOfDefinition}
-use Rattle.proof_laws.specs.ProofGrowth.{All-get, proof-sequents}
+use Rattle.hol_proof_laws.specs.ProofGrowth.{All-get, proof-sequents}
 use Rattle.hol_spec.specs.declared.StepKind.TheVariants as by_rule
 use Rattle.article_spec.specs.State.{State}
 use Rattle.article_spec.specs.Conditions.{demand, typed, has_type, is_of_type, equation_of}

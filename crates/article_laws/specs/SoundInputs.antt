@@ -14,7 +14,7 @@ use Rattle.hol_spec.specs.Symbols.{Symbol, input_constant, input_operator, gener
 use Rattle.hol_spec.specs.Taking as taking
 use Rattle.hol_spec.specs.Taken.{OperatorTaken, ConstantTaken}
 use Rattle.hol_spec.specs.Taken as taken
-use Rattle.proof_laws.specs.SymbolGrowth.{any-left, any-right, operator-more, constant-more}
+use Rattle.hol_proof_laws.specs.SymbolGrowth.{any-left, any-right, operator-more, constant-more}
 use Rattle.hol_spec.specs.Proofs.{Made, symbols_of}
 use Rattle.article_spec.specs.Conditions.{arity_fits, generic_fits}
 use Rattle.article_laws.specs.SoundStates.{AreTakenAfter, demanded}

@@ -12,14 +12,14 @@ use Rattle.hol_spec.specs.Symbols.{Symbol}
 use Rattle.hol_spec.specs.Definitions.{Definition, TypeNames}
 use Rattle.hol_spec.specs.Taking.{Takes}
 use Rattle.hol_spec.specs.Taken.{TypeTaken, TermTaken, TermsTaken, ParametersTaken, DefinitionTaken, SymbolTaken}
-use Rattle.proof_laws.specs.SymbolGrowth.{type-more, term-more}
+use Rattle.hol_proof_laws.specs.SymbolGrowth.{type-more, term-more}
 use Rattle.hol_spec.specs.Rules.{Rule}
-use Rattle.proof_laws.specs.RuleTaken.{rule-taken}
+use Rattle.hol_proof_laws.specs.RuleTaken.{rule-taken}
 use Rattle.hol_spec.specs.Derivations.{definitions_used, infers}
 use Rattle.hol_laws.specs.Members.{All-weaker}
 use Rattle.hol_spec.specs.Proofs.{Made, Step, symbols_of, steps_of, sequents_of, sequent_at, definitions_of, ArePremises, IsLawOfDefinition, IsDefinedBy, IsPlain, IsMade}
 use Rattle.hol_spec.specs.Proofs as made
-use Rattle.proof_laws.specs.ProofGrowth.{symbols_of-append, steps_of-append, All-among, premises-All, over-sequents, proof-definitions}
+use Rattle.hol_proof_laws.specs.ProofGrowth.{symbols_of-append, steps_of-append, All-among, premises-All, over-sequents, proof-definitions}
 use Rattle.hol_spec.specs.Over.{IsMadeOver}
 use Rattle.article_spec.specs.State.{Object, Objects, number, name, list, type_operator, type, constant, variable, term, theorem, none, more}
 use Rattle.article_laws.specs.Parts.{AreOf}

@@ -11,7 +11,7 @@ use Rattle.hol_laws.specs.ListLaws.{distinct-IsDistinct, union-All}
 use Rattle.hol_spec.specs.Sequents.{Sequent, IsSequent, within, same}
 use Rattle.common.specs.declared.faults.Kind.TheVariants.{NotBool, NotTheSequent}
 use Rattle.hol_spec.specs.Taken.{TermTaken, TermsTaken}
-use Rattle.proof_laws.specs.SymbolGrowth.{symmetric}
+use Rattle.hol_proof_laws.specs.SymbolGrowth.{symmetric}
 use Rattle.hol_laws.specs.Members.{All-weaker}
 use Rattle.hol_spec.specs.Limits.{SequentWithin}
 use Rattle.hol_spec.specs.Derivations.{infers}

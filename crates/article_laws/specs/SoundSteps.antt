@@ -6,8 +6,8 @@ use Rattle.article_spec.specs.declared.commands.Command.{Command}
 use Rattle.hol_spec.specs.Derivations.{Derives}
 use Rattle.hol_spec.specs.Proofs.{steps_of, sequents_of, sequent_at, definitions_of, assumptions_of, Accepted}
 use Rattle.hol_spec.specs.Proofs as made
-use Rattle.proof_laws.specs.ProofGrowth.{All-get}
-use Rattle.proof_laws.specs.StepsDerive.{proof-derives}
+use Rattle.hol_proof_laws.specs.ProofGrowth.{All-get}
+use Rattle.hol_proof_laws.specs.StepsDerive.{proof-derives}
 use Rattle.article_spec.specs.State.{State, initial}
 use Rattle.article_spec.specs.Step.{step, finish}
 use Rattle.article_spec.specs.Run.{accepted_state}

@@ -8,7 +8,7 @@ use Rattle.std.specs.FinMap as entries
 use Rattle.hol_laws.specs.TypeLaws.{coded_name, coded_type}
 use Rattle.hol_laws.specs.TermLaws.{coded_term, coded_variable}
 use Rattle.hol_spec.specs.Proofs.{Made}
-use Rattle.proof_laws.specs.ProofCodes.{coded_made}
+use Rattle.hol_proof_laws.specs.ProofCodes.{coded_made}
 use Rattle.article_spec.specs.State.{Object, Objects, number, name, list, type_operator, type, constant, variable, term, theorem, none, more, Stage, start, version, body, State}
 
 mutual

@@ -8,10 +8,10 @@ use Rattle.hol_spec.specs.Names.{backslash, quote}
 use Rattle.article_spec.specs.Lines.{newline}
 use Rattle.article_spec.specs.Numbers.{is_digit}
 use Rattle.article_spec.specs.declared.commands.Item.TheVariants as item
-use Rattle.writing_spec.specs.BinderNames.{binder_front, binder_name}
-use Rattle.writing_spec.specs.ItemTexts.{is_escaped, component_text}
-use Rattle.writing_spec.specs.Lengths.{name_length}
-use Rattle.writing_laws.specs.NumberTextLaws.{decimal-HasValue}
+use Rattle.article_write_spec.specs.BinderNames.{binder_front, binder_name}
+use Rattle.article_write_spec.specs.ItemTexts.{is_escaped, component_text}
+use Rattle.article_write_spec.specs.Lengths.{name_length}
+use Rattle.article_write_laws.specs.NumberTextLaws.{decimal-HasValue}
 use Rattle.article_lines.specs.Writing.{line}
 
 -- where no byte is escaped, a component is its own text

@@ -6,7 +6,7 @@ use Rattle.hol_spec.specs.Names.{Name, quote, dot, backslash}
 use Rattle.article_spec.specs.declared.commands.Item.{Item}
 use Rattle.article_spec.specs.declared.commands.Item.TheVariants as item
 use Rattle.article_spec.specs.Lines.{newline}
-use Rattle.writing_spec.specs.ItemTexts.{is_escaped, component_text, components_text, text_of}
+use Rattle.article_write_spec.specs.ItemTexts.{is_escaped, component_text, components_text, text_of}
 use Rattle.article_lines.specs.Writing.{line, byte_text, behind_text, pieces_text, rest_text}
 
 -- Parts one behind the other

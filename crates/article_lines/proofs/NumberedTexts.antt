@@ -11,8 +11,8 @@ use Rattle.std.proofs.lemmas.Bool.Decides.{nat_tests, Decides-eqb}
 use Rattle.hol_spec.specs.Names.{Name}
 use Rattle.article_spec.specs.Numbers.{is_digit}
 use Rattle.article_spec.specs.Numbers as numbers
-use Rattle.writing_spec.specs.BinderNames.{binder_front, are_digits, is_binder_name}
-use Rattle.writing_laws.specs.NumberTextLaws.{decimal-HasValue}
+use Rattle.article_write_spec.specs.BinderNames.{binder_front, are_digits, is_binder_name}
+use Rattle.article_write_laws.specs.NumberTextLaws.{decimal-HasValue}
 use Rattle.article_lines.specs.Numbered.{IsNumbered, IsConfirmed, HasNone, IsFirst}
 
 -- Digits

@@ -7,8 +7,8 @@ use Rattle.std.proofs.lemmas.List.{length-append}
 use Rattle.hol_laws.specs.Members.{All-append, All-weaker}
 use Rattle.hol_spec.specs.Proofs.{Made, Step, steps_of, IsProof}
 use Rattle.hol_spec.specs.Proofs as made
-use Rattle.proof_laws.specs.ProofGrowth.{steps_of-append}
-use Rattle.writing_laws.specs.Prefixes.{premises-below}
+use Rattle.hol_proof_laws.specs.ProofGrowth.{steps_of-append}
+use Rattle.article_write_laws.specs.Prefixes.{premises-below}
 
 -- the premises are among so many steps
 abbrev pub ArePremisesBelow : ℕ → Step → Type 0

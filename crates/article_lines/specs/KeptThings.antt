@@ -12,8 +12,8 @@ use Rattle.hol_type.specs.Tables as type
 use Rattle.hol_type.specs.TableLaws as type_law
 use Rattle.hol_term.specs.Tables.{Trees, type_at, term_at, IsDistinct}
 use Rattle.hol_term.specs.TableLaws.{term_in-Some}
-use Rattle.writing_spec.specs.Drafts.{Kept, kept_eq}
-use Rattle.writing_spec.specs.Lengths.{key_in}
+use Rattle.article_write_spec.specs.Drafts.{Kept, kept_eq}
+use Rattle.article_write_spec.specs.Lengths.{key_in}
 use Rattle.article_lines.specs.declared.keys.Thing.{Thing}
 use Rattle.article_lines.specs.declared.keys.Thing.TheVariants as thing
 use Rattle.article_lines.specs.Things.{thing_eq, IsOneOf}

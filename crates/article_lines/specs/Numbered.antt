@@ -2,7 +2,7 @@
 use Rattle.std.specs.Prelude.{◌≡◌, ◌≢◌, ◌++◌, ◌∷◌, ℕ, true, Some, List, slice_get, take}
 use Rattle.std.specs.List.{AllByRecursion}
 use Rattle.std.specs.Fmt.{decimal}
-use Rattle.writing_spec.specs.BinderNames.{are_digits}
+use Rattle.article_write_spec.specs.BinderNames.{are_digits}
 
 -- the number, an underscore and digits
 pub record IsNumbered (q : ℕ) (text : List ℕ) : Type 0 where

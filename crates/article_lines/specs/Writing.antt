@@ -6,7 +6,7 @@ use Rattle.bridge_base.specs.Outside.{Gains, GainsFront, HasCause}
 use Rattle.hol_spec.specs.Names.{Name, dot, backslash}
 use Rattle.article_spec.specs.declared.commands.Item.{Item}
 use Rattle.article_spec.specs.Lines.{newline}
-use Rattle.writing_spec.specs.ItemTexts.{is_escaped, component_text, item_text}
+use Rattle.article_write_spec.specs.ItemTexts.{is_escaped, component_text, item_text}
 
 -- the sink got the text; where the call failed it got a front of it, and its count of faults rose
 pub record Writes {T E : Type 0} (old : Option (List ℕ)) (faults : ℕ) (text : List ℕ) (new : Option (List ℕ)) (faults_now : ℕ) (result : Result T E) : Type 0 where

@@ -2,7 +2,7 @@
 ghost use Rattle.std.specs.Prelude.{◌≡◌, ◌<◌, ◌≤◌, ◌^◌, ◌↔◌, ℕ, true, Some, IfSome, IfNone, IsTrue, length};
 ghost use Rattle.std.specs.Fmt.{decimal};
 ghost use Rattle.article_spec.specs.Numbers.{decimal as decimal_value};
-ghost use Rattle.writing_spec.specs.BinderNames.{are_digits as are_digits_of, is_binder_name};
+ghost use Rattle.article_write_spec.specs.BinderNames.{are_digits as are_digits_of, is_binder_name};
 ghost use Rattle.article_lines.specs.Numbered.{IsNumbered, IsConfirmed, IsFirst, HasNone};
 
 use hol_name::Name;

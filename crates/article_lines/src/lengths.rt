@@ -1,10 +1,10 @@
 //! How long lines are, with their ends.
 ghost use Rattle.std.specs.Prelude.{◌≡◌, ◌<◌, ◌^◌, length};
 ghost use Rattle.std.specs.Fmt.{decimal};
-ghost use Rattle.writing_spec.specs.BinderNames.{binder_name};
-ghost use Rattle.writing_spec.specs.ItemTexts.{component_text};
-ghost use Rattle.writing_spec.specs.Lengths.{name_length as name_length_of, word_length as word_length_of, told_length as told_length_of, capped};
-ghost use Rattle.writing_spec.specs.ArticleLength.{list_length as list_length_of};
+ghost use Rattle.article_write_spec.specs.BinderNames.{binder_name};
+ghost use Rattle.article_write_spec.specs.ItemTexts.{component_text};
+ghost use Rattle.article_write_spec.specs.Lengths.{name_length as name_length_of, word_length as word_length_of, told_length as told_length_of, capped};
+ghost use Rattle.article_write_spec.specs.ArticleLength.{list_length as list_length_of};
 ghost use Rattle.article_lines.specs.Writing.{byte_text};
 ghost use Rattle.article_lines.specs.Greatest.{greatest_length};
 

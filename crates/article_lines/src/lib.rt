@@ -8,7 +8,7 @@
 //! | `keys` | the keys of types, terms and theorems |
 //! | `rules` | the words by which rules are called |
 //!
-//! It stands on the definition of the article of a run (`writing_spec`) and on its laws. What counts an article (`article_count`)
+//! It stands on the definition of the article of a run (`article_write_spec`) and on its laws. What counts an article (`article_count`)
 //! and what writes it (`article_steps`) stand on it.
 #![tactic(auto)]
 

@@ -2,8 +2,8 @@
 ghost use Rattle.std.specs.Prelude.{◌≡◌, pos, [], ◌∷◌, ◌++◌, length};
 ghost use Rattle.article_spec.specs.declared.commands.Item.TheVariants as item;
 ghost use Rattle.article_spec.specs.Lines.{newline};
-ghost use Rattle.writing_spec.specs.ItemTexts.{is_escaped as is_escaped_byte, component_text, text_of, word_text};
-ghost use Rattle.writing_spec.specs.BinderNames.{binder_name};
+ghost use Rattle.article_write_spec.specs.ItemTexts.{is_escaped as is_escaped_byte, component_text, text_of, word_text};
+ghost use Rattle.article_write_spec.specs.BinderNames.{binder_name};
 ghost use Rattle.article_lines.specs.Writing.{Writes, line, byte_text, behind_text, pieces_text, rest_text};
 
 use article_spec::Word;

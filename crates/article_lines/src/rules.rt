@@ -1,6 +1,6 @@
 //! The words by which rules are called.
 ghost use Rattle.std.specs.Prelude.{◌≡◌};
-ghost use Rattle.writing_spec.specs.WrittenSteps.{word_of as word_of_kind};
+ghost use Rattle.article_write_spec.specs.WrittenSteps.{word_of as word_of_kind};
 
 use article_spec::Word;
 use hol_spec::StepKind;

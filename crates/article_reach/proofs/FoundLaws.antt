@@ -9,9 +9,9 @@ use Rattle.hol_spec.specs.Sequents.{Sequent, terms_of}
 use Rattle.hol_spec.specs.DefinitionLists.{variables_of}
 use Rattle.hol_spec.specs.Rules.{Parameters}
 use Rattle.hol_spec.specs.Proofs.{Step}
-use Rattle.writing_spec.specs.Mentions.{Need, need_eq, type_mentions, types_mention, term_mentions, sequent_mentions, given_mentions}
-use Rattle.writing_spec.specs.ReachedSteps.{needs}
-use Rattle.writing_spec.specs.BinderNames.{is_binder_name, given_variables, step_variables}
+use Rattle.article_write_spec.specs.Mentions.{Need, need_eq, type_mentions, types_mention, term_mentions, sequent_mentions, given_mentions}
+use Rattle.article_write_spec.specs.ReachedSteps.{needs}
+use Rattle.article_write_spec.specs.BinderNames.{is_binder_name, given_variables, step_variables}
 use Rattle.article_reach.specs.Found.{Found, Asked, is_found, type_found, types_found, term_found, sequent_found, given_found, steps_found, step_found}
 use Rattle.article_reach.specs.Looked.{needs_found, names_found}
 use Rattle.article_reach.proofs.Walked.{found-append}

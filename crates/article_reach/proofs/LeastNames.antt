@@ -6,8 +6,8 @@ use Rattle.hol_spec.specs.Lists.{is_in, union, distinct}
 use Rattle.hol_spec.specs.Names.{Name}
 use Rattle.hol_spec.specs.NameEquality.{name_eq}
 use Rattle.hol_laws.specs.NameEqualityLaws.{name_eq-Decides}
-use Rattle.writing_spec.specs.BinderNames.{is_binder_name, first_free}
-use Rattle.writing_laws.specs.FreshNames.{one-number}
+use Rattle.article_write_spec.specs.BinderNames.{is_binder_name, first_free}
+use Rattle.article_write_laws.specs.FreshNames.{one-number}
 use Rattle.article_reach.specs.Least.{is_among, IsLeast}
 use Rattle.article_reach.proofs.Pigeonhole.{at_least}
 

@@ -18,8 +18,8 @@ use Rattle.hol_type.specs.Views.{AreBelow}
 use Rattle.hol_term.specs.declared.TermId.{TermId}
 use Rattle.hol_term.specs.Tables.{Trees, term_at, type_at, Holds}
 use Rattle.hol_term.specs.TableLaws.{Some-term_in}
-use Rattle.writing_spec.specs.Mentions.{Need}
-use Rattle.writing_spec.specs.BinderNames.{is_binder_name}
+use Rattle.article_write_spec.specs.Mentions.{Need}
+use Rattle.article_write_spec.specs.BinderNames.{is_binder_name}
 use Rattle.article_lines.specs.Flagged.{flag}
 use Rattle.article_reach.specs.declared.walk.Task.{Task}
 use Rattle.article_reach.specs.declared.walk.Task.TheVariants as task

@@ -10,7 +10,7 @@ use Rattle.hol_spec.specs.Proofs.{Step}
 use Rattle.hol_term.specs.declared.Variable.{Variable}
 use Rattle.hol_term.specs.Tables.{Trees}
 use Rattle.hol_defs.specs.Lists.{pairs_at as pairs_view}
-use Rattle.writing_spec.specs.ReachedSteps.{defines, serves, together}
+use Rattle.article_write_spec.specs.ReachedSteps.{defines, serves, together}
 use Rattle.article_lines.specs.Flagged.{flag}
 use Rattle.article_reach.specs.declared.walk.Walk.{Walk}
 use Rattle.article_reach.specs.Found.{Asked}

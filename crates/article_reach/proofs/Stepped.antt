@@ -12,11 +12,11 @@ use Rattle.hol_spec.specs.Proofs.{Made, Step, Accepted, steps_of}
 use Rattle.hol_laws.specs.Members.{map-twice}
 use Rattle.hol_rules.specs.Kept.{Kept, step_count}
 use Rattle.hol_rules.specs.Views.{step_at}
-use Rattle.writing_spec.specs.Mentions.{Need, need_eq}
-use Rattle.writing_spec.specs.ReachedSteps.{Numbered, Reached, needs, serves, is_reached as is_wanted, reached_from, reached_steps}
-use Rattle.writing_spec.specs.BinderNames.{is_binder_name, step_variables, binder_number}
-use Rattle.writing_laws.specs.Flags.{selected}
-use Rattle.writing_laws.specs.ReachLaws.{is_flagged, reached-selected}
+use Rattle.article_write_spec.specs.Mentions.{Need, need_eq}
+use Rattle.article_write_spec.specs.ReachedSteps.{Numbered, Reached, needs, serves, is_reached as is_wanted, reached_from, reached_steps}
+use Rattle.article_write_spec.specs.BinderNames.{is_binder_name, step_variables, binder_number}
+use Rattle.article_write_laws.specs.Flags.{selected}
+use Rattle.article_write_laws.specs.ReachLaws.{is_flagged, reached-selected}
 use Rattle.article_lines.specs.Flagged.{flag}
 use Rattle.article_reach.specs.declared.walk.Walk.{Walk}
 use Rattle.article_reach.specs.Found.{Found, Asked, is_found, IsAsked, steps_found, step_found}

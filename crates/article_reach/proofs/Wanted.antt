@@ -14,7 +14,7 @@ use Rattle.hol_term.specs.Substitutions.{term_pairs_at, AreTermPairsKnown}
 use Rattle.hol_term.specs.Tables.{Trees, term_at, type_at, terms_at, AreKnown}
 use Rattle.hol_defs.specs.Lists.{pairs_at as pairs_view, ArePairsKnown}
 use Rattle.hol_rules.specs.Kept.{Kept, step_count}
-use Rattle.writing_spec.specs.Mentions.{Need}
+use Rattle.article_write_spec.specs.Mentions.{Need}
 use Rattle.article_lines.specs.Flagged.{flag}
 use Rattle.article_reach.specs.declared.walk.Task.{Task}
 use Rattle.article_reach.specs.declared.walk.Task.TheVariants as task

@@ -7,8 +7,8 @@ use Rattle.hol_spec.specs.Terms.{Term}
 use Rattle.hol_spec.specs.Sequents.{Sequent, terms_of}
 use Rattle.hol_spec.specs.Rules.{Parameters}
 use Rattle.hol_spec.specs.Proofs.{Step}
-use Rattle.writing_spec.specs.Mentions.{Need, operator, constant, step, need_eq}
-use Rattle.writing_spec.specs.BinderNames.{is_binder_name}
+use Rattle.article_write_spec.specs.Mentions.{Need, operator, constant, step, need_eq}
+use Rattle.article_write_spec.specs.BinderNames.{is_binder_name}
 
 -- a need, or the name of a variable
 pub data Found : Type 0 where

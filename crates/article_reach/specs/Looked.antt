@@ -4,10 +4,10 @@ use Rattle.std.specs.List.{AllByRecursion, flat_map}
 use Rattle.hol_spec.specs.Names.{Name}
 use Rattle.hol_spec.specs.Proofs.{steps_of}
 use Rattle.hol_rules.specs.Kept.{Kept, step_count}
-use Rattle.writing_spec.specs.Mentions.{Need, step}
-use Rattle.writing_spec.specs.ReachedSteps.{Numbered, reached_from}
-use Rattle.writing_spec.specs.BinderNames.{step_variables}
-use Rattle.writing_laws.specs.ReachLaws.{is_flagged}
+use Rattle.article_write_spec.specs.Mentions.{Need, step}
+use Rattle.article_write_spec.specs.ReachedSteps.{Numbered, reached_from}
+use Rattle.article_write_spec.specs.BinderNames.{step_variables}
+use Rattle.article_write_laws.specs.ReachLaws.{is_flagged}
 use Rattle.article_lines.specs.Flagged.{flag}
 use Rattle.article_reach.specs.declared.walk.Walk.{Walk}
 use Rattle.article_reach.specs.Found.{Found, Asked, is_found, IsAsked}

@@ -1,9 +1,9 @@
 -- What an article tells of the steps of a run.
 use Rattle.std.specs.Prelude.{◌≡◌, ℕ, List, length, Bool}
 use Rattle.hol_spec.specs.Proofs.{Made, steps_of, Accepted}
-use Rattle.writing_spec.specs.ReachedSteps.{reached_steps}
-use Rattle.writing_spec.specs.BinderNames.{binder_number}
-use Rattle.writing_laws.specs.Flags.{selected}
+use Rattle.article_write_spec.specs.ReachedSteps.{reached_steps}
+use Rattle.article_write_spec.specs.BinderNames.{binder_number}
+use Rattle.article_write_laws.specs.Flags.{selected}
 use Rattle.article_lines.specs.Flagged.{flag, AreExports}
 
 -- by step, whether an article tells it and whether it is an export; and the number in the names of the binders

@@ -8,7 +8,7 @@ use Rattle.hol_type.specs.declared.table.TypeId.{TypeId}
 use Rattle.hol_type.specs.Tables.{tree_at}
 use Rattle.hol_term.specs.declared.TermId.{TermId}
 use Rattle.hol_term.specs.Tables.{Trees, term_at}
-use Rattle.writing_spec.specs.Mentions.{Need}
+use Rattle.article_write_spec.specs.Mentions.{Need}
 use Rattle.article_lines.specs.Flagged.{flag}
 use Rattle.article_reach.specs.declared.walk.Task.{Task}
 use Rattle.article_reach.specs.declared.walk.Task.TheVariants as task

@@ -3,7 +3,7 @@ ghost use Rattle.std.specs.Prelude.{◌≡◌, ◌<◌, ℕ, [], false, length, 
 ghost use Rattle.std.specs.List.{list_any};
 ghost use Rattle.hol_rules.specs.Kept.{step_count};
 ghost use Rattle.hol_rules.specs.Views.{step_at};
-ghost use Rattle.writing_spec.specs.ReachedSteps.{serves};
+ghost use Rattle.article_write_spec.specs.ReachedSteps.{serves};
 ghost use Rattle.article_lines.specs.Flagged.{flag};
 ghost use Rattle.article_reach.specs.declared.walk.Walk.{Walk as AWalk};
 ghost use Rattle.article_reach.specs.Found.{need, step_found};

@@ -6,7 +6,7 @@ ghost use Rattle.hol_rules.specs.Kept.{step_count};
 ghost use Rattle.hol_rules.specs.Views.{parameters_view, step_at};
 ghost use Rattle.hol_spec.specs.Rules as rule;
 ghost use Rattle.hol_term.specs.Tables.{Trees};
-ghost use Rattle.writing_spec.specs.ReachedSteps.{defines, serves, together};
+ghost use Rattle.article_write_spec.specs.ReachedSteps.{defines, serves, together};
 ghost use Rattle.article_reach.specs.Found.{need};
 ghost use Rattle.article_reach.specs.Looked.{IsWalkOf};
 ghost use Rattle.article_reach.specs.Walks.{is_marked};

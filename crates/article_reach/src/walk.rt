@@ -2,7 +2,7 @@
 ghost use Rattle.std.specs.Prelude.{◌≡◌, ◌||◌, ℕ, [], length, IfOk, OnOk, false};
 ghost use Rattle.hol_term.specs.Tables.{Trees};
 ghost use Rattle.hol_rules.specs.Kept.{step_count};
-ghost use Rattle.writing_spec.specs.BinderNames.{is_binder_name};
+ghost use Rattle.article_write_spec.specs.BinderNames.{is_binder_name};
 ghost use Rattle.article_reach.specs.declared.walk.Task.TheVariants as task;
 ghost use Rattle.article_reach.specs.Found.{Asked, IsAsked, number as asked_number};
 ghost use Rattle.article_reach.specs.Least.{is_among};

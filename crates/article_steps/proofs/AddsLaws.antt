@@ -3,7 +3,7 @@ use Rattle.std.proofs.Common.{◌≡◌, ℕ, List, Option, Result, Ok, Err, IsE
 use Rattle.bridge_base.specs.Gaining.{gains_none}
 use Rattle.hol_term.specs.Tables.{Trees}
 use Rattle.article_spec.specs.declared.commands.Item.{Item}
-use Rattle.writing_spec.specs.Drafts.{Draft, say}
+use Rattle.article_write_spec.specs.Drafts.{Draft, say}
 use Rattle.article_steps.specs.Agenda.{Agenda}
 use Rattle.article_lines.specs.Things.{Keyed}
 use Rattle.article_steps.specs.Agendas.{do_jobs}

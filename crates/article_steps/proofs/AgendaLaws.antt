@@ -8,11 +8,11 @@ use Rattle.hol_type.specs.declared.table.TypeId.{TypeId}
 use Rattle.hol_term.specs.Tables.{Trees, term_at, type_at}
 use Rattle.article_spec.specs.declared.commands.Item.{Item}
 use Rattle.article_spec.specs.declared.commands.Item.TheVariants as item
-use Rattle.writing_spec.specs.ItemTexts.{text_of}
-use Rattle.writing_spec.specs.BinderNames.{binder_name}
-use Rattle.writing_spec.specs.Drafts.{Draft}
-use Rattle.writing_spec.specs.WrittenTypes.{write_type}
-use Rattle.writing_spec.specs.WrittenTerms.{binder_at}
+use Rattle.article_write_spec.specs.ItemTexts.{text_of}
+use Rattle.article_write_spec.specs.BinderNames.{binder_name}
+use Rattle.article_write_spec.specs.Drafts.{Draft}
+use Rattle.article_write_spec.specs.WrittenTypes.{write_type}
+use Rattle.article_write_spec.specs.WrittenTerms.{binder_at}
 use Rattle.article_steps.specs.declared.room.Job.{Job}
 use Rattle.article_steps.specs.declared.room.Job.TheVariants as job
 use Rattle.article_steps.specs.Agenda.{Agenda}

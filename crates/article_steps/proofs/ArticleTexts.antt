@@ -3,12 +3,12 @@ use Rattle.std.proofs.Common.{◌≡◌, ℕ, ◌≤◌, Bool, List, [], ◌++�
 use Rattle.hol_spec.specs.declared.Version.{Version}
 use Rattle.hol_spec.specs.Proofs.{Step}
 use Rattle.hol_term.specs.Tables.{Trees}
-use Rattle.writing_spec.specs.ItemTexts.{text_of}
-use Rattle.writing_spec.specs.ReachedSteps.{Numbered}
-use Rattle.writing_spec.specs.Drafts.{Draft, write_each}
-use Rattle.writing_spec.specs.WrittenSteps.{write_step}
-use Rattle.writing_spec.specs.Article.{version_items, version_draft}
-use Rattle.writing_laws.specs.Flags.{selected}
+use Rattle.article_write_spec.specs.ItemTexts.{text_of}
+use Rattle.article_write_spec.specs.ReachedSteps.{Numbered}
+use Rattle.article_write_spec.specs.Drafts.{Draft, write_each}
+use Rattle.article_write_spec.specs.WrittenSteps.{write_step}
+use Rattle.article_write_spec.specs.Article.{version_items, version_draft}
+use Rattle.article_write_laws.specs.Flags.{selected}
 use Rattle.article_lines.specs.Flagged.{flag, AreExports}
 use Rattle.article_lines.specs.KeptThings.{AreDistinct}
 use Rattle.article_lines.specs.Things.{Keyed, none_keyed}

@@ -13,7 +13,7 @@ use Rattle.hol_spec.specs.Proofs.{Made, Step, steps_of, IsProof}
 use Rattle.hol_spec.specs.Proofs as made
 use Rattle.hol_spec.specs.declared.StepKind.{StepKind}
 use Rattle.hol_laws.specs.Members.{All-append, All-weaker}
-use Rattle.proof_laws.specs.ProofGrowth.{steps_of-append}
+use Rattle.hol_proof_laws.specs.ProofGrowth.{steps_of-append}
 use Rattle.hol_rules.specs.Views.{step_at}
 use Rattle.article_steps.specs.Given.{AreClosed, IsClosed}
 

@@ -4,7 +4,7 @@ use Rattle.std.specs.Prelude.{slice_get}
 use Rattle.std.proofs.lemmas.List.{length-map}
 use Rattle.hol_term.specs.Tables.{Trees}
 use Rattle.article_spec.specs.declared.commands.Word.TheVariants as word
-use Rattle.writing_spec.specs.Drafts.{Draft, say_word, conses, write_each, write_list}
+use Rattle.article_write_spec.specs.Drafts.{Draft, say_word, conses, write_each, write_list}
 use Rattle.article_lines.specs.Things.{Keyed}
 use Rattle.article_steps.specs.Said.{IsAppending}
 use Rattle.article_steps.specs.Left.{IsOpen, Adds}

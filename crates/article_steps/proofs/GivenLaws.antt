@@ -13,9 +13,9 @@ use Rattle.hol_term.specs.Tables.{Trees, terms_at, AreKnown, IsTermAt}
 use Rattle.hol_term.specs.Substitutions.{term_pairs_at, AreTermPairsKnown}
 use Rattle.hol_defs.specs.Lists.{ArePairsKnown}
 use Rattle.article_spec.specs.declared.commands.Item.TheVariants as item
-use Rattle.writing_spec.specs.Drafts.{say_name}
-use Rattle.writing_spec.specs.WrittenTypes.{write_type, write_variable}
-use Rattle.writing_spec.specs.WrittenTerms.{write_term}
+use Rattle.article_write_spec.specs.Drafts.{say_name}
+use Rattle.article_write_spec.specs.WrittenTypes.{write_type, write_variable}
+use Rattle.article_write_spec.specs.WrittenTerms.{write_term}
 use Rattle.article_steps.specs.Said.{IsAppending}
 use Rattle.article_steps.specs.Given.{type_pair_writer, term_pair_writer, constant_pair_writer, type_pair_at, term_pair_at}
 use Rattle.article_steps.proofs.SaidLaws.{appends-say, appends-pair, appends-type, appends-variable, appends-under}

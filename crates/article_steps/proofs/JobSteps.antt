@@ -22,13 +22,13 @@ use Rattle.article_spec.specs.declared.commands.Item.{Item}
 use Rattle.article_spec.specs.declared.commands.Item.TheVariants as item
 use Rattle.article_spec.specs.declared.commands.Word.{Word}
 use Rattle.article_spec.specs.declared.commands.Word.TheVariants as word
-use Rattle.writing_spec.specs.BinderNames.{binder_name}
-use Rattle.writing_spec.specs.Lengths.{key_in}
-use Rattle.writing_spec.specs.Drafts.{Kept, kept_eq, Draft, key_of, say_name, say_word, keep, refer, once_at, conses, write_each}
-use Rattle.writing_spec.specs.WrittenTypes.{write_type, write_types, write_variable}
-use Rattle.writing_spec.specs.WrittenTerms.{next_binder, once_closed, write_under}
-use Rattle.writing_laws.specs.Opened.{opened-closed, type-opened}
-use Rattle.writing_laws.specs.KeptOnce.{IsTypeUpTo, still-no-key, type-adds, type-built, app-built, lam-built}
+use Rattle.article_write_spec.specs.BinderNames.{binder_name}
+use Rattle.article_write_spec.specs.Lengths.{key_in}
+use Rattle.article_write_spec.specs.Drafts.{Kept, kept_eq, Draft, key_of, say_name, say_word, keep, refer, once_at, conses, write_each}
+use Rattle.article_write_spec.specs.WrittenTypes.{write_type, write_types, write_variable}
+use Rattle.article_write_spec.specs.WrittenTerms.{next_binder, once_closed, write_under}
+use Rattle.article_write_laws.specs.Opened.{opened-closed, type-opened}
+use Rattle.article_write_laws.specs.KeptOnce.{IsTypeUpTo, still-no-key, type-adds, type-built, app-built, lam-built}
 use Rattle.article_lines.specs.declared.keys.Thing.{Thing}
 use Rattle.article_lines.specs.declared.keys.Thing.TheVariants as thing
 use Rattle.article_steps.specs.declared.room.Job.TheVariants as job

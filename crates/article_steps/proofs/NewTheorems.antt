@@ -13,12 +13,12 @@ use Rattle.hol_spec.specs.declared.StepKind.{StepKind}
 use Rattle.hol_spec.specs.declared.StepKind.TheVariants.{Axiom, Restate, DefineConst, DefineConstList, FirstLaw, SecondLaw}
 use Rattle.hol_term.specs.Tables.{Trees}
 use Rattle.article_spec.specs.declared.commands.Word.TheVariants as word
-use Rattle.writing_spec.specs.Lengths.{key_in}
-use Rattle.writing_spec.specs.Drafts.{Kept, kept_eq, Draft, say_name, say_word, pops, conses, write_each, write_list, write_pair}
-use Rattle.writing_spec.specs.WrittenTypes.{write_type, write_variable}
-use Rattle.writing_spec.specs.WrittenTerms.{write_term}
-use Rattle.writing_spec.specs.WrittenSteps.{write_premise, keep_theorem, keep_made, write_given, write_export, write_assumption, write_inferred, write_by, word_of}
-use Rattle.writing_laws.specs.KeptOnce.{Adds as KeepsMore, adds-none, adds-then, kept-conses, still-no-key, IsTypeUpTo, IsTermUpTo, type-adds, term-adds}
+use Rattle.article_write_spec.specs.Lengths.{key_in}
+use Rattle.article_write_spec.specs.Drafts.{Kept, kept_eq, Draft, say_name, say_word, pops, conses, write_each, write_list, write_pair}
+use Rattle.article_write_spec.specs.WrittenTypes.{write_type, write_variable}
+use Rattle.article_write_spec.specs.WrittenTerms.{write_term}
+use Rattle.article_write_spec.specs.WrittenSteps.{write_premise, keep_theorem, keep_made, write_given, write_export, write_assumption, write_inferred, write_by, word_of}
+use Rattle.article_write_laws.specs.KeptOnce.{Adds as KeepsMore, adds-none, adds-then, kept-conses, still-no-key, IsTypeUpTo, IsTermUpTo, type-adds, term-adds}
 use Rattle.article_lines.specs.declared.keys.Thing.{Thing}
 use Rattle.article_lines.specs.declared.keys.Thing.TheVariants as thing
 use Rattle.article_lines.specs.Things.{Keyed, thing_eq, thing_key, with_thing}

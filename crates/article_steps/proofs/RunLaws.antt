@@ -5,7 +5,7 @@ use Rattle.bridge_base.specs.Outside.{Gains, GainsFront}
 use Rattle.bridge_base.specs.Gaining.{gains_none, gains_both, front_of_second, rose_after}
 use Rattle.hol_type.specs.declared.table.TypeId.{TypeId}
 use Rattle.hol_term.specs.Tables.{Trees}
-use Rattle.writing_spec.specs.Drafts.{Kept}
+use Rattle.article_write_spec.specs.Drafts.{Kept}
 use Rattle.article_steps.specs.declared.room.Job.{Job}
 use Rattle.article_steps.specs.Agenda.{Agenda}
 use Rattle.article_lines.specs.Things.{Keyed}

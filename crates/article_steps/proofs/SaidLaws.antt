@@ -10,10 +10,10 @@ use Rattle.article_spec.specs.declared.commands.Item.{Item}
 use Rattle.article_spec.specs.declared.commands.Item.TheVariants as item
 use Rattle.article_spec.specs.declared.commands.Word.TheVariants as word
 use Rattle.article_spec.specs.Lines.{newline}
-use Rattle.writing_spec.specs.ItemTexts.{text_of, item_text}
-use Rattle.writing_spec.specs.Drafts.{Kept, Draft, key_of, say, say_name, say_word, keep, refer, once_at, once, conses, write_each, write_list, write_pair}
-use Rattle.writing_spec.specs.WrittenTypes.{write_type, write_types, write_variable}
-use Rattle.writing_spec.specs.WrittenTerms.{binder_at, next_binder, once_closed, shared, write_under}
+use Rattle.article_write_spec.specs.ItemTexts.{text_of, item_text}
+use Rattle.article_write_spec.specs.Drafts.{Kept, Draft, key_of, say, say_name, say_word, keep, refer, once_at, once, conses, write_each, write_list, write_pair}
+use Rattle.article_write_spec.specs.WrittenTypes.{write_type, write_types, write_variable}
+use Rattle.article_write_spec.specs.WrittenTerms.{binder_at, next_binder, once_closed, shared, write_under}
 use Rattle.article_lines.specs.Writing.{Writes, line}
 use Rattle.article_steps.specs.Parts.{build_type, build_under}
 use Rattle.article_steps.specs.Said.{fresh, said, kept_by, behind, IsAppending, Tells}

@@ -7,10 +7,10 @@ use Rattle.hol_spec.specs.Proofs.{Step}
 use Rattle.hol_spec.specs.declared.StepKind.{StepKind}
 use Rattle.hol_spec.specs.declared.StepKind.TheVariants.{FirstLaw, SecondLaw}
 use Rattle.hol_rules.specs.Views.{step_in}
-use Rattle.writing_spec.specs.ReachedSteps.{Numbered}
-use Rattle.writing_spec.specs.Drafts.{Draft, write_each}
-use Rattle.writing_spec.specs.WrittenSteps.{write_by, write_step}
-use Rattle.writing_laws.specs.Flags.{selected}
+use Rattle.article_write_spec.specs.ReachedSteps.{Numbered}
+use Rattle.article_write_spec.specs.Drafts.{Draft, write_each}
+use Rattle.article_write_spec.specs.WrittenSteps.{write_by, write_step}
+use Rattle.article_write_laws.specs.Flags.{selected}
 use Rattle.article_lines.specs.Things.{Keyed, none_keyed}
 use Rattle.article_lines.specs.Flagged.{flag, AreExports, ArePairs}
 use Rattle.article_lines.specs.NewSteps.{IsNew, IsNewStep}

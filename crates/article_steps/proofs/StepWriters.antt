@@ -10,10 +10,10 @@ use Rattle.hol_spec.specs.declared.StepKind.TheVariants.{Axiom, Restate, DefineC
 use Rattle.hol_term.specs.Tables.{Trees}
 use Rattle.article_spec.specs.declared.commands.Item.TheVariants as item
 use Rattle.article_spec.specs.declared.commands.Word.TheVariants as word
-use Rattle.writing_spec.specs.ItemTexts.{text_of}
-use Rattle.writing_spec.specs.Drafts.{Kept, Draft, key_of, say_name, say_word, pops, keep, write_each, write_list}
-use Rattle.writing_spec.specs.WrittenTerms.{write_term}
-use Rattle.writing_spec.specs.WrittenSteps.{write_premise, keep_theorem, keep_made, write_given, write_export, write_assumption, write_inferred, write_by, word_of}
+use Rattle.article_write_spec.specs.ItemTexts.{text_of}
+use Rattle.article_write_spec.specs.Drafts.{Kept, Draft, key_of, say_name, say_word, pops, keep, write_each, write_list}
+use Rattle.article_write_spec.specs.WrittenTerms.{write_term}
+use Rattle.article_write_spec.specs.WrittenSteps.{write_premise, keep_theorem, keep_made, write_given, write_export, write_assumption, write_inferred, write_by, word_of}
 use Rattle.article_lines.specs.declared.keys.Thing.TheVariants as thing
 use Rattle.article_lines.specs.Things.{Keyed, thing_key, with_thing}
 use Rattle.article_lines.specs.KeptThings.{all_kept_at-push, kept_at, IsThing}

@@ -8,10 +8,10 @@ use Rattle.hol_type.specs.declared.table.TypeId.{TypeId}
 use Rattle.hol_type.specs.Tables as type
 use Rattle.hol_term.specs.declared.TermId.{TermId}
 use Rattle.hol_term.specs.Tables.{Trees, term_at, type_at}
-use Rattle.writing_spec.specs.Drafts.{Kept, Draft, say_word, keep, conses, write_each}
-use Rattle.writing_spec.specs.Lengths.{key_in}
-use Rattle.writing_spec.specs.WrittenTypes.{write_type}
-use Rattle.writing_spec.specs.WrittenTerms.{next_binder, write_under}
+use Rattle.article_write_spec.specs.Drafts.{Kept, Draft, say_word, keep, conses, write_each}
+use Rattle.article_write_spec.specs.Lengths.{key_in}
+use Rattle.article_write_spec.specs.WrittenTypes.{write_type}
+use Rattle.article_write_spec.specs.WrittenTerms.{next_binder, write_under}
 use Rattle.article_lines.specs.declared.keys.Thing.{Thing}
 use Rattle.article_steps.specs.declared.room.Job.{Job}
 use Rattle.article_steps.specs.declared.room.Job.TheVariants as job

@@ -16,9 +16,9 @@ use Rattle.hol_term.specs.Tables.{Trees, term_at, terms_at, type_at}
 use Rattle.hol_term.specs.Substitutions.{term_pairs_at}
 use Rattle.hol_defs.specs.Lists.{pairs_at}
 use Rattle.hol_rules.specs.declared.made.Substitution.{Substitution}
-use Rattle.writing_spec.specs.Drafts.{Draft, say_name, write_list, write_pair}
-use Rattle.writing_spec.specs.WrittenTypes.{write_type, write_variable}
-use Rattle.writing_spec.specs.WrittenTerms.{write_term}
+use Rattle.article_write_spec.specs.Drafts.{Draft, say_name, write_list, write_pair}
+use Rattle.article_write_spec.specs.WrittenTypes.{write_type, write_variable}
+use Rattle.article_write_spec.specs.WrittenTerms.{write_term}
 use Rattle.article_steps.specs.declared.given.Constant.{Constant}
 use Rattle.article_steps.specs.declared.given.Operator.{Operator}
 

@@ -6,8 +6,8 @@ use Rattle.hol_term.specs.Tables.{Trees}
 use Rattle.article_spec.specs.declared.commands.Item.{Item}
 use Rattle.article_spec.specs.declared.commands.Item.TheVariants as item
 use Rattle.article_spec.specs.declared.commands.Word.TheVariants as word
-use Rattle.writing_spec.specs.ItemTexts.{text_of}
-use Rattle.writing_spec.specs.Drafts.{Kept, Draft}
+use Rattle.article_write_spec.specs.ItemTexts.{text_of}
+use Rattle.article_write_spec.specs.Drafts.{Kept, Draft}
 use Rattle.article_steps.specs.Agenda.{Agenda}
 use Rattle.article_lines.specs.Things.{Keyed}
 use Rattle.article_lines.specs.KeptThings.{all_kept_at, IsThing, AreDistinct}

@@ -3,9 +3,9 @@ use Rattle.std.specs.Prelude.{ℕ, List, [], ◌∷◌}
 use Rattle.hol_spec.specs.Types.{HolType, listed, count}
 use Rattle.hol_spec.specs.Terms.{Term, Variable}
 use Rattle.article_spec.specs.declared.commands.Word.TheVariants as word
-use Rattle.writing_spec.specs.Drafts.{Draft, say_name, say_word, conses}
-use Rattle.writing_spec.specs.WrittenTypes.{write_type, write_types, write_variable}
-use Rattle.writing_spec.specs.WrittenTerms.{binder_at, next_binder, write_under}
+use Rattle.article_write_spec.specs.Drafts.{Draft, say_name, say_word, conses}
+use Rattle.article_write_spec.specs.WrittenTypes.{write_type, write_types, write_variable}
+use Rattle.article_write_spec.specs.WrittenTerms.{binder_at, next_binder, write_under}
 
 -- what builds a type that has no key
 abbrev pub build_type : HolType → Draft → Draft

@@ -1,8 +1,8 @@
 -- What a writer of drafts says by itself: its text, and what has keys then. Both depend on what has keys before, and on nothing else.
 use Rattle.std.specs.Prelude.{ℕ, ◌≡◌, List, [], ◌++◌, Option, Result, OnOk}
 use Rattle.article_spec.specs.declared.commands.Item.{Item}
-use Rattle.writing_spec.specs.ItemTexts.{text_of}
-use Rattle.writing_spec.specs.Drafts.{Kept, Draft}
+use Rattle.article_write_spec.specs.ItemTexts.{text_of}
+use Rattle.article_write_spec.specs.Drafts.{Kept, Draft}
 use Rattle.article_lines.specs.Writing.{Writes}
 
 -- the draft without commands, where these things have keys

@@ -1,9 +1,9 @@
 -- Steps that are written where they are flagged: the flagged ones among all, and exports by their flags.
 use Rattle.std.specs.Prelude.{ℕ, suc, Bool, true, false, List, [], ◌∷◌}
 use Rattle.hol_spec.specs.Proofs.{Step}
-use Rattle.writing_spec.specs.ReachedSteps.{Numbered}
-use Rattle.writing_spec.specs.Drafts.{Draft, pops}
-use Rattle.writing_spec.specs.WrittenSteps.{keep_theorem, write_by}
+use Rattle.article_write_spec.specs.ReachedSteps.{Numbered}
+use Rattle.article_write_spec.specs.Drafts.{Draft, pops}
+use Rattle.article_write_spec.specs.WrittenSteps.{keep_theorem, write_by}
 
 -- all steps with their numbers, the first of which is i
 abbrev pub numbered_from : ℕ → List Step → List Numbered

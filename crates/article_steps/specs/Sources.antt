@@ -3,12 +3,12 @@ use Rattle.std.specs.Prelude.{ℕ, List}
 use Rattle.hol_spec.specs.declared.Version.{Version}
 use Rattle.hol_spec.specs.Proofs.{Step, steps_of}
 use Rattle.hol_rules.specs.Views.{step_at}
-use Rattle.writing_spec.specs.Article.{version_draft}
-use Rattle.writing_spec.specs.ItemTexts.{text_of}
-use Rattle.writing_spec.specs.Drafts.{Draft, write_each}
-use Rattle.writing_spec.specs.ReachedSteps.{Numbered}
-use Rattle.writing_spec.specs.WrittenSteps.{write_given, write_export, write_assumption, write_inferred, write_step}
-use Rattle.writing_laws.specs.Flags.{selected}
+use Rattle.article_write_spec.specs.Article.{version_draft}
+use Rattle.article_write_spec.specs.ItemTexts.{text_of}
+use Rattle.article_write_spec.specs.Drafts.{Draft, write_each}
+use Rattle.article_write_spec.specs.ReachedSteps.{Numbered}
+use Rattle.article_write_spec.specs.WrittenSteps.{write_given, write_export, write_assumption, write_inferred, write_step}
+use Rattle.article_write_laws.specs.Flags.{selected}
 use Rattle.article_lines.specs.Flagged.{flag, AreExports}
 use Rattle.article_steps.specs.declared.sources.Source.{Source}
 use Rattle.article_steps.specs.SelectedSteps.{flagged_writer, told_writer}

@@ -8,8 +8,8 @@ ghost use Rattle.hol_term.specs.Substitutions.{term_pairs_at, AreKnownPairs, Are
 ghost use Rattle.hol_defs.specs.Lists.{pair_at, ArePairsKnown};
 ghost use Rattle.sequent.specs.Sequents.{sequent_at, IsKnown};
 ghost use Rattle.hol_rules.specs.Views.{parameters_view, AreParametersKnown};
-ghost use Rattle.writing_spec.specs.Drafts.{say_name, write_list};
-ghost use Rattle.writing_spec.specs.WrittenSteps.{write_given as given_writer, write_sequent as sequent_writer};
+ghost use Rattle.article_write_spec.specs.Drafts.{say_name, write_list};
+ghost use Rattle.article_write_spec.specs.WrittenSteps.{write_given as given_writer, write_sequent as sequent_writer};
 ghost use Rattle.article_steps.specs.Given.{constant_pair_writer, constant_pairs_writer, constant_writer, operator_writer, put_writer, term_pair_at, term_pair_writer, term_pairs_writer, terms_writer, type_pair_at, type_pair_writer, type_pairs_writer, AreClosed, IsClosed};
 ghost use Rattle.article_steps.specs.Left.{AddsTo, IsOpen};
 

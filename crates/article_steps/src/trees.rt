@@ -3,9 +3,9 @@ ghost use Rattle.std.specs.Prelude.{◌<◌, ◌≤◌, length};
 ghost use Rattle.hol_term.specs.Tables.{term_at, IsTermAt};
 ghost use Rattle.hol_defs.specs.Lists.{variable_at};
 ghost use Rattle.article_spec.specs.declared.commands.Word.TheVariants as word;
-ghost use Rattle.writing_spec.specs.Drafts.{say_word, conses};
-ghost use Rattle.writing_spec.specs.WrittenTypes.{write_variable as variable_writer};
-ghost use Rattle.writing_spec.specs.WrittenTerms.{write_term as term_writer};
+ghost use Rattle.article_write_spec.specs.Drafts.{say_word, conses};
+ghost use Rattle.article_write_spec.specs.WrittenTypes.{write_variable as variable_writer};
+ghost use Rattle.article_write_spec.specs.WrittenTerms.{write_term as term_writer};
 ghost use Rattle.article_steps.specs.Agendas.{begun};
 ghost use Rattle.article_steps.specs.Left.{jobs_writer, AddsTo, IsOpen, IsReady};
 

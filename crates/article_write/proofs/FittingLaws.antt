@@ -4,8 +4,8 @@ use Rattle.std.specs.Prelude.{slice_index_or}
 use Rattle.std.specs.List.{list_all}
 use Rattle.std.proofs.lemmas.List.{take_more, length-take}
 use Rattle.hol_spec.specs.Proofs.{Step}
-use Rattle.writing_spec.specs.ReachedSteps.{Numbered}
-use Rattle.writing_laws.specs.Flags.{selected, selected-push, place-of}
+use Rattle.article_write_spec.specs.ReachedSteps.{Numbered}
+use Rattle.article_write_laws.specs.Flags.{selected, selected-push, place-of}
 use Rattle.article_lines.specs.Flagged.{flag}
 
 all-append : (test : Numbered → Bool) (xs ys : List Numbered) → list_all test xs ≡ true → list_all test (xs ++ ys) ≡ list_all test ys

@@ -7,19 +7,19 @@ use Rattle.hol_spec.specs.declared.Version.{Version}
 use Rattle.hol_spec.specs.Proofs.{Step, Accepted, steps_of}
 use Rattle.hol_rules.specs.Kept.{Kept, step_count}
 use Rattle.hol_rules.specs.Views.{step_at}
-use Rattle.writing_spec.specs.Article.{fits, version_draft, version_items, draft, article}
-use Rattle.writing_spec.specs.ArticleLength.{count_step, tally}
-use Rattle.writing_spec.specs.Drafts.{Draft, write_each}
-use Rattle.writing_spec.specs.Lengths.{count_each, items_length}
-use Rattle.writing_spec.specs.ReachedSteps.{Numbered}
-use Rattle.writing_spec.specs.WrittenSteps.{write_step}
-use Rattle.writing_laws.specs.Flags.{selected}
+use Rattle.article_write_spec.specs.Article.{fits, version_draft, version_items, draft, article}
+use Rattle.article_write_spec.specs.ArticleLength.{count_step, tally}
+use Rattle.article_write_spec.specs.Drafts.{Draft, write_each}
+use Rattle.article_write_spec.specs.Lengths.{count_each, items_length}
+use Rattle.article_write_spec.specs.ReachedSteps.{Numbered}
+use Rattle.article_write_spec.specs.WrittenSteps.{write_step}
+use Rattle.article_write_laws.specs.Flags.{selected}
 use Rattle.article_lines.specs.Flagged.{flag, ArePairs}
 use Rattle.article_reach.specs.Reached.{Told, IsReach}
 use Rattle.article_write.specs.Fitting.{fits_step}
 use Rattle.article_write.specs.Pairs.{IsFollowed}
 use Rattle.article_write.specs.Plans.{Planned, IsPlanOf}
-use Rattle.writing_spec.specs.ItemTexts.{text_of}
+use Rattle.article_write_spec.specs.ItemTexts.{text_of}
 
 -- A place in a list
 at-index : (xs : List Step) (i : ℕ) (x d : Step) → slice_get xs i ≡ Some x → slice_index_or xs i d ≡ x

@@ -3,8 +3,8 @@ use Rattle.std.specs.Prelude.{◌≡◌, ℕ, List, length, Bool}
 use Rattle.hol_spec.specs.declared.Version.{Version}
 use Rattle.hol_spec.specs.Proofs.{Accepted, steps_of}
 use Rattle.hol_rules.specs.Kept.{Kept, step_count}
-use Rattle.writing_spec.specs.Article.{article, fits as fits_by}
-use Rattle.writing_spec.specs.Lengths.{capped}
+use Rattle.article_write_spec.specs.Article.{article, fits as fits_by}
+use Rattle.article_write_spec.specs.Lengths.{capped}
 use Rattle.article_lines.specs.Flagged.{ArePairs}
 use Rattle.article_lines.specs.Greatest.{greatest_length}
 use Rattle.article_lines.specs.Things.{Keyed, none_keyed}

@@ -5,9 +5,9 @@ ghost use Rattle.hol_rules.specs.Kept.{step_count};
 ghost use Rattle.hol_rules.specs.Views.{parameters_view, step_at};
 ghost use Rattle.hol_spec.specs.Proofs.{steps_of};
 ghost use Rattle.hol_term.specs.Tables.{Trees};
-ghost use Rattle.writing_spec.specs.Article.{meets_none as meets_none_of};
-ghost use Rattle.writing_spec.specs.Versions.{is_of_version as is_of_version_by};
-ghost use Rattle.writing_laws.specs.Flags.{selected};
+ghost use Rattle.article_write_spec.specs.Article.{meets_none as meets_none_of};
+ghost use Rattle.article_write_spec.specs.Versions.{is_of_version as is_of_version_by};
+ghost use Rattle.article_write_laws.specs.Flags.{selected};
 ghost use Rattle.article_lines.specs.Flagged.{flag, AreExports};
 ghost use Rattle.article_write.specs.Fitting.{fits_step};
 

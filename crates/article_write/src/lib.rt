@@ -1,7 +1,7 @@
 //! The article that says again what a run exports: planned, and written.
 //!
 //! [`plan`] finds what is told, whether one article of a version can say it, and how long that article is. All memory is taken there.
-//! [`write`] then writes the article to a sink, and takes none: the text is that of the definition (`article` of `writing_spec`).
+//! [`write`] then writes the article to a sink, and takes none: the text is that of the definition (`article` of `article_write_spec`).
 //!
 //! ```
 //! let plan = plan(alloc, machine.proof(), version, machine.assumptions(), machine.exports())?;

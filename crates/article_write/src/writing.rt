@@ -2,7 +2,7 @@
 ghost use Rattle.std.specs.Prelude.{◌≡◌, true};
 ghost use Rattle.hol_spec.specs.declared.Version.{Version as AVersion};
 ghost use Rattle.hol_spec.specs.Proofs.{Accepted};
-ghost use Rattle.writing_spec.specs.Article.{article};
+ghost use Rattle.article_write_spec.specs.Article.{article};
 ghost use Rattle.article_lines.specs.Writing.{Writes};
 ghost use Rattle.article_write.specs.Plans.{IsPlanOf};
 

@@ -4,7 +4,7 @@ use Rattle.hol_spec.specs.Proofs.{Accepted}
 use Rattle.hol_spec.specs.declared.Version.{Version}
 use Rattle.hol_rules.specs.Kept.{Kept}
 use Rattle.article_spec.specs.Lines.{max_article}
-use Rattle.writing_spec.specs.Article.{article}
+use Rattle.article_write_spec.specs.Article.{article}
 use Rattle.article_write.specs.Plans.{Planned, IsPlanOf}
 use Rattle.bridge_spec.specs.Articles.{IsWritable, IsUnwritable}
 use Rattle.bridge_spec.specs.Answers.{NoteAlone}

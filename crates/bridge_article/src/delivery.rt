@@ -4,7 +4,7 @@ ghost use Rattle.hol_spec.specs.Proofs.{Accepted};
 ghost use Rattle.hol_spec.specs.declared.Version.{Version as AVersion};
 ghost use Rattle.article_spec.specs.Run.{accepted_state};
 ghost use Rattle.article_spec.specs.State.{last_version};
-ghost use Rattle.writing_spec.specs.Article.{article as article_of};
+ghost use Rattle.article_write_spec.specs.Article.{article as article_of};
 ghost use Rattle.bridge_spec.specs.Calls.{sunk};
 ghost use Rattle.bridge_spec.specs.Outputs.{Delivers};
 ghost use Rattle.bridge_spec.specs.declared.status.Status.TheVariants.{Done};

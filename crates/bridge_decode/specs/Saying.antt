@@ -2,8 +2,8 @@
 use Rattle.std.specs.Prelude.{◌≡◌, ℕ, ◌++◌, List, Bool, true, false, Some, slice_get}
 use Rattle.hol_spec.specs.ClosedForm.{ClosedSequent}
 use Rattle.lp_spec.specs.Modules.{Declaration}
-use Rattle.module_spec.specs.Enc.{Enc}
-use Rattle.module_spec.specs.Stands.{is_export_name}
+use Rattle.translate_spec.specs.Enc.{Enc}
+use Rattle.translate_spec.specs.Stands.{is_export_name}
 use Rattle.bridge_spec.specs.FileExports.{exports_of, AreDecoded, SaysNothing, SayBefore}
 use Rattle.bridge_spec.specs.Texts.{export_line, export_lines}
 use Rattle.bridge_answer.specs.declared.answer.Answer.{Answer}

@@ -3,12 +3,12 @@ ghost use Rattle.std.specs.Prelude.{◌≡◌, ◌<◌, ◌++◌, IfOk, OnOk, le
 ghost use Rattle.std.specs.List.{list_all};
 ghost use Rattle.holide_sig.specs.Modules.{declarations_of, IsHeld};
 ghost use Rattle.lp_spec.specs.Numerals.{is_decimal_digit, is_numeral};
-ghost use Rattle.module_spec.specs.Stands.{is_export_name};
+ghost use Rattle.translate_spec.specs.Stands.{is_export_name};
 ghost use Rattle.sequent.specs.Closed.{closed_view};
 ghost use Rattle.bridge_spec.specs.Texts.{export_line};
 ghost use Rattle.bridge_decode.specs.Saying.{IsSaid, IsOneSaid};
 
-use closed_text::append_closed;
+use hol_text::append_closed;
 use common::Memory;
 use decode_back::decode;
 use holide_sig::Module;

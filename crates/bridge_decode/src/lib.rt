@@ -4,7 +4,7 @@
 //! for each export, with the closed sequent for which its type stands; or the first export that stands for none. All is judged
 //! before anything is written.
 //!
-//! It stands on `bridge_module` for the module in a file, on `decode_back` for the sequent of a type, on `closed_text` for its
+//! It stands on `bridge_module` for the module in a file, on `decode_back` for the sequent of a type, on `hol_text` for its
 //! text, and on `bridge_answer` for what is written.
 //!
 //! ```text

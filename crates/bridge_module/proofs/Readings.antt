@@ -8,7 +8,7 @@ use Rattle.bridge_base.specs.Gaining.{gives_none, gives_both, given_whole}
 use Rattle.lp_spec.specs.Modules.{Declaration}
 use Rattle.lp_spec.specs.ReadingFaults.{refusal, refused, answer_within}
 use Rattle.lp_spec.specs.Faults.{IsLeastWithin}
-use Rattle.text_laws.specs.LeastWithin.{answered-least, answer_within-place}
+use Rattle.dk_laws.specs.LeastWithin.{answered-least, answer_within-place}
 use Rattle.lp_spec.specs.declared.fault_kind.DkKind.{DkKind}
 use Rattle.dk_read.specs.declared.faults.DkFault.{DkFault}
 use Rattle.dk_read.specs.declared.faults.DkFault.TheVariants as fault

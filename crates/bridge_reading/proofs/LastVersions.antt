@@ -17,7 +17,7 @@ use Rattle.article_laws.specs.PlacesKept.{obey-keeps}
 use Rattle.article_laws.specs.SecondWords.{second_word-cases}
 use Rattle.article_laws.specs.SoundStates.{bound}
 use Rattle.article_laws.specs.SoundSteps.{on_line}
-use Rattle.writing_spec.specs.Versions.{version_of}
+use Rattle.article_write_spec.specs.Versions.{version_of}
 
 -- a command of the body keeps the place
 obey_item-keeps : (s t : State) (i : Item) → obey_item s i ≡ Ok t → t.place ≡ s.place

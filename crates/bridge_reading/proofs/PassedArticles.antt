@@ -13,7 +13,7 @@ use Rattle.hol_spec.specs.declared.Version.TheVariants.{Six}
 use Rattle.article_spec.specs.State.{State, Stage, start, last_version, initial}
 use Rattle.article_spec.specs.Run.{Outcome, RunsFrom, machine, accepted, accepted_state, refused_at, finished, passed, stopped}
 use Rattle.bridge_spec.specs.Answers.{AreRead, IsRunOf, IsRunOfVersion, RunsTo, articles}
-use Rattle.writing_spec.specs.Versions.{version_of, IsLastVersion, no_article, last}
+use Rattle.article_write_spec.specs.Versions.{version_of, IsLastVersion, no_article, last}
 use Rattle.bridge_spec.specs.Calls.{names_in}
 use Rattle.bridge_reading.specs.Halts.{HaltsText, Passes, IsRefused, OfText, bytes_told}
 use Rattle.bridge_reading.specs.Stops.{Stops, stop_of_halt}

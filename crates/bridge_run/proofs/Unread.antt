@@ -3,7 +3,7 @@ use Rattle.std.proofs.Common.{◌≡◌, ◌≤◌, inl, inr, ◌∙◌, ℕ, Li
 use Rattle.std.specs.declared.io.ErrorKind.{ErrorKind}
 use Rattle.std.specs.declared.io.ErrorKind.TheVariants.{InvalidData}
 use Rattle.bridge_answer.specs.AnswerTexts.{status_of, text_of, note_of}
-use Rattle.headline_laws.specs.FormPromises.{Performs-Promise}
+use Rattle.bridge_laws.specs.FormPromises.{Performs-Promise}
 use Rattle.bridge_answer.specs.Performed.{usage-Performs, memory-Performs}
 use Rattle.bridge_spec.specs.Calls.{Sunk, Call}
 use Rattle.bridge_spec.specs.Outputs.{Delivers}

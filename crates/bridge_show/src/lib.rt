@@ -4,7 +4,7 @@
 //! answers Done exactly where the stack machine accepts the articles, one after another, and then each line has the closed
 //! text of what that step of the run says.
 //!
-//! It stands on `bridge_reading` for the run of the articles, on `closed_text` for the lines, and on `bridge_answer` for what
+//! It stands on `bridge_reading` for the run of the articles, on `hol_text` for the lines, and on `bridge_answer` for what
 //! is written.
 //!
 //! ```text

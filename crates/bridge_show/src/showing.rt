@@ -15,7 +15,7 @@ ghost use Rattle.bridge_answer.specs.AnswerTexts.{status_of, text_of, note_of};
 use bridge_answer::Answer;
 use bridge_base::Shelf;
 use bridge_reading::read_articles;
-use closed_text::append_closed;
+use hol_text::append_closed;
 use common::Memory;
 use hol_rules::{Proof, StepId};
 use itoa::Buffer;

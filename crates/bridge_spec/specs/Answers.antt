@@ -10,8 +10,8 @@ use Rattle.hol_spec.specs.Mangling.{AreBytes}
 use Rattle.hol_spec.specs.declared.Version.{Version}
 use Rattle.article_spec.specs.Run.{Outcome, accepted, refused_at, Run}
 use Rattle.article_spec.specs.Trial.{trial_text}
-use Rattle.writing_spec.specs.Article.{article as article_of}
-use Rattle.writing_spec.specs.Versions.{IsLastVersion}
+use Rattle.article_write_spec.specs.Article.{article as article_of}
+use Rattle.article_write_spec.specs.Versions.{IsLastVersion}
 use Rattle.bridge_spec.specs.Forms.{Form, verify, translate, check, show, decode, trial}
 use Rattle.bridge_spec.specs.Calls.{Shelved, Call}
 use Rattle.bridge_spec.specs.Articles.{IsWritable, IsUnwritable}

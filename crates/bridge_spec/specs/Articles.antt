@@ -4,8 +4,8 @@ use Rattle.hol_spec.specs.Proofs.{Accepted}
 use Rattle.hol_spec.specs.declared.Version.{Version}
 use Rattle.article_spec.specs.Lines.{max_article}
 use Rattle.article_spec.specs.Run.{accepted, Run}
-use Rattle.writing_spec.specs.Article.{article, fits}
-use Rattle.writing_spec.specs.Retold.{Retells}
+use Rattle.article_write_spec.specs.Article.{article, fits}
+use Rattle.article_write_spec.specs.Retold.{Retells}
 
 -- One article of a version can say what the run exports, in as many bytes as an article may have.
 pub record IsWritable (version : Version) (run : Accepted) : Type 0 where

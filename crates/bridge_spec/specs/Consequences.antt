@@ -12,8 +12,8 @@ use Rattle.hol_spec.specs.Mangling.{AreBytes}
 use Rattle.hol_spec.specs.Proofs.{Accepted}
 use Rattle.hol_spec.specs.declared.Version.{Version}
 use Rattle.article_spec.specs.Run.{Outcome, accepted, refused_at, Run}
-use Rattle.writing_spec.specs.Article.{article as article_of}
-use Rattle.writing_spec.specs.Versions.{IsLastVersion}
+use Rattle.article_write_spec.specs.Article.{article as article_of}
+use Rattle.article_write_spec.specs.Versions.{IsLastVersion}
 use Rattle.bridge_spec.specs.Forms.{Form, verify, translate, check, show, decode, trial}
 use Rattle.bridge_spec.specs.Calls.{Shelved, Sunk, Call}
 use Rattle.bridge_spec.specs.FileChecks.{IsReadOf, ReadsAs, IsRefusedAt, EndsWithin, max_file}

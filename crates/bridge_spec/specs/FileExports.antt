@@ -4,8 +4,8 @@ use Rattle.std.specs.List.{filter}
 use Rattle.bridge_base.specs.Outside.{Files}
 use Rattle.hol_spec.specs.ClosedForm.{ClosedSequent}
 use Rattle.lp_spec.specs.Modules.{Declaration}
-use Rattle.module_spec.specs.Enc.{Enc}
-use Rattle.module_spec.specs.Stands.{is_export_name}
+use Rattle.translate_spec.specs.Enc.{Enc}
+use Rattle.translate_spec.specs.Stands.{is_export_name}
 use Rattle.bridge_spec.specs.FileChecks.{ReadsAs}
 
 -- the declarations that are named as exports, in order

@@ -12,8 +12,8 @@ use Rattle.lp_spec.specs.Reading.{Reads}
 use Rattle.lp_spec.specs.Weight.{bound}
 use Rattle.lp_spec.specs.Check.{Found}
 use Rattle.lp_spec.specs.FastCheck.{fast_bound}
-use Rattle.module_spec.specs.Image.{image}
-use Rattle.module_spec.specs.Stands.{StandsForRun}
+use Rattle.translate_spec.specs.Image.{image}
+use Rattle.translate_spec.specs.Stands.{StandsForRun}
 use Rattle.share_spec.specs.Folded.{folded, places, entries_of, place_in}
 use Rattle.share_spec.specs.FoldedStands.{FoldedStands}
 use Rattle.share_spec.specs.MovedTrees.{moved}

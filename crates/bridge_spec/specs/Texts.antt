@@ -10,7 +10,7 @@ use Rattle.lp_spec.specs.declared.form.Form.TheVariants.{Thm}
 use Rattle.lp_spec.specs.ReadingFaults.{Fault, NoPrelude, BadText, UnknownName, NameTwice, DkTooDeep, DkTooLong}
 use Rattle.lp_spec.specs.Text.{written}
 use Rattle.lp_spec.specs.Weight.{bound, greatest}
-use Rattle.module_spec.specs.Image.{image}
+use Rattle.translate_spec.specs.Image.{image}
 use Rattle.share_spec.specs.Folded.{folded}
 use Rattle.decode_spec.specs.ClosedText.{closed_text}
 use Rattle.bridge_spec.specs.declared.status.Status.{Status}

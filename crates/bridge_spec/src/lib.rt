@@ -17,7 +17,7 @@
 //! | `Articles` | whether one article can say what a run exports, and what it tells |
 //! | `Consequences` | what follows from what a call promises |
 //!
-//! The module of an accepted run, and what it is for it to stand for its run, are defined in `module_spec`.
+//! The module of an accepted run, and what it is for it to stand for its run, are defined in `translate_spec`.
 #![tactic(auto)]
 
 pub mod status;

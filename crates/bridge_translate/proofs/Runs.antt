@@ -7,13 +7,13 @@ use Rattle.article_laws.specs.SoundSteps.{runs_are_sound}
 use Rattle.lp_spec.specs.ModuleOrder.{IsModule}
 use Rattle.lp_spec.specs.Modules.{Declaration}
 use Rattle.lp_spec.specs.ShortNames.{NoneShort}
-use Rattle.lp_shape.specs.ShapedPasses.{AreShaped}
-use Rattle.module_spec.specs.Image.{image, name_in}
-use Rattle.run_laws.specs.AcceptedRuns.{runs_are_carried}
-use Rattle.run_laws.specs.Named.{HasNames}
-use Rattle.run_laws.specs.RunModules.{runs_are_modules}
-use Rattle.standing_laws.specs.NamedRuns.{run-has_names}
-use Rattle.headline_laws.specs.PlainNames.{image-NoneShort}
+use Rattle.lp_check_laws.specs.ShapedPasses.{AreShaped}
+use Rattle.translate_spec.specs.Image.{image, name_in}
+use Rattle.image_laws.specs.AcceptedRuns.{runs_are_carried}
+use Rattle.image_laws.specs.Named.{HasNames}
+use Rattle.image_laws.specs.RunModules.{runs_are_modules}
+use Rattle.image_reach_laws.specs.NamedRuns.{run-has_names}
+use Rattle.bridge_laws.specs.PlainNames.{image-NoneShort}
 use Rattle.share_spec.specs.Folded.{folded}
 use Rattle.bridge_spec.specs.Answers.{IsRunOf}
 use Rattle.bridge_spec.specs.Texts.{module_of}

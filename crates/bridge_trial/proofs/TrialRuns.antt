@@ -6,7 +6,7 @@ use Rattle.hol_spec.specs.Proofs.{Accepted}
 use Rattle.article_spec.specs.Run.{machine, accepted, refused_at, Run}
 use Rattle.article_laws.specs.RunLaws.{one_outcome}
 use Rattle.article_spec.specs.Trial.{trial_text}
-use Rattle.trial_laws.specs.TrialArticles.{trials_are_accepted}
+use Rattle.article_trial_laws.specs.TrialArticles.{trials_are_accepted}
 use Rattle.bridge_spec.specs.Answers.{AreRead, IsRunOf, IsRunOfTrial, RunsTo}
 use Rattle.bridge_spec.specs.Forms.{greatest_trial}
 use Rattle.bridge_answer.specs.declared.answer.Answer.TheVariants as answer

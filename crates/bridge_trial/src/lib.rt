@@ -5,7 +5,7 @@
 //! the lines of `verify` then stand on standard output. That nothing of this is refused is proved, so the answer is Done, want of memory, or a
 //! write fault where a sink failed; the call does it all the same, and would say what it found.
 //!
-//! It stands on `trial_laws` for the law that the article is accepted, on `bridge_translate` for its module, and on `bridge_verify` for the check.
+//! It stands on `article_trial_laws` for the law that the article is accepted, on `bridge_translate` for its module, and on `bridge_verify` for the check.
 //!
 //! ```text
 //! let status = trial(alloc, 1_000, &mut out, &mut note);

@@ -2,7 +2,7 @@
 ghost use Rattle.std.specs.Prelude.{◌≡◌, ◌<◌, ◌≤◌, [], ◌∷◌, IfOk, IfErr, OnOk, length, true, false};
 ghost use Rattle.hol_spec.specs.Proofs.{Accepted};
 ghost use Rattle.lp_kernel.specs.Checks.{PassBelow};
-ghost use Rattle.module_spec.specs.Image.{image};
+ghost use Rattle.translate_spec.specs.Image.{image};
 ghost use Rattle.bridge_spec.specs.Answers.{IsRunOfTrial};
 ghost use Rattle.bridge_spec.specs.Calls.{names_in};
 ghost use Rattle.bridge_spec.specs.Forms.{greatest_trial};

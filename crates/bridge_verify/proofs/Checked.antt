@@ -15,7 +15,7 @@ use Rattle.holide_sig.specs.declared.module.Module.{Module}
 use Rattle.holide_sig.specs.Modules.{declaration_in, declarations_of}
 use Rattle.bridge_spec.specs.Headline.{Headline}
 use Rattle.bridge_spec.specs.Texts.{module_bounds, module_of}
-use Rattle.headline_laws.specs.Headlines.{declaration-at}
+use Rattle.bridge_laws.specs.Headlines.{declaration-at}
 use Rattle.bridge_translate.specs.Translations.{IsTranslationOf}
 use Rattle.bridge_translate.specs.TranslationLaws.{written-module_text}
 use Rattle.bridge_translate.specs.declared.translation.Translation.{Translation}

@@ -12,7 +12,7 @@ use Rattle.holide_sig.specs.declared.module.Module.{Module}
 use Rattle.holide_sig.specs.Modules.{declaration_in, declarations_of}
 use Rattle.bridge_spec.specs.Headline.{Headline}
 use Rattle.bridge_spec.specs.Texts.{module_of}
-use Rattle.headline_laws.specs.Headlines.{declaration-at}
+use Rattle.bridge_laws.specs.Headlines.{declaration-at}
 
 -- what a function gives of the elements so far, and of the next
 take_suc-map : {A : Type 0} (f : A → ℕ) (xs : List A) (i : ℕ) → i < length xs → map f (take (suc i) xs) ≡ map f (take i xs) ++ option_map_or f (slice_get xs i) 0 ∷ []

@@ -24,7 +24,7 @@ use Rattle.hol_type.specs.TableLaws.{tree_at-Stays}
 use Rattle.hol_term.specs.TableLaws.{Keeps-trans, Some-term_in, term_in-Stays}
 use Rattle.lp_spec.specs.Trees.{Tree, Lam}
 use Rattle.lp_spec.specs.Modules.{Declaration}
-use Rattle.module_spec.specs.TypeEnc.{Place, inside}
+use Rattle.translate_spec.specs.TypeEnc.{Place, inside}
 use Rattle.decode_spec.specs.Options.{bind, both}
 use Rattle.decode_laws.specs.OptionLaws.{some-injective, both-is}
 use Rattle.decode_spec.specs.Opened.{open_type, open_term}

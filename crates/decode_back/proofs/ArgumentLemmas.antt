@@ -11,7 +11,7 @@ use Rattle.hol_type.specs.TableLaws.{Holds-tree_at, pairs_at-Stays, ArePairsKnow
 use Rattle.hol_term.specs.Tables.{Trees}
 use Rattle.lp_spec.specs.Trees.{Tree}
 use Rattle.lp_spec.specs.Modules.{Declaration}
-use Rattle.module_spec.specs.TypeEnc.{Place, StandsForType, StandForTypes}
+use Rattle.translate_spec.specs.TypeEnc.{Place, StandsForType, StandForTypes}
 use Rattle.decode_spec.specs.Opened.{open_type}
 use Rattle.decode_spec.specs.Decode.{closed_count, type_of_tree}
 use Rattle.decode_laws.specs.TypeLaws.{joined, count-stand, type_of_tree-is}

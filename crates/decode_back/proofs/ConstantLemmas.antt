@@ -18,7 +18,7 @@ use Rattle.lp_spec.specs.Modules.{Declaration, symbol_type, types, term_of}
 use Rattle.decode_spec.specs.Options.{bind, or_else, provided}
 use Rattle.decode_laws.specs.OptionLaws.{bind-is, provided-is, some-injective, provided-true}
 use Rattle.decode_spec.specs.Decode.{name_behind, has_type, is_lacking, Constant, constant_with, constant_at, defined_constant, generic_of, input_constant}
-use Rattle.module_spec.specs.ConstantMeaning as meaning
+use Rattle.translate_spec.specs.ConstantMeaning as meaning
 use Rattle.decode_spec.specs.Opened.{open_type}
 use Rattle.decode_back.specs.Walks.{parameter_name, IsConstantFound, IsGenericFound}
 

@@ -16,8 +16,8 @@ use Rattle.hol_type.specs.Tables as type
 use Rattle.hol_type.specs.TableLaws.{Holds-tree_at}
 use Rattle.lp_spec.specs.Trees.{Tree, Sym}
 use Rattle.lp_spec.specs.Modules.{Declaration, applied, signature}
-use Rattle.module_spec.specs.TypeEnc.{Place}
-use Rattle.module_spec.specs.ConstantMeaning.{instance_of}
+use Rattle.translate_spec.specs.TypeEnc.{Place}
+use Rattle.translate_spec.specs.ConstantMeaning.{instance_of}
 use Rattle.decode_spec.specs.Opened.{open_type}
 use Rattle.decode_spec.specs.Decode.{Constant, constant_with, constant_at, term_from}
 use Rattle.decode_laws.specs.TypeLaws.{count-stand}

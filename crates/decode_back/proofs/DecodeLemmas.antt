@@ -10,7 +10,7 @@ use Rattle.lp_term.specs.Tables.{tree_at}
 use Rattle.holide_sig.specs.declared.decls.Decl.{Decl}
 use Rattle.holide_sig.specs.declared.module.Module.{Module}
 use Rattle.holide_sig.specs.Modules.{declaration_in, declarations_of}
-use Rattle.module_spec.specs.Enc.{Enc}
+use Rattle.translate_spec.specs.Enc.{Enc}
 use Rattle.sequent.specs.declared.closed.Closed.{Closed}
 use Rattle.sequent.specs.Closed.{closed_view}
 use Rattle.decode_spec.specs.Decode.{parts, proof_part}

@@ -16,8 +16,8 @@ use Rattle.hol_type.specs.TableLaws.{Holds-tree_at}
 use Rattle.hol_term.specs.Tables.{Trees}
 use Rattle.lp_spec.specs.Trees.{Tree, size}
 use Rattle.lp_spec.specs.Modules.{Declaration}
-use Rattle.module_spec.specs.TypeEnc.{place}
-use Rattle.module_spec.specs.ConstantMeaning.{parameter_places, numbers}
+use Rattle.translate_spec.specs.TypeEnc.{place}
+use Rattle.translate_spec.specs.ConstantMeaning.{parameter_places, numbers}
 use Rattle.decode_spec.specs.Options.{bind, provided}
 use Rattle.decode_laws.specs.OptionLaws.{some-injective, bind-is, provided-is, provided-true}
 use Rattle.decode_spec.specs.Opened.{open_type}

@@ -5,7 +5,7 @@ use Rattle.hol_term.specs.declared.TermId.{TermId}
 use Rattle.hol_term.specs.Tables.{Trees}
 use Rattle.lp_spec.specs.Trees.{Tree, Var}
 use Rattle.lp_spec.specs.Modules.{Declaration}
-use Rattle.module_spec.specs.TypeEnc.{Place, place, inside}
+use Rattle.translate_spec.specs.TypeEnc.{Place, place, inside}
 use Rattle.decode_spec.specs.Decode.{term_from}
 use Rattle.decode_laws.specs.TermWalkLaws.{NoTerm, none-shallow_term}
 use Rattle.decode_back.specs.Walks.{parameter_name}

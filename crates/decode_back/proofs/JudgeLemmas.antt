@@ -20,7 +20,7 @@ use Rattle.hol_laws.specs.TermLaws.{term_eq-Decides}
 use Rattle.hol_spec.specs.Sequents.{Sequent, terms_of, type_variables_of, free_variables_of}
 use Rattle.hol_spec.specs.Limits.{greatest_depth, greatest_by, term_depth}
 use Rattle.hol_spec.specs.ClosedForm.{ClosedSequent, closed_form}
-use Rattle.module_spec.specs.ConstantMeaning.{numbers}
+use Rattle.translate_spec.specs.ConstantMeaning.{numbers}
 use Rattle.hol_term.specs.declared.TermId.{TermId}
 use Rattle.hol_type.specs.declared.table.TypeId.{TypeId}
 use Rattle.hol_type.specs.Tables as type

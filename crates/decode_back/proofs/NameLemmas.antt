@@ -5,7 +5,7 @@ use Rattle.hol_spec.specs.Names.{Name}
 use Rattle.hol_spec.specs.NameEquality.{name_eq}
 use Rattle.hol_laws.specs.NameEqualityLaws.{name_eq-Decides}
 use Rattle.hol_laws.specs.TypeLaws.{both-Decides}
-use Rattle.module_spec.specs.ConstantMeaning.{numbers}
+use Rattle.translate_spec.specs.ConstantMeaning.{numbers}
 use Rattle.std.specs.Prelude.{◌/◌, ◌%◌}
 use Rattle.decode_spec.specs.Opened.{AreApart}
 use Rattle.decode_back.specs.Walks.{parameter_name, numbered_from}

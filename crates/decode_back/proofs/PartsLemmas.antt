@@ -22,7 +22,7 @@ use Rattle.std.specs.declared.alloc.Global.{Global}
 use Rattle.hol_term.specs.TableLaws.{Some-term_in, terms_at-Keeps}
 use Rattle.sequent.specs.declared.closed.Closed.{Closed}
 use Rattle.lp_spec.specs.Modules.{Declaration, term_symbol, proof_symbol}
-use Rattle.module_spec.specs.TypeEnc.{place}
+use Rattle.translate_spec.specs.TypeEnc.{place}
 use Rattle.decode_spec.specs.Options.{bind}
 use Rattle.decode_laws.specs.OptionLaws.{some-injective, bind-is, both-is}
 use Rattle.decode_spec.specs.Opened.{open_term, open_variables, opened, IsOpen}
@@ -36,7 +36,7 @@ use Rattle.decode_back.specs.TermWalks.{AreVariables, IsTermFound}
 use Rattle.decode_back.specs.SequentWalks.{AreParts, AreVariablesWithin, AreVariablesFound, all_size, AreShallow, AreHypothesesFound, IsMade, IsJudged, IsSequentFound}
 use Rattle.decode_back.proofs.NameLemmas.{parameter_name-apart}
 use Rattle.decode_back.proofs.TermLemmas.{open_variables-length, length-map, AreVariables-Keeps, AreVariables-length}
-use Rattle.lp_binding.specs.LookUps.{option_map-some}
+use Rattle.lp_binding_laws.specs.LookUps.{option_map-some}
 
 -- the parts of a tree, from what is left behind its type variables, behind its free variables and behind its hypotheses
 module _ (A behind_types behind_variables behind_hypotheses : Tree) (n : ℕ) (vs hs : List Tree)

@@ -20,7 +20,7 @@ use Rattle.lp_spec.specs.Modules.{Declaration}
 use Rattle.lp_term.specs.declared.LpId.{LpId}
 use Rattle.lp_term.specs.Tables as lp
 use Rattle.lp_term.specs.Tables.{tree_at, trees_at}
-use Rattle.module_spec.specs.TypeEnc.{place}
+use Rattle.translate_spec.specs.TypeEnc.{place}
 use Rattle.decode_spec.specs.Options.{both}
 use Rattle.decode_laws.specs.OptionLaws.{some-injective, both-is}
 use Rattle.decode_spec.specs.Opened.{open_type, open_term, open_variables}
@@ -29,7 +29,7 @@ use Rattle.decode_back.specs.Walks.{parameter_name, IsTypeFound}
 use Rattle.decode_back.specs.TermWalks.{free_of, AreVariables, IsTermFound}
 use Rattle.decode_back.specs.SequentWalks.{IsVariableWithin, AreVariablesWithin, all_size, AreShallow}
 use Rattle.decode_back.proofs.PeelLemmas.{behind_parts}
-use Rattle.lp_binding.specs.LookUps.{option_map-some}
+use Rattle.lp_binding_laws.specs.LookUps.{option_map-some}
 
 -- what is peeled off, one part after another
 trees_at-append : (trees : List Tree) (xs ys : List LpId) → trees_at trees (xs ++ ys) ≡ trees_at trees xs ++ trees_at trees ys

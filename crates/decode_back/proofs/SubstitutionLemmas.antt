@@ -14,7 +14,7 @@ use Rattle.hol_spec.specs.Types as type
 use Rattle.hol_spec.specs.Types.{variable}
 use Rattle.hol_spec.specs.Substitution.{image, substitute, substitute_all}
 use Rattle.hol_spec.specs.ClosedForm.{ClosedType, ClosedTypes}
-use Rattle.module_spec.specs.ConstantMeaning.{argument, instance_of, instances_of, parameter_places, parameter_places_of_all, numbers}
+use Rattle.translate_spec.specs.ConstantMeaning.{argument, instance_of, instances_of, parameter_places, parameter_places_of_all, numbers}
 use Rattle.decode_spec.specs.Opened.{open_type, open_types}
 use Rattle.decode_spec.specs.Decode.{closed_count}
 use Rattle.decode_back.specs.Walks.{parameter_name}

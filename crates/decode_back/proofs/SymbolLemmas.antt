@@ -2,7 +2,7 @@
 use Rattle.std.proofs.Common.{◌++◌, ◌≡◌, ◌<◌, ◌⊎◌, inl, inr, ℕ, suc, ◌+◌, ◌-◌, ◌&&◌, List, [], ◌∷◌, Bool, true, false, cond, Option, Some, None, drop, length, refl, sym, ap, ◌∙◌, arith}
 use Rattle.std.specs.Prelude.{◌^◌, not, replicate, codes, decimal}
 use Rattle.lp_spec.specs.Numerals.{numeral}
-use Rattle.module_laws.specs.NumeralLaws.{numeral-decimal}
+use Rattle.translate_laws.specs.NumeralLaws.{numeral-decimal}
 use Rattle.std.specs.Option.{unwrap_or}
 use Rattle.std.specs.Bool.{Decides}
 use Rattle.std.proofs.lemmas.Bool.Decides.{same_from_decides}

@@ -17,7 +17,7 @@ use Rattle.lp_term.specs.declared.LpNode.{LpNode}
 use Rattle.lp_term.specs.declared.LpNode.TheVariants as node
 use Rattle.lp_term.specs.Tables.{tree_at, tree_of_node}
 use Rattle.lp_spec.specs.Modules.{Declaration, applied}
-use Rattle.module_spec.specs.TypeEnc.{Place, depth_of}
+use Rattle.translate_spec.specs.TypeEnc.{Place, depth_of}
 use Rattle.decode_spec.specs.Opened.{open_type, type_at, open_term, open_variables}
 use Rattle.decode_spec.specs.Decode.{term_from, constant_from}
 use Rattle.decode_spec.specs.Options.{provided}

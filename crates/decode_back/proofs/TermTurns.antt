@@ -14,7 +14,7 @@ use Rattle.lp_spec.specs.Modules.{Declaration, applied}
 use Rattle.lp_term.specs.declared.LpId.{LpId}
 use Rattle.lp_term.specs.Tables as lp
 use Rattle.lp_term.specs.Tables.{tree_at, trees_at}
-use Rattle.module_spec.specs.TypeEnc.{Place, inside}
+use Rattle.translate_spec.specs.TypeEnc.{Place, inside}
 use Rattle.decode_spec.specs.Options.{bind}
 use Rattle.decode_spec.specs.Opened.{open_type, open_term}
 use Rattle.decode_spec.specs.Decode.{term_from, term_part, type_of_tree}

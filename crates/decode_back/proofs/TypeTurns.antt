@@ -14,7 +14,7 @@ use Rattle.lp_spec.specs.Trees.{Tree, SortType, SortKind, Var, Sym, App, Lam, Pi
 use Rattle.lp_spec.specs.Modules.{Declaration}
 use Rattle.lp_term.specs.declared.LpId.{LpId}
 use Rattle.lp_term.specs.Tables.{tree_at}
-use Rattle.module_spec.specs.TypeEnc.{Place}
+use Rattle.translate_spec.specs.TypeEnc.{Place}
 use Rattle.decode_spec.specs.Opened.{open_type, open_types}
 use Rattle.decode_spec.specs.Decode.{type_from, closed_count}
 use Rattle.decode_laws.specs.WalkLaws.{none-argument, none-shallow, some-argument}

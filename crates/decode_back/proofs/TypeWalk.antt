@@ -21,7 +21,7 @@ use Rattle.lp_term.specs.Tables.{tree_of_node}
 use Rattle.lp_term.specs.declared.LpId.{LpId}
 use Rattle.lp_term.specs.declared.LpNode.{LpNode}
 use Rattle.lp_term.specs.declared.LpNode.TheVariants as node
-use Rattle.module_spec.specs.TypeEnc.{Place, depth_of}
+use Rattle.translate_spec.specs.TypeEnc.{Place, depth_of}
 use Rattle.decode_laws.specs.OptionLaws.{provided-true, provided-is}
 use Rattle.decode_back.proofs.UndeclaredLemmas.{operator_at-undeclared}
 use Rattle.std.proofs.lemmas.Bool.Decides.{Decides-ltb}

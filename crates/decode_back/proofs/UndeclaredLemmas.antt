@@ -6,10 +6,10 @@ use Rattle.hol_spec.specs.Names.{Name}
 use Rattle.hol_spec.specs.ClosedForm.{ClosedType}
 use Rattle.lp_spec.specs.Trees.{Tree}
 use Rattle.lp_spec.specs.Modules.{Declaration, signature, symbol_declaration, symbol_type}
-use Rattle.module_spec.specs.OperatorMeaning.{MeansOperator}
-use Rattle.module_spec.specs.OperatorMeaning as operators
-use Rattle.module_spec.specs.ConstantMeaning.{MeansConstant}
-use Rattle.module_spec.specs.ConstantMeaning as constants
+use Rattle.translate_spec.specs.OperatorMeaning.{MeansOperator}
+use Rattle.translate_spec.specs.OperatorMeaning as operators
+use Rattle.translate_spec.specs.ConstantMeaning.{MeansConstant}
+use Rattle.translate_spec.specs.ConstantMeaning as constants
 use Rattle.decode_spec.specs.Decode.{operator_at, Constant, constant_at}
 use Rattle.decode_laws.specs.OptionLaws.{Some-or_None}
 use Rattle.decode_laws.specs.SymbolLaws.{operator_at-is}

@@ -17,8 +17,8 @@ use Rattle.lp_term.specs.declared.LpId.{LpId}
 use Rattle.lp_term.specs.Tables as lp
 use Rattle.holide_sig.specs.declared.module.Module.{Module}
 use Rattle.holide_sig.specs.Modules.{declarations_of}
-use Rattle.module_spec.specs.ConstantMeaning.{numbers}
-use Rattle.module_spec.specs.Enc.{Enc}
+use Rattle.translate_spec.specs.ConstantMeaning.{numbers}
+use Rattle.translate_spec.specs.Enc.{Enc}
 use Rattle.sequent.specs.declared.Sequent.{Sequent as SequentFound}
 use Rattle.sequent.specs.declared.closed.Closed.{Closed}
 use Rattle.sequent.specs.Closed.{closed_view}

@@ -9,7 +9,7 @@ use Rattle.lp_term.specs.Tables.{tree_at, trees_at}
 use Rattle.holide_sig.specs.Modules.{declarations_of, IsHeld}
 use Rattle.hol_term.specs.declared.TermId.{TermId}
 use Rattle.hol_term.specs.Tables.{Trees, AreKnown, Holds}
-use Rattle.module_spec.specs.TypeEnc.{Place}
+use Rattle.translate_spec.specs.TypeEnc.{Place}
 use Rattle.decode_spec.specs.Decode.{term_from, type_of_tree}
 use Rattle.decode_back.specs.declared.sources.Source.{Source}
 use Rattle.decode_back.specs.Walks.{at_place, greatest_number}

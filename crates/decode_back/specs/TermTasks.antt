@@ -10,8 +10,8 @@ use Rattle.lp_spec.specs.Modules.{Declaration}
 use Rattle.lp_spec.specs.Trees.{Tree, size}
 use Rattle.lp_term.specs.declared.LpId.{LpId}
 use Rattle.lp_term.specs.Tables.{tree_at}
-use Rattle.module_spec.specs.TypeEnc.{place}
-use Rattle.module_spec.specs.TypeEnc as enc
+use Rattle.translate_spec.specs.TypeEnc.{place}
+use Rattle.translate_spec.specs.TypeEnc as enc
 use Rattle.decode_spec.specs.Opened.{open_type, open_term}
 use Rattle.decode_spec.specs.Decode.{term_from}
 use Rattle.decode_back.specs.declared.places.Place.{Place}

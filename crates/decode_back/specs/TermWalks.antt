@@ -15,7 +15,7 @@ use Rattle.hol_term.specs.declared.TermId.{TermId}
 use Rattle.hol_term.specs.Tables.{Trees, Holds, term_at, terms_at, type_at}
 use Rattle.lp_spec.specs.Trees.{Tree, App}
 use Rattle.lp_spec.specs.Modules.{Declaration, applied}
-use Rattle.module_spec.specs.TypeEnc.{Place, StandForTypes}
+use Rattle.translate_spec.specs.TypeEnc.{Place, StandForTypes}
 use Rattle.decode_spec.specs.Opened.{open_type, open_term, open_variables}
 use Rattle.decode_spec.specs.Decode.{type_of_tree, term_from}
 use Rattle.decode_back.specs.Walks.{parameter_name}

@@ -8,7 +8,7 @@ use Rattle.hol_term.specs.Tables.{Trees}
 use Rattle.lp_spec.specs.Modules.{Declaration}
 use Rattle.lp_spec.specs.Trees.{Tree, size}
 use Rattle.lp_term.specs.Tables.{tree_at}
-use Rattle.module_spec.specs.TypeEnc.{Place}
+use Rattle.translate_spec.specs.TypeEnc.{Place}
 use Rattle.decode_spec.specs.Opened.{open_type}
 use Rattle.decode_spec.specs.Decode.{type_from, closed_count}
 use Rattle.holide_sig.specs.declared.module.Module.{Module}

@@ -9,8 +9,8 @@ use Rattle.hol_type.specs.declared.table.TypeId.{TypeId}
 use Rattle.hol_type.specs.Tables.{types_at}
 use Rattle.hol_type.specs.Tables as type
 use Rattle.hol_term.specs.Tables.{Trees}
-use Rattle.module_spec.specs.TypeEnc.{place}
-use Rattle.module_spec.specs.TypeEnc as enc
+use Rattle.translate_spec.specs.TypeEnc.{place}
+use Rattle.translate_spec.specs.TypeEnc as enc
 use Rattle.decode_spec.specs.Opened.{open_type, open_types}
 use Rattle.decode_spec.specs.Decode.{Constant, constant_with}
 use Rattle.decode_back.specs.declared.places.Place.{Place}

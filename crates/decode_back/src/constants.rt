@@ -9,7 +9,7 @@ ghost use Rattle.lp_spec.specs.Modules.{signature, types, term_of};
 ghost use Rattle.lp_term.specs.Tables.{tree_at};
 ghost use Rattle.holide_sig.specs.Modules.{declarations_of, IsHeld};
 ghost use Rattle.hol_term.specs.Tables.{Keeps};
-ghost use Rattle.module_spec.specs.ConstantMeaning.{numbers};
+ghost use Rattle.translate_spec.specs.ConstantMeaning.{numbers};
 ghost use Rattle.decode_spec.specs.Decode.{constant_at as constant_meant, defined_constant, generic_of as generic_told, is_lacking};
 ghost use Rattle.decode_spec.specs.Decode.{peel_types as peeled, symbol_argument as argument_told};
 ghost use Rattle.decode_back.specs.Symbols.{constant_of, own_name, IsInputFound};

@@ -1,6 +1,6 @@
 //! Where a part of a sequent's product stands.
 ghost use Rattle.std.specs.Prelude.{◌≡◌};
-ghost use Rattle.module_spec.specs.TypeEnc.{depth_of};
+ghost use Rattle.translate_spec.specs.TypeEnc.{depth_of};
 ghost use Rattle.decode_back.specs.Walks.{at_place};
 
 /// How many binders are round a part: those of type variables, of free variables and of hypotheses, from without, and then those of its

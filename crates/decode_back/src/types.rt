@@ -4,7 +4,7 @@ ghost use Rattle.hol_spec.specs.ClosedForm.{ClosedType, ClosedTypes};
 ghost use Rattle.hol_spec.specs.Limits.{greatest_depth};
 ghost use Rattle.lp_spec.specs.Trees.{Sym, Var};
 ghost use Rattle.lp_spec.specs.Modules.{Declaration};
-ghost use Rattle.module_spec.specs.TypeEnc.{Place as APlace};
+ghost use Rattle.translate_spec.specs.TypeEnc.{Place as APlace};
 ghost use Rattle.hol_type.specs.Tables.{AreKnown};
 ghost use Rattle.hol_term.specs.Tables.{Keeps};
 ghost use Rattle.lp_term.specs.Tables.{tree_at};

@@ -18,8 +18,8 @@ use Rattle.std.proofs.Math.Path.{ap₂}
 use Rattle.hol_spec.specs.Sequents.{Sequent, IsSequent, type_variables_of, free_variables_of, parameter_count}
 use Rattle.hol_spec.specs.Limits.{sequent_size, sequent_depth, SequentWithin, greatest_size, greatest_depth, greatest_parameter_count}
 use Rattle.hol_spec.specs.ClosedForm.{ClosedType, ClosedTypes, ClosedTerm, ClosedSequent, close_type, close_types, close_term, closed_form}
-use Rattle.module_spec.specs.ConstantMeaning.{numbers}
-use Rattle.module_spec.specs.Enc.{IsClosedForm}
+use Rattle.translate_spec.specs.ConstantMeaning.{numbers}
+use Rattle.translate_spec.specs.Enc.{IsClosedForm}
 use Rattle.hol_spec.specs.Lists.{IsIn}
 use Rattle.hol_laws.specs.Members.{All-left, All-right}
 use Rattle.hol_laws.specs.PositionLaws.{position-cons}

@@ -12,15 +12,15 @@ use Rattle.hol_spec.specs.Primitives.{equality_name, select_name, primitive_type
 use Rattle.hol_spec.specs.ClosedForm.{ClosedType}
 use Rattle.lp_spec.specs.Trees.{Tree, SortType, SortKind, Var, Sym, App, Lam, Pi}
 use Rattle.lp_spec.specs.Modules.{Declaration, type_symbol, term_symbol, eq_symbol, select_symbol, symbol_name, symbol_type, products, types, term_of}
-use Rattle.module_spec.specs.TypeEnc.{place}
-use Rattle.module_spec.specs.ConstantMeaning.{NamesConstant, HasGenericType, MeansConstant, equality_type, choice_type, parameter_places, numbers}
-use Rattle.module_spec.specs.ConstantMeaning as constants
+use Rattle.translate_spec.specs.TypeEnc.{place}
+use Rattle.translate_spec.specs.ConstantMeaning.{NamesConstant, HasGenericType, MeansConstant, equality_type, choice_type, parameter_places, numbers}
+use Rattle.translate_spec.specs.ConstantMeaning as constants
 use Rattle.decode_spec.specs.Options.{bind, provided}
 use Rattle.decode_laws.specs.OptionLaws.{some-injective, bind-is, or_else-is, or_else-first, or_else-second, provided-is, provided-true}
 use Rattle.decode_spec.specs.Decode.{name_behind, has_type, is_lacking, symbol_argument, term_part, is_types, peel_one, peel_types, type_of_tree, Constant, constant_with, generic_of, primitive_constant, input_constant, defined_constant, constant_at}
 use Rattle.decode_laws.specs.SymbolLaws.{begins, name_behind-is, name_behind-has, has_type-Decides, is_lacking-Decides}
 use Rattle.decode_laws.specs.TypeLaws.{type_of_tree-is, type_of_tree-stands}
-use Rattle.lp_binding.specs.LookUps.{option_map-some}
+use Rattle.lp_binding_laws.specs.LookUps.{option_map-some}
 
 pub symbol_argument-is : (s : ℕ) (A a : Tree) → symbol_argument s A ≡ Some a → A ≡ App (Sym s) a
 symbol_argument-is s SortType a e = absurd (cc)

@@ -5,8 +5,8 @@ use Rattle.std.specs.Option.{option_map}
 use Rattle.hol_spec.specs.ClosedForm.{ClosedType, ClosedTerm, ClosedSequent}
 use Rattle.lp_spec.specs.Trees.{Tree, SortType, SortKind, Var, Sym, App, Lam, Pi}
 use Rattle.lp_spec.specs.Modules.{Declaration, term_symbol, proof_symbol, products, types, term_of, proof_of}
-use Rattle.module_spec.specs.TypeEnc.{place}
-use Rattle.module_spec.specs.Enc.{StandsForTerm, StandForVariables, StandForHypotheses, domains, IsClosedForm, Enc, OneEncoding}
+use Rattle.translate_spec.specs.TypeEnc.{place}
+use Rattle.translate_spec.specs.Enc.{StandsForTerm, StandForVariables, StandForHypotheses, domains, IsClosedForm, Enc, OneEncoding}
 use Rattle.decode_spec.specs.Options.{bind, both, provided}
 use Rattle.decode_laws.specs.OptionLaws.{some-injective, bind-is, both-is, provided-is, provided-true, Some-or_None}
 use Rattle.decode_spec.specs.Opened.{own_name, AreApart}
@@ -17,7 +17,7 @@ use Rattle.decode_laws.specs.TypeLaws.{type_of_tree-is, type_of_tree-stands}
 use Rattle.decode_laws.specs.ConstantLaws.{symbol_argument-is, symbol_argument-of, peel_types-is, peel_types-products}
 use Rattle.decode_laws.specs.TermLaws.{term_from-is, term_from-stands}
 use Rattle.decode_spec.specs.DecodeStatements.{DecodedExactly}
-use Rattle.lp_binding.specs.LookUps.{option_map-some}
+use Rattle.lp_binding_laws.specs.LookUps.{option_map-some}
 
 -- the names of numbers are apart
 own_name-apart : AreApart own_name

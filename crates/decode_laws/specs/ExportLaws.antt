@@ -3,8 +3,8 @@ use Rattle.std.proofs.Common.{◌≡◌, ℕ, suc, List, [], ◌∷◌, map, Som
 use Rattle.hol_spec.specs.ClosedForm.{closed_form}
 use Rattle.hol_spec.specs.Proofs.{sequent_at, Accepted}
 use Rattle.lp_spec.specs.Modules.{Declaration}
-use Rattle.module_spec.specs.Stands.{AreExports}
-use Rattle.module_spec.specs.Stands as stands
+use Rattle.translate_spec.specs.Stands.{AreExports}
+use Rattle.translate_spec.specs.Stands as stands
 use Rattle.decode_spec.specs.Decode.{decode}
 use Rattle.decode_spec.specs.DecodeStatements.{ExportsDecoded}
 use Rattle.decode_laws.specs.DecodingLaws.{decode-Enc}

@@ -13,7 +13,7 @@ use Rattle.hol_spec.specs.Limits.{type_size, types_size}
 use Rattle.hol_spec.specs.ClosedForm.{ClosedType, ClosedTypes}
 use Rattle.hol_laws.specs.RenamingLaws.{agree, distinct-map}
 use Rattle.hol_laws.specs.Members.{All-each}
-use Rattle.module_spec.specs.ConstantMeaning.{parameter_places, parameter_places_of_all, numbers}
+use Rattle.translate_spec.specs.ConstantMeaning.{parameter_places, parameter_places_of_all, numbers}
 use Rattle.decode_spec.specs.Opened.{AreApart, open_type, open_types}
 use Rattle.decode_laws.specs.SizeLaws.{summed, summed-append, summed-distinct}
 

@@ -16,7 +16,7 @@ use Rattle.std.proofs.Math.Path.{ap₂}
 use Rattle.hol_spec.specs.Sequents.{Sequent, IsSequent, terms_of, type_variables_of, free_variables_of}
 use Rattle.hol_spec.specs.Limits.{SequentWithin}
 use Rattle.hol_spec.specs.ClosedForm.{ClosedType, close_type, close_types, close_term, closed_form}
-use Rattle.module_spec.specs.ConstantMeaning.{numbers}
+use Rattle.translate_spec.specs.ConstantMeaning.{numbers}
 use Rattle.hol_laws.specs.Members.{All-each, All-at, All-left, All-right, All-weaker, map-each, map-twice}
 use Rattle.hol_spec.specs.Renamings.{renamed_type, renamed_types, renamed_variable, renamed, renamed_sequent}
 use Rattle.hol_laws.specs.RenamedSequents.{hypotheses-IsOver, conclusion-IsOver, type_variables-renamed, free_variables-renamed, IsSequent-renamed, SequentWithin-renamed}

@@ -11,8 +11,8 @@ use Rattle.hol_spec.specs.Limits.{type_size, term_size, sequent_size, greatest_s
 use Rattle.hol_spec.specs.ClosedForm.{ClosedType, ClosedTerm, ClosedSequent}
 use Rattle.lp_spec.specs.Trees.{Tree, size}
 use Rattle.lp_spec.specs.Modules.{Declaration, products, types, term_of, proof_of}
-use Rattle.module_spec.specs.TypeEnc.{place}
-use Rattle.module_spec.specs.Enc.{StandForVariables, StandForHypotheses, domains, Enc}
+use Rattle.translate_spec.specs.TypeEnc.{place}
+use Rattle.translate_spec.specs.Enc.{StandForVariables, StandForHypotheses, domains, Enc}
 use Rattle.decode_spec.specs.Opened.{open_term, open_variables, opened}
 use Rattle.decode_laws.specs.ClosedFormTestLaws.{IsClosedForm-IsOpen, length-numbers}
 use Rattle.hol_laws.specs.RenamingLaws.{length_map}

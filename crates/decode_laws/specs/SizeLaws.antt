@@ -7,10 +7,10 @@ use Rattle.hol_spec.specs.Limits.{type_size, types_size, term_size}
 use Rattle.hol_spec.specs.ClosedForm.{ClosedType, ClosedTypes, ClosedTerm}
 use Rattle.lp_spec.specs.Trees.{Tree, Sym, App, size}
 use Rattle.lp_spec.specs.Modules.{Declaration, applied}
-use Rattle.module_spec.specs.TypeEnc.{Place, inside, StandsForType, StandForTypes}
-use Rattle.module_spec.specs.ConstantMeaning.{MeansConstant, HasGenericType, argument, instance_of, instances_of, parameter_places, parameter_places_of_all, numbers}
-use Rattle.module_spec.specs.ConstantMeaning as constants
-use Rattle.module_spec.specs.Enc.{StandsForConstant, StandsForTerm}
+use Rattle.translate_spec.specs.TypeEnc.{Place, inside, StandsForType, StandForTypes}
+use Rattle.translate_spec.specs.ConstantMeaning.{MeansConstant, HasGenericType, argument, instance_of, instances_of, parameter_places, parameter_places_of_all, numbers}
+use Rattle.translate_spec.specs.ConstantMeaning as constants
+use Rattle.translate_spec.specs.Enc.{StandsForConstant, StandsForTerm}
 use Rattle.decode_spec.specs.Opened.{open_type, open_types, open_term}
 
 -- the sum of a measure

@@ -8,11 +8,11 @@ use Rattle.hol_spec.specs.Names.{Name}
 use Rattle.hol_spec.specs.Mangling.{mangled, IsName}
 use Rattle.hol_spec.specs.Primitives.{arrow_name, bool_name, ind_name, primitive_arity}
 use Rattle.lp_spec.specs.Trees.{Tree, tree_eq}
-use Rattle.lp_binding.specs.TreeEquality.{tree_eq-refl, tree_eq-true}
+use Rattle.lp_binding_laws.specs.TreeEquality.{tree_eq-refl, tree_eq-true}
 use Rattle.lp_spec.specs.Modules.{Declaration, arr_symbol, bool_symbol, ind_symbol, symbol_name, symbol_type, products, types}
 use Rattle.lp_spec.specs.Numerals.{numeral}
-use Rattle.module_spec.specs.OperatorMeaning.{NamesOperator, MeansOperator}
-use Rattle.module_spec.specs.OperatorMeaning as operators
+use Rattle.translate_spec.specs.OperatorMeaning.{NamesOperator, MeansOperator}
+use Rattle.translate_spec.specs.OperatorMeaning as operators
 use Rattle.decode_spec.specs.Options.{bind, provided}
 use Rattle.decode_laws.specs.OptionLaws.{some-injective, bind-is, or_else-is, or_else-first, or_else-second, provided-is, provided-true}
 use Rattle.decode_spec.specs.Demangled.{demangled}

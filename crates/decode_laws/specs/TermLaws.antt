@@ -7,9 +7,9 @@ use Rattle.hol_spec.specs.Names.{Name}
 use Rattle.hol_spec.specs.ClosedForm.{ClosedType, ClosedTypes, ClosedTerm}
 use Rattle.lp_spec.specs.Trees.{Tree, SortType, SortKind, Var, Sym, App, Lam, Pi}
 use Rattle.lp_spec.specs.Modules.{Declaration, applied, term_of, term_symbol}
-use Rattle.module_spec.specs.TypeEnc.{Place, depth_of, inside, StandForTypes}
-use Rattle.module_spec.specs.ConstantMeaning.{MeansConstant, instance_of}
-use Rattle.module_spec.specs.Enc.{StandsForConstant, StandsForTerm}
+use Rattle.translate_spec.specs.TypeEnc.{Place, depth_of, inside, StandForTypes}
+use Rattle.translate_spec.specs.ConstantMeaning.{MeansConstant, instance_of}
+use Rattle.translate_spec.specs.Enc.{StandsForConstant, StandsForTerm}
 use Rattle.decode_spec.specs.Options.{bind, both, provided}
 use Rattle.decode_laws.specs.OptionLaws.{some-injective, bind-is, both-is, or_else-is, or_else-first, or_else-second, provided-is, provided-true}
 use Rattle.decode_spec.specs.Decode.{closed_count, type_of_tree, term_part, Constant, constant_at, constant_from, term_parameter, term_from}

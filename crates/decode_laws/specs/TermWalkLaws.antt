@@ -11,9 +11,9 @@ use Rattle.hol_spec.specs.ClosedForm.{ClosedType, ClosedTypes, ClosedTerm}
 use Rattle.hol_laws.specs.Members.{IsIn-either, IsIn-distinct_of}
 use Rattle.lp_spec.specs.Trees.{Tree, Sym, App}
 use Rattle.lp_spec.specs.Modules.{Declaration, applied}
-use Rattle.module_spec.specs.TypeEnc.{Place, StandsForType, StandForTypes}
-use Rattle.module_spec.specs.ConstantMeaning.{argument, instance_of, instances_of, parameter_places, parameter_places_of_all, numbers}
-use Rattle.module_spec.specs.Enc.{StandsForTerm}
+use Rattle.translate_spec.specs.TypeEnc.{Place, StandsForType, StandForTypes}
+use Rattle.translate_spec.specs.ConstantMeaning.{argument, instance_of, instances_of, parameter_places, parameter_places_of_all, numbers}
+use Rattle.translate_spec.specs.Enc.{StandsForTerm}
 use Rattle.decode_spec.specs.Options.{bind, both, provided}
 use Rattle.decode_laws.specs.OptionLaws.{some-injective, bind-is, both-is, or_else-is, provided-is, provided-true}
 use Rattle.decode_spec.specs.Opened.{open_type, open_types, open_term}

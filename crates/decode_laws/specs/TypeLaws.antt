@@ -7,13 +7,13 @@ use Rattle.std.proofs.lemmas.Bool.{and_parts, and_from}
 use Rattle.hol_spec.specs.ClosedForm.{ClosedType, ClosedTypes}
 use Rattle.lp_spec.specs.Trees.{Tree, SortType, SortKind, Var, Sym, App, Lam, Pi}
 use Rattle.lp_spec.specs.Modules.{Declaration, applied}
-use Rattle.module_spec.specs.OperatorMeaning.{MeansOperator}
-use Rattle.module_spec.specs.TypeEnc.{Place, depth_of, StandsForType, StandForTypes}
+use Rattle.translate_spec.specs.OperatorMeaning.{MeansOperator}
+use Rattle.translate_spec.specs.TypeEnc.{Place, depth_of, StandsForType, StandForTypes}
 use Rattle.decode_spec.specs.Options.{bind}
 use Rattle.decode_laws.specs.OptionLaws.{some-injective, bind-is, provided-is, provided-true}
 use Rattle.decode_spec.specs.Decode.{operator_at, closed_count, type_parameter, type_from, type_of_tree}
 use Rattle.decode_laws.specs.SymbolLaws.{operator_at-is, operator_at-means}
-use Rattle.lp_binding.specs.LookUps.{option_map-some}
+use Rattle.lp_binding_laws.specs.LookUps.{option_map-some}
 
 -- a list of types behind which others stand
 abbrev pub joined : ClosedTypes → ClosedTypes → ClosedTypes

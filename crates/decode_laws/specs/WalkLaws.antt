@@ -7,12 +7,12 @@ use Rattle.hol_spec.specs.Limits.{type_size, types_size, type_depth, types_depth
 use Rattle.hol_spec.specs.ClosedForm.{ClosedType, ClosedTypes}
 use Rattle.lp_spec.specs.Trees.{Tree, SortType, SortKind, Var, Sym, App, Lam, Pi}
 use Rattle.lp_spec.specs.Modules.{Declaration}
-use Rattle.module_spec.specs.TypeEnc.{Place}
+use Rattle.translate_spec.specs.TypeEnc.{Place}
 use Rattle.decode_spec.specs.Options.{bind}
 use Rattle.decode_laws.specs.OptionLaws.{some-injective, bind-is}
 use Rattle.decode_spec.specs.Opened.{open_type, open_types}
 use Rattle.decode_spec.specs.Decode.{operator_at, closed_count, type_from}
-use Rattle.lp_binding.specs.LookUps.{option_map-some}
+use Rattle.lp_binding_laws.specs.LookUps.{option_map-some}
 
 -- arguments are within what they are arguments of
 pub record AreWithin (ts : HolTypes) (t : HolType) : Type 0 where

@@ -16,7 +16,7 @@
 //! | `WalkLaws`, `TermWalkLaws` | what a walk over a type or a term may leave out: where a part passes the limits, the whole does |
 #![tactic(auto)]
 
-ghost use Rattle.module_spec.specs.Enc.{OneEncoding};
+ghost use Rattle.translate_spec.specs.Enc.{OneEncoding};
 ghost use Rattle.decode_spec.specs.DecodeStatements.{ClosedFormsTold, DecodedExactly, ExportsDecoded};
 
 /// The test passes exactly the closed forms of sequents within the limits.

@@ -4,7 +4,7 @@ use Rattle.hol_spec.specs.Primitives.{equality_name}
 use Rattle.hol_spec.specs.ClosedForm.{ClosedType, ClosedTerm}
 use Rattle.lp_spec.specs.Trees.{Var, Sym, App, Pi}
 use Rattle.lp_spec.specs.Modules.{Declaration, symbol, types, bools, term_of, proof_of, eq_of}
-use Rattle.module_spec.specs.ConstantMeaning.{closed_bool, closed_function}
+use Rattle.translate_spec.specs.ConstantMeaning.{closed_bool, closed_function}
 use Rattle.decode_spec.specs.Decode.{decode, closed_sequent}
 
 abbrev equals : ClosedType → ClosedTerm

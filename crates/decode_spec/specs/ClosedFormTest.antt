@@ -10,7 +10,7 @@ use Rattle.hol_spec.specs.Terms.{Term, type_of, term_eq, variable_eq}
 use Rattle.hol_spec.specs.Sequents.{Sequent, type_variables_of, free_variables_of, parameter_count}
 use Rattle.hol_spec.specs.Limits.{sequent_size, sequent_depth, greatest_size, greatest_depth, greatest_parameter_count}
 use Rattle.hol_spec.specs.ClosedForm.{ClosedSequent}
-use Rattle.module_spec.specs.ConstantMeaning.{numbers}
+use Rattle.translate_spec.specs.ConstantMeaning.{numbers}
 use Rattle.decode_spec.specs.Opened.{opened, open_variables}
 
 -- a term is well typed and of type `bool`

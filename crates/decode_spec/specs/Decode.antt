@@ -9,8 +9,8 @@ use Rattle.hol_spec.specs.ClosedForm.{ClosedType, ClosedTypes, ClosedTerm, Close
 use Rattle.lp_spec.specs.Trees.{Tree, SortType, SortKind, Var, Sym, App, Lam, Pi, tree_eq}
 use Rattle.lp_spec.specs.Modules.{Declaration, type_symbol, arr_symbol, bool_symbol, ind_symbol, eq_symbol, select_symbol, term_symbol, proof_symbol, symbol_name, symbol_type, products, types, term_of}
 use Rattle.lp_spec.specs.Numerals.{numeral}
-use Rattle.module_spec.specs.TypeEnc.{Place, place, depth_of, inside}
-use Rattle.module_spec.specs.ConstantMeaning.{equality_type, choice_type, parameter_places, numbers, instance_of}
+use Rattle.translate_spec.specs.TypeEnc.{Place, place, depth_of, inside}
+use Rattle.translate_spec.specs.ConstantMeaning.{equality_type, choice_type, parameter_places, numbers, instance_of}
 use Rattle.decode_spec.specs.Options.{bind, both, or_else, provided}
 use Rattle.decode_spec.specs.Demangled.{demangled}
 use Rattle.decode_spec.specs.Opened.{own_name}

@@ -7,8 +7,8 @@ use Rattle.hol_spec.specs.ClosedForm.{ClosedSequent, closed_form}
 use Rattle.hol_spec.specs.Proofs.{sequent_at, Accepted}
 use Rattle.lp_spec.specs.Trees.{Tree}
 use Rattle.lp_spec.specs.Modules.{Declaration}
-use Rattle.module_spec.specs.Enc.{IsClosedForm, Enc}
-use Rattle.module_spec.specs.Stands.{is_export_name, StandsForRun}
+use Rattle.translate_spec.specs.Enc.{IsClosedForm, Enc}
+use Rattle.translate_spec.specs.Stands.{is_export_name, StandsForRun}
 use Rattle.decode_spec.specs.Opened.{AreApart}
 use Rattle.decode_spec.specs.ClosedFormTest.{is_closed_form}
 use Rattle.decode_spec.specs.Decode.{decode}

@@ -8,7 +8,7 @@ use Rattle.hol_spec.specs.Terms.{Term, Variable}
 use Rattle.hol_spec.specs.Sequents.{Sequent, IsSequent, type_variables_of, free_variables_of}
 use Rattle.hol_spec.specs.Limits.{SequentWithin}
 use Rattle.hol_spec.specs.ClosedForm.{ClosedType, ClosedTypes, ClosedTerm, ClosedSequent}
-use Rattle.module_spec.specs.ConstantMeaning.{numbers}
+use Rattle.translate_spec.specs.ConstantMeaning.{numbers}
 
 -- a name for each number: one component, which is the number
 abbrev pub own_name : ℕ → Name

@@ -5,7 +5,7 @@ use Rattle.std.proofs.lemmas.Grind.{common_steps}
 use Rattle.lp_spec.specs.Modules.{Declaration}
 use Rattle.lp_spec.specs.Reading.{Reads}
 use Rattle.lp_spec.specs.ReadingFaults as reading
-use Rattle.text_laws.specs.ReadingLaws.{Reads-answer, answer-Reads}
+use Rattle.dk_laws.specs.ReadingLaws.{Reads-answer, answer-Reads}
 use Rattle.holide_sig.specs.declared.module.Module.{Module}
 use Rattle.holide_sig.specs.Modules.{declarations_of}
 use Rattle.dk_read.specs.declared.faults.DkFault.{DkFault}

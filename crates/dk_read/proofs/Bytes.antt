@@ -4,7 +4,7 @@ use Rattle.lp_spec.specs.Modules.{Declaration}
 use Rattle.lp_spec.specs.Tokens as tokens
 use Rattle.lp_spec.specs.ReadingFaults as reading
 use Rattle.lp_spec.specs.ModuleOrder.{IsModule}
-use Rattle.text_laws.specs.ReadingOrder.{IsState, IsOrdered, advance-IsOrdered}
+use Rattle.dk_laws.specs.ReadingOrder.{IsState, IsOrdered, advance-IsOrdered}
 use Rattle.dk_read.specs.declared.faults.Stop.{Stop}
 use Rattle.dk_read.specs.declared.parser.Parser.{Parser}
 use Rattle.dk_read.specs.declared.text.Text.{Text}

@@ -9,7 +9,7 @@ use Rattle.lp_spec.specs.ModuleOrder.{MayFollow}
 use Rattle.lp_spec.specs.Tokens as tokens
 use Rattle.lp_spec.specs.ReadingFaults as reading
 use Rattle.lp_spec.specs.ModuleOrder.{IsModule}
-use Rattle.text_laws.specs.ReadingOrder.{IsOrdered, meaning-IsUnder, IsState, IsHead, IsUnder, whole-IsUnder, symbol_follows, body_follows}
+use Rattle.dk_laws.specs.ReadingOrder.{IsOrdered, meaning-IsUnder, IsState, IsHead, IsUnder, whole-IsUnder, symbol_follows, body_follows}
 use Rattle.lp_term.specs.declared.LpId.{LpId}
 use Rattle.lp_term.specs.Tables.{tree_at, Holds}
 use Rattle.holide_sig.specs.declared.module.Module.{Module}

@@ -7,7 +7,7 @@ use Rattle.lp_spec.specs.Modules.{Declaration}
 use Rattle.lp_spec.specs.Text.{prelude}
 use Rattle.lp_spec.specs.Tokens.{Pending, Nothing, Taken, goes, sticks, take_byte}
 use Rattle.lp_spec.specs.ReadingFaults as reading
-use Rattle.text_laws.specs.ReadingLaws.{read_bytes-Refused, read_bytes-append}
+use Rattle.dk_laws.specs.ReadingLaws.{read_bytes-Refused, read_bytes-append}
 use Rattle.dk_read.specs.declared.faults.DkFault.{DkFault}
 use Rattle.dk_read.specs.declared.faults.DkFault.TheVariants as fault
 use Rattle.lp_spec.specs.declared.fault_kind.DkKind.{DkKind}

@@ -3,7 +3,7 @@ use Rattle.std.proofs.Common.{◌≡◌, ℕ, suc, ◌+◌, ◌-◌, ◌<◌, �
 use Rattle.std.proofs.lemmas.Grind.{common_steps}
 use Rattle.lp_spec.specs.Tokens.{Nothing}
 use Rattle.lp_spec.specs.ReadingFaults as reading
-use Rattle.text_laws.specs.ReadingLaws.{read_bytes-Refused}
+use Rattle.dk_laws.specs.ReadingLaws.{read_bytes-Refused}
 use Rattle.dk_read.specs.Texts.{common}
 
 same : (p a b : ℕ) (bytes wanted : List ℕ) → (a == b) ≡ true → reading.read_bytes (reading.read_byte (reading.Opening p (b ∷ wanted)) a) bytes ≡ reading.read_bytes (reading.opened (p + 1) wanted) bytes

@@ -6,7 +6,7 @@ use Rattle.std.proofs.lemmas.Grind.{common_steps}
 use Rattle.lp_spec.specs.Modules.{Declaration}
 use Rattle.lp_spec.specs.Tokens as tokens
 use Rattle.lp_spec.specs.ReadingFaults as reading
-use Rattle.text_laws.specs.ReadingLaws.{read_bytes-Refused}
+use Rattle.dk_laws.specs.ReadingLaws.{read_bytes-Refused}
 use Rattle.dk_read.specs.declared.faults.Stop.{Stop}
 use Rattle.dk_read.specs.declared.text.Pending.{Pending}
 use Rattle.dk_read.specs.declared.text.Pending.TheVariants as pending

@@ -4,7 +4,7 @@ use Rattle.std.proofs.Common.{◌≡◌, ℕ, ◌+◌, ◌≤◌, ◌==◌, refl
 use Rattle.lp_spec.specs.Modules.{Declaration}
 use Rattle.lp_spec.specs.Tokens as tokens
 use Rattle.lp_spec.specs.ReadingFaults as reading
-use Rattle.text_laws.specs.ReadingLaws.{read_bytes-Refused}
+use Rattle.dk_laws.specs.ReadingLaws.{read_bytes-Refused}
 use Rattle.dk_read.specs.declared.terms.Token.{Token}
 use Rattle.dk_read.specs.declared.terms.Token.TheVariants as token
 use Rattle.dk_read.specs.Names.{Named}

@@ -13,7 +13,7 @@ use Rattle.dk_read.specs.declared.terms.Meaning.{Meaning}
 use Rattle.dk_read.specs.declared.terms.Meaning.TheVariants as meaning
 use Rattle.dk_read.specs.Names.{Named, name_at, looked, bound, symbol_meaning, first_meaning, IsNameless, HasSymbols, Puts}
 use Rattle.dk_read.specs.Names as naming
-use Rattle.text_laws.specs.ReadingOrder.{IsState}
+use Rattle.dk_laws.specs.ReadingOrder.{IsState}
 use Rattle.lp_spec.specs.declared.form.Form.TheVariants.{Symbol}
 use Rattle.lp_spec.specs.ModuleOrder.{IsModule}
 use Rattle.holide_sig.specs.Modules.{IsHeld}

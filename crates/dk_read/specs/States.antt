@@ -7,7 +7,7 @@ use Rattle.lp_spec.specs.Reading.{Scope}
 use Rattle.lp_spec.specs.Tokens as tokens
 use Rattle.lp_spec.specs.ReadingFaults as reading
 use Rattle.lp_spec.specs.FaultKinds.{fault_of}
-use Rattle.text_laws.specs.ReadingOrder.{IsState}
+use Rattle.dk_laws.specs.ReadingOrder.{IsState}
 use Rattle.lp_term.specs.declared.LpId.{LpId}
 use Rattle.lp_term.specs.Tables.{tree_at, Holds, Keeps}
 use Rattle.holide_sig.specs.declared.module.Module.{Module}

@@ -2,7 +2,7 @@
 ghost use Rattle.std.specs.Prelude.{◌≡◌, ◌<◌, [], length, Some, OnOk};
 ghost use Rattle.lp_spec.specs.ModuleOrder.{MayFollow};
 ghost use Rattle.lp_spec.specs.ReadingFaults as reading;
-ghost use Rattle.text_laws.specs.ReadingOrder.{IsState};
+ghost use Rattle.dk_laws.specs.ReadingOrder.{IsState};
 ghost use Rattle.holide_sig.specs.Modules.{declaration_in, IsKnown};
 ghost use Rattle.dk_read.specs.declared.terms.State.TheVariants as state;
 ghost use Rattle.dk_read.specs.Names.{name_at};

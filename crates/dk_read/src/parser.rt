@@ -2,7 +2,7 @@
 ghost use Rattle.std.specs.Prelude.{◌≡◌, ◌<◌, [], length, Some, IfOk, OnOk, IfErr};
 ghost use Rattle.lp_spec.specs.Tokens as tokens;
 ghost use Rattle.lp_spec.specs.ReadingFaults as reading;
-ghost use Rattle.text_laws.specs.ReadingOrder.{IsState};
+ghost use Rattle.dk_laws.specs.ReadingOrder.{IsState};
 ghost use Rattle.lp_term.specs.Tables.{tree_of_node, Holds, PartsBelow};
 ghost use Rattle.dk_read.specs.declared.terms.State.TheVariants as state;
 ghost use Rattle.dk_read.specs.declared.faults.Stop.TheVariants as stop;

@@ -13,7 +13,7 @@ use Rattle.hol_spec.specs.Primitives.{function, equality_name, equality_type}
 use Rattle.hol_laws.specs.TypeLaws.{type_eq-Decides}
 use Rattle.hol_spec.specs.Terms.{Term, free, constant, app, equation, variable_eq, type_of, type_under, HasType, IsTerm}
 use Rattle.hol_spec.specs.Equations.{Equation as Sides, equation_parts}
-use Rattle.proof_laws.specs.EquationLaws.{equation_parts-is, first_argument, second_argument}
+use Rattle.hol_proof_laws.specs.EquationLaws.{equation_parts-is, first_argument, second_argument}
 use Rattle.hol_laws.specs.TermSubstitutionLaws.{application_type-is}
 use Rattle.hol_spec.specs.DefinitionLists.{variable_side, of_equation, variable_equation}
 use Rattle.hol_type.specs.declared.table.TypeId.{TypeId}

@@ -8,7 +8,7 @@ use Rattle.hol_spec.specs.Defining.{is_closed, has_type_variables_of}
 use Rattle.hol_spec.specs.DefinitionLists.{ConstantPairs, names_of, defining_equations, is_definition_list}
 use Rattle.hol_spec.specs.Sequents.{Sequent}
 use Rattle.hol_spec.specs.Symbols.{Symbol, is_taken_constant}
-use Rattle.proof_laws.specs.RuleTaken.{list_parts}
+use Rattle.hol_proof_laws.specs.RuleTaken.{list_parts}
 use Rattle.hol_type.specs.Tables as type
 use Rattle.hol_term.specs.declared.TermId.{TermId}
 use Rattle.hol_term.specs.declared.Variable.{Variable}

@@ -11,7 +11,7 @@ use Rattle.hol_spec.specs.Definitions.{Definition, TypeNames}
 use Rattle.hol_spec.specs.NewTypes.{abstraction_type, representation_type}
 use Rattle.hol_spec.specs.Symbols.{Symbol}
 use Rattle.hol_laws.specs.TypeLaws.{coded_name}
-use Rattle.proof_laws.specs.ProofCodes.{coded_type_names}
+use Rattle.hol_proof_laws.specs.ProofCodes.{coded_type_names}
 use Rattle.hol_type.specs.declared.table.TypeId.{TypeId}
 use Rattle.hol_type.specs.Tables.{tree_at}
 use Rattle.hol_term.specs.declared.TermId.{TermId}

@@ -20,8 +20,8 @@ use Rattle.hol_spec.specs.Rules.{Parameters, IsDefining, derived}
 use Rattle.hol_spec.specs.Rules as rule
 use Rattle.hol_spec.specs.Proofs.{Made, Step, symbols_of, definitions_of, IsStep}
 use Rattle.hol_spec.specs.declared.StepKind.TheVariants as by_rule
-use Rattle.proof_laws.specs.ProofGrowth.{definitions_of-append}
-use Rattle.proof_laws.specs.StepsDerive.{among-last}
+use Rattle.hol_proof_laws.specs.ProofGrowth.{definitions_of-append}
+use Rattle.hol_proof_laws.specs.StepsDerive.{among-last}
 use Rattle.article_spec.specs.Results.{◌>>◌, Fails}
 use Rattle.article_spec.specs.Conditions.{demand}
 use Rattle.article_spec.specs.RuleSteps.{step_by, define_const_step}

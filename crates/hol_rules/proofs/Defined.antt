@@ -5,7 +5,7 @@ use Rattle.hol_spec.specs.Symbols.{Symbol}
 use Rattle.hol_spec.specs.Proofs.{Made, IsStep}
 use Rattle.hol_defs.specs.Symbols.{Taken, symbols_at, AreKnownSymbols}
 use Rattle.hol_term.specs.Tables.{Trees}
-use Rattle.hol_params.specs.declared.ParamMemo.{ParamMemo}
+use Rattle.hol_variables.specs.declared.ParamMemo.{ParamMemo}
 use Rattle.hol_rules.specs.declared.made.Made.{Made as OneMade}
 use Rattle.hol_rules.specs.declared.made.Made.TheVariants as one
 use Rattle.hol_rules.specs.declared.made.Step.{Step}

@@ -11,8 +11,8 @@ use Rattle.hol_term.specs.TableLaws as table_law
 use Rattle.hol_defs.specs.Lists.{pairs_at, ArePairsKnown}
 use Rattle.hol_defs.specs.Symbols.{Taken, AreKnownSymbols}
 use Rattle.hol_defs.specs.SymbolLaws.{symbols_at-Keeps, AreKnownSymbols-Keeps}
-use Rattle.hol_params.specs.declared.ParamMemo.{ParamMemo}
-use Rattle.hol_params.specs.NotedLaws.{AreNoted-keeps}
+use Rattle.hol_variables.specs.declared.ParamMemo.{ParamMemo}
+use Rattle.hol_variables.specs.NotedLaws.{AreNoted-keeps}
 use Rattle.sequent.specs.declared.Sequent.{Sequent}
 use Rattle.sequent.specs.Sequents.{sequent_at, IsKnown}
 use Rattle.hol_rules.specs.declared.made.Parameters.{Parameters}

@@ -25,11 +25,11 @@ use Rattle.hol_spec.specs.Taking as taking
 use Rattle.hol_spec.specs.Rules.{IsDefining}
 use Rattle.hol_spec.specs.Rules as rule
 use Rattle.hol_spec.specs.Proofs.{Made, Step, symbols_of, steps_of, sequents_of, sequent_at, definitions_of, IsStep}
-use Rattle.proof_laws.specs.DefinitionListLaws.{hypothesis-is}
-use Rattle.proof_laws.specs.EquationLaws.{equation-sides}
-use Rattle.proof_laws.specs.ProofGrowth.{sequents_of-append, definitions_of-append}
-use Rattle.proof_laws.specs.RuleTaken.{lookup-All, list_parts}
-use Rattle.proof_laws.specs.SymbolGrowth.{symmetric, generic_type-new}
+use Rattle.hol_proof_laws.specs.DefinitionListLaws.{hypothesis-is}
+use Rattle.hol_proof_laws.specs.EquationLaws.{equation-sides}
+use Rattle.hol_proof_laws.specs.ProofGrowth.{sequents_of-append, definitions_of-append}
+use Rattle.hol_proof_laws.specs.RuleTaken.{lookup-All, list_parts}
+use Rattle.hol_proof_laws.specs.SymbolGrowth.{symmetric, generic_type-new}
 use Rattle.hol_rules.specs.declared.made.Made.TheVariants as one_made
 use Rattle.hol_rules.specs.ConstantLists.{constants_in}
 use Rattle.hol_rules.specs.Views.{made_of}

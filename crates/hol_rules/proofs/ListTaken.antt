@@ -15,7 +15,7 @@ use Rattle.hol_term.specs.Tables.{Trees, term_at, terms_at, IsTermAt}
 use Rattle.hol_defs.specs.Faults.{list_fault}
 use Rattle.hol_defs.specs.Lists.{pairs_at, AreTerms}
 use Rattle.hol_defs.specs.Symbols.{Taken, symbols_at, AreKnownSymbols}
-use Rattle.hol_params.specs.declared.ParamMemo.{ParamMemo}
+use Rattle.hol_variables.specs.declared.ParamMemo.{ParamMemo}
 use Rattle.sequent.specs.declared.Sequent.{Sequent}
 use Rattle.sequent.specs.Sequents.{sequent_at}
 use Rattle.hol_rules.specs.ConstantLists.{constants_in, named_constants}

@@ -17,7 +17,7 @@ use Rattle.hol_spec.specs.Rules.{Parameters, Rule, nothing, derived, joined, rem
 use Rattle.hol_spec.specs.Rules as rule
 use Rattle.hol_spec.specs.Proofs.{Made, steps_of, sequent_at, IsProof}
 use Rattle.hol_spec.specs.declared.StepKind.TheVariants as by_rule
-use Rattle.proof_laws.specs.SymbolGrowth.{symmetric}
+use Rattle.hol_proof_laws.specs.SymbolGrowth.{symmetric}
 use Rattle.article_spec.specs.Conditions.{equation_of, is_of_type}
 use Rattle.article_spec.specs.RuleSteps.{step_by, stated, restatement, abs_thm_step, app_thm_step, deduct_antisym_step, beta_conv_step, prove_hyp_step, subst_step, substituted, axiom_step, restate_step}
 use Rattle.hol_rules.proofs.RuleSteps.{Makes, met, equation_is, on_none, on_one, on_two}

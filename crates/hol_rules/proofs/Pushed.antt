@@ -10,11 +10,11 @@ use Rattle.hol_spec.specs.Symbols.{Symbol}
 use Rattle.hol_spec.specs.Proofs.{Made, steps_of, symbols_of, sequent_at, IsStep}
 use Rattle.hol_spec.specs.Proofs as proof
 use Rattle.hol_laws.specs.Members.{All-append}
-use Rattle.proof_laws.specs.ProofLaws.{steps_of-push, symbols_of-push}
+use Rattle.hol_proof_laws.specs.ProofLaws.{steps_of-push, symbols_of-push}
 use Rattle.hol_term.specs.Tables.{Trees}
 use Rattle.hol_defs.specs.Symbols.{Taken, symbol_at, symbols_at}
-use Rattle.hol_params.specs.declared.ParamMemo.{ParamMemo}
-use Rattle.hol_params.specs.Noted.{AreNoted}
+use Rattle.hol_variables.specs.declared.ParamMemo.{ParamMemo}
+use Rattle.hol_variables.specs.Noted.{AreNoted}
 use Rattle.sequent.specs.Sequents as numbers
 use Rattle.hol_rules.specs.declared.made.Made.{Made as OneMade}
 use Rattle.hol_rules.specs.declared.made.Made.TheVariants as one

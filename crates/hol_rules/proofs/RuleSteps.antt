@@ -17,8 +17,8 @@ use Rattle.hol_spec.specs.Rules as rule
 use Rattle.hol_spec.specs.Derivations.{definitions_used}
 use Rattle.hol_spec.specs.Proofs.{Made, Step, steps_of, sequents_of, sequent_at, definitions_of, ArePremises, IsLawOfDefinition, IsStep, IsProof}
 use Rattle.hol_spec.specs.declared.StepKind.TheVariants as by_rule
-use Rattle.proof_laws.specs.EquationLaws.{equation-sides, equation_parts-is}
-use Rattle.proof_laws.specs.ProofGrowth.{All-get, proof-sequents}
+use Rattle.hol_proof_laws.specs.EquationLaws.{equation-sides, equation_parts-is}
+use Rattle.hol_proof_laws.specs.ProofGrowth.{All-get, proof-sequents}
 use Rattle.article_spec.specs.Results.{◌>>◌}
 use Rattle.article_spec.specs.Conditions.{demand, has_type, is_of_type, equation_of}
 use Rattle.article_spec.specs.RuleSteps.{step_by, refl_step, assume_step, eq_mp_step, sym_step, trans_step}

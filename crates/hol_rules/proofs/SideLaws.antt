@@ -16,7 +16,7 @@ use Rattle.hol_spec.specs.Lists.{distinct}
 use Rattle.hol_spec.specs.Terms.{Term, bound, term_eq, HasType, IsTerm, equation}
 use Rattle.hol_spec.specs.Equations.{Equation, equation_parts}
 use Rattle.hol_spec.specs.Proofs.{sequent_at}
-use Rattle.proof_laws.specs.EquationLaws.{equation-sides, equation_parts-is}
+use Rattle.hol_proof_laws.specs.EquationLaws.{equation-sides, equation_parts-is}
 use Rattle.article_spec.specs.Conditions.{has_type, is_of_type}
 use Rattle.hol_term.specs.declared.TermId.{TermId}
 use Rattle.hol_term.specs.Shapes.{IsEquation}

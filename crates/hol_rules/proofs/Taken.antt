@@ -12,11 +12,11 @@ use Rattle.hol_spec.specs.Taking as taking
 use Rattle.hol_spec.specs.Proofs.{Made, steps_of, symbols_of, IsMade, IsPlain, IsProof}
 use Rattle.hol_spec.specs.Proofs as proof
 use Rattle.hol_laws.specs.Members.{All-append}
-use Rattle.proof_laws.specs.ProofGrowth.{steps_of-append, symbols_of-append}
-use Rattle.proof_laws.specs.ProofLaws.{steps_of-symbols, symbols_of-symbols}
+use Rattle.hol_proof_laws.specs.ProofGrowth.{steps_of-append, symbols_of-append}
+use Rattle.hol_proof_laws.specs.ProofLaws.{steps_of-symbols, symbols_of-symbols}
 use Rattle.hol_term.specs.Tables.{Trees}
 use Rattle.hol_defs.specs.Symbols.{Taken, symbol_at, symbols_at, AreKnownSymbols}
-use Rattle.hol_params.specs.declared.ParamMemo.{ParamMemo}
+use Rattle.hol_variables.specs.declared.ParamMemo.{ParamMemo}
 use Rattle.hol_rules.specs.declared.made.Made.{Made as OneMade}
 use Rattle.hol_rules.specs.declared.made.Made.TheVariants as one
 use Rattle.hol_rules.specs.declared.made.Step.{Step}

@@ -21,13 +21,13 @@ use Rattle.hol_spec.specs.Proofs.{Made, symbols_of, steps_of, sequents_of, seque
 use Rattle.hol_spec.specs.declared.StepKind.{StepKind}
 use Rattle.hol_spec.specs.declared.StepKind.TheVariants.{FirstLaw, SecondLaw}
 use Rattle.article_spec.specs.RuleSteps.{step_by, made_of_type}
-use Rattle.proof_laws.specs.ProofGrowth.{sequents_of-append, definitions_of-append}
-use Rattle.proof_laws.specs.RuleSequents.{predicate-typed}
-use Rattle.proof_laws.specs.StepsDerive.{among-front, among-last}
+use Rattle.hol_proof_laws.specs.ProofGrowth.{sequents_of-append, definitions_of-append}
+use Rattle.hol_proof_laws.specs.RuleSequents.{predicate-typed}
+use Rattle.hol_proof_laws.specs.StepsDerive.{among-front, among-last}
 use Rattle.hol_defs.specs.Symbols.{Taken, symbols_at, AreKnownSymbols}
 use Rattle.hol_defs.specs.SymbolLaws.{symbols_at-Keeps}
 use Rattle.hol_term.specs.Tables.{Trees, term_at, type_at, IsTermAt, Keeps}
-use Rattle.hol_params.specs.declared.ParamMemo.{ParamMemo}
+use Rattle.hol_variables.specs.declared.ParamMemo.{ParamMemo}
 use Rattle.sequent.specs.declared.Sequent.{Sequent as OneSequent}
 use Rattle.sequent.specs.Sequents as numbers
 use Rattle.hol_rules.specs.declared.made.Made.{Made as OneMade}

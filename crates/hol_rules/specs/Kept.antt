@@ -2,7 +2,7 @@
 use Rattle.std.specs.Prelude.{◌≡◌, ℕ, List, length, refl}
 use Rattle.std.specs.Coded.{Coded, code_by, coded×, coded_list}
 use Rattle.hol_spec.specs.Proofs.{Made, steps_of}
-use Rattle.proof_laws.specs.ProofCodes.{coded_made}
+use Rattle.hol_proof_laws.specs.ProofCodes.{coded_made}
 use Rattle.hol_term.specs.Tables.{Trees, coded_trees, Keeps}
 
 -- the types and terms by number, and symbols and steps in order of making

@@ -16,8 +16,8 @@ use Rattle.hol_term.specs.Substitutions.{term_pairs_at, AreKnownPairs}
 use Rattle.hol_term.specs.Tables.{Trees, term_at, type_at, IsDistinct}
 use Rattle.hol_defs.specs.Lists.{pairs_at, ArePairsKnown}
 use Rattle.hol_defs.specs.Symbols.{Taken, named, symbols_at, AreKnownSymbols}
-use Rattle.hol_params.specs.declared.ParamMemo.{ParamMemo}
-use Rattle.hol_params.specs.Noted.{AreNoted}
+use Rattle.hol_variables.specs.declared.ParamMemo.{ParamMemo}
+use Rattle.hol_variables.specs.Noted.{AreNoted}
 use Rattle.sequent.specs.declared.Sequent.{Sequent}
 use Rattle.sequent.specs.Sequents.{sequent_at, IsKnown}
 use Rattle.hol_rules.specs.declared.made.Parameters.{Parameters}

@@ -25,7 +25,7 @@
 //! | `subst_prepared` | one walk over the hypotheses and the conclusion together; at each variable a look-up among the pairs, and at each variable, constant and binder a walk over its type | the walk's notes; at most two more trees for each hypothesis, which the table keeps |
 //! | `define_type_op` | five walks over the predicate | the walks' notes; copies of the names, which the proof keeps |
 //!
-//! The parameters of a term are found once, from those of its parts, and noted (`hol_params`): so a step over terms that share
+//! The parameters of a term are found once, from those of its parts, and noted (`hol_variables`): so a step over terms that share
 //! their parts costs its new nodes, and no walk over the old ones. More than 1,024 type variables or free variables of one
 //! term are not noted: a sequent with such a term is counted by two walks over each hypothesis and over the conclusion, and
 //! `abs_thm` walks over such a hypothesis.

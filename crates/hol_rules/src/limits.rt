@@ -3,11 +3,11 @@ ghost use Rattle.std.specs.Prelude.{◌≡◌, ◌-◌, ◌^◌, min, Ok, IfErr,
 ghost use Rattle.article_spec.specs.Conditions.{sequent_in_limits};
 ghost use Rattle.article_spec.specs.Results.{Fails};
 ghost use Rattle.hol_spec.specs.Limits.{sequent_size, sequent_depth};
-ghost use Rattle.hol_params.specs.Noted.{AreNoted};
+ghost use Rattle.hol_variables.specs.Noted.{AreNoted};
 ghost use Rattle.sequent.specs.Sequents.{sequent_at, IsKnown};
 
 use common::{Fault, Kind};
-use hol_params::ParamMemo;
+use hol_variables::ParamMemo;
 use hol_spec::{GREATEST_DEPTH, GREATEST_PARAMETER_COUNT, GREATEST_SIZE};
 use hol_term::TermTable;
 use sequent::Sequent;

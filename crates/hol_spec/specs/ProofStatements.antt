@@ -1,4 +1,4 @@
--- What is shown of rules and of proofs, as statements; the crate `proof_laws` proves them.
+-- What is shown of rules and of proofs, as statements; the crate `hol_proof_laws` proves them.
 use Rattle.std.specs.Prelude.{List}
 use Rattle.std.specs.List.{AllByRecursion}
 use Rattle.hol_spec.specs.Sequents.{Sequent, IsSequent}

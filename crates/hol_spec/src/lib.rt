@@ -24,7 +24,7 @@
 //! | `Taken`, `Over` | what is built of the symbols that are taken |
 //! | `BindingStatements`, `ProofStatements` | what is shown of binding, substitution, rules and proofs, as statements |
 //!
-//! Laws stand in the crates above: `hol_laws` has those of names, lists, types, terms, binding and typing, `proof_laws` those of rules
+//! Laws stand in the crates above: `hol_laws` has those of names, lists, types, terms, binding and typing, `hol_proof_laws` those of rules
 //! and proofs. A clause cites a definition by its path:
 //!
 //! ```text

@@ -6,7 +6,7 @@ use Rattle.std.specs.Prelude.{◌&&◌, ◌||◌, nat_lt}
 use Rattle.std.specs.List.{list_any}
 use Rattle.std.proofs.lemmas.Option.{same_Some}
 use Rattle.lp_spec.specs.Trees.{Tree, tree_eq}
-use Rattle.lp_binding.specs.TreeEquality.{tree_eq-refl}
+use Rattle.lp_binding_laws.specs.TreeEquality.{tree_eq-refl}
 use Rattle.lp_term.specs.declared.LpNode.{LpNode}
 use Rattle.lp_term.specs.declared.LpNode.TheVariants as node
 use Rattle.lp_term.specs.Tables.{tree_of_node, PartsBelow, Holds, Adds}

@@ -4,7 +4,7 @@ use Rattle.std.specs.Prelude.{if◌then◌else◌, nat_eq}
 use Rattle.std.proofs.Math.Path.{fun_ext, ap₂}
 use Rattle.std.proofs.lemmas.Bool.{eqb-true}
 use Rattle.lp_spec.specs.Trees.{Tree, tree_eq}
-use Rattle.lp_binding.specs.TreeEquality.{tree_eq-refl, tree_eq-true}
+use Rattle.lp_binding_laws.specs.TreeEquality.{tree_eq-refl, tree_eq-true}
 use Rattle.lp_spec.specs.Modules.{Declaration}
 use Rattle.lp_term.specs.declared.LpId.{LpId}
 use Rattle.lp_term.specs.declared.LpNode.{LpNode}
@@ -15,7 +15,7 @@ use Rattle.holide_sig.specs.declared.module.Module.{Module}
 use Rattle.holide_sig.specs.Modules.{declarations_of, IsHeld}
 use Rattle.lp_spec.specs.HeadSteps.{head_step}
 use Rattle.lp_spec.specs.Check.{Convert, Reply, Found, No, Plan, Say, Ask, convert, convert_by, convert_parts, Ends, said, refused, asked}
-use Rattle.lp_shape.specs.PlanLaws.{and_then, Leaves, leaves_all, leaves_equal, leaves_then, leaves_fewer, leaves_ask, over_leaves}
+use Rattle.lp_check_laws.specs.PlanLaws.{and_then, Leaves, leaves_all, leaves_equal, leaves_then, leaves_fewer, leaves_ask, over_leaves}
 use Rattle.lp_conv.specs.declared.conversion.Left.{Left}
 use Rattle.lp_conv.specs.declared.conversion.Left.TheVariants as left
 use Rattle.lp_conv.specs.declared.Answer.TheVariants as answer

@@ -14,7 +14,7 @@ use Rattle.lp_term.specs.TableLaws.{Holds-tree_at, tree_at-Stays, Stays-trans}
 use Rattle.holide_sig.specs.declared.module.Module.{Module}
 use Rattle.holide_sig.specs.Modules.{declaration_in, declarations_of, IsBodyKnown, AreDeclsKnown, IsHeld}
 use Rattle.lp_spec.specs.HeadSteps.{given, symbol_step, spine_step, head_step}
-use Rattle.lp_shape.specs.HeadStepLaws.{head_step-Steps}
+use Rattle.lp_check_laws.specs.HeadStepLaws.{head_step-Steps}
 use Rattle.lp_conv.specs.Growth.{Grows}
 use Rattle.lp_conv.specs.HeadSteps.{IsKnownIf, tree_if, IsHeadStep, StepsTo}
 use Rattle.lp_conv.specs.Heads.{beta_of, functions_of}

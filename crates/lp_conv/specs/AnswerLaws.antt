@@ -6,7 +6,7 @@ use Rattle.lp_spec.specs.Modules.{Declaration}
 use Rattle.lp_spec.specs.Conversion.{Conv}
 use Rattle.lp_spec.specs.HeadSteps.{head_step}
 use Rattle.lp_spec.specs.Check.{Convert, Reply, Found, Plan, Say, Ask, convert, convert_by, convert_parts, Ends, said, refused, asked}
-use Rattle.lp_shape.specs.ConvertLaws.{convert-sound}
+use Rattle.lp_check_laws.specs.ConvertLaws.{convert-sound}
 use Rattle.lp_conv.specs.Answers.{converting}
 
 -- the plan asks of conversions alone

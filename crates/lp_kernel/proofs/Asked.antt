@@ -10,7 +10,7 @@ use Rattle.std.specs.Prelude.{slice_get, option_map, IfOk, OnOk, Result, Ok, Err
 use Rattle.holide_sig.specs.declared.module.Module.{Module}
 use Rattle.holide_sig.specs.Modules.{declarations_of}
 use Rattle.lp_spec.specs.Check.{Infer, Plan, Ask, infer, found_if}
-use Rattle.lp_shape.specs.PlanLaws.{and_then, Leaves, leaves_equal, leaves_then, leaves_fewer, leaves_ask}
+use Rattle.lp_check_laws.specs.PlanLaws.{and_then, Leaves, leaves_equal, leaves_then, leaves_fewer, leaves_ask}
 use Rattle.lp_conv.specs.GrowthLaws.{AreKnown-Keeps}
 use Rattle.lp_kernel.specs.declared.state.Application.{Application}
 use Rattle.lp_kernel.specs.declared.state.Frame.{Frame}

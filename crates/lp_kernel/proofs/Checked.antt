@@ -17,11 +17,11 @@ use Rattle.holide_sig.specs.ModuleLaws.{AreDeclsKnown-slice_get, IsKnown-Keeps}
 use Rattle.lp_conv.specs.Growth.{Grows}
 use Rattle.lp_conv.specs.GrowthLaws.{declarations_of-Grows}
 use Rattle.lp_spec.specs.Check.{Infer, Found, No, Plan, Say, Ask, said, if_type, body_plan, declaration_plan}
-use Rattle.lp_shape.specs.CheckerLaw.{HasBody-IsBodyOver}
-use Rattle.lp_fast.specs.FastPrices.{check-made, check-ends}
-use Rattle.lp_fast.specs.FastModules.{check-typed}
-use Rattle.lp_shape.specs.EarlierDeclarations.{declaration_plan-whole, MayFollow-at}
-use Rattle.lp_shape.specs.PlanLaws.{Leaves, leaves_found, leaves_no, over_then, over_leaves}
+use Rattle.lp_check_laws.specs.CheckerLaw.{HasBody-IsBodyOver}
+use Rattle.lp_fast_laws.specs.FastPrices.{check-made, check-ends}
+use Rattle.lp_fast_laws.specs.FastModules.{check-typed}
+use Rattle.lp_check_laws.specs.EarlierDeclarations.{declaration_plan-whole, MayFollow-at}
+use Rattle.lp_check_laws.specs.PlanLaws.{Leaves, leaves_found, leaves_no, over_then, over_leaves}
 use Rattle.lp_conv.specs.Answers.{converting, IsAnswered}
 use Rattle.lp_conv.specs.AnswerLaws.{converting-Ends}
 use Rattle.lp_conv.specs.HeadSteps.{tree_if}

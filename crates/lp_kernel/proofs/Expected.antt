@@ -11,7 +11,7 @@ use Rattle.lp_term.specs.TableLaws.{Holds-tree_at, tree_at-Stays}
 use Rattle.holide_sig.specs.declared.module.Module.{Module}
 use Rattle.holide_sig.specs.Modules.{declarations_of}
 use Rattle.lp_spec.specs.Check.{Convert, Reply, Found, No, Plan, Say, Ask, if_sort, Ends}
-use Rattle.lp_shape.specs.PlanLaws.{and_then, Leaves, leaves_found, leaves_no, over_then}
+use Rattle.lp_check_laws.specs.PlanLaws.{and_then, Leaves, leaves_found, leaves_no, over_then}
 use Rattle.lp_conv.specs.Answers.{Answered, IsOver, converting}
 use Rattle.lp_conv.specs.AnswerLaws.{converting-Ends}
 use Rattle.lp_kernel.specs.declared.state.Expected.{Expected}

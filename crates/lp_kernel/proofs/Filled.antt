@@ -7,8 +7,8 @@ use Rattle.std.proofs.Math.Path.{ap₂}
 use Rattle.std.proofs.lemmas.List.{length-reverse, reverse-append}
 use Rattle.std.proofs.lemmas.Option.{slice_get_past}
 use Rattle.lp_spec.specs.Trees.{Tree, Var, App, lift, put_all, put_all_at, put_all_var, loose}
-use Rattle.lp_binding.specs.Composition.{lift_zero, put_all_var-high}
-use Rattle.lp_binding.specs.Closed.{put_all_at-closed}
+use Rattle.lp_binding_laws.specs.Composition.{lift_zero, put_all_var-high}
+use Rattle.lp_binding_laws.specs.Closed.{put_all_at-closed}
 use Rattle.lp_term.specs.declared.LpId.{LpId}
 use Rattle.lp_term.specs.Tables.{tree_at, Holds, Stays}
 use Rattle.lp_term.specs.TableLaws.{Holds-tree_at, tree_at-Stays}

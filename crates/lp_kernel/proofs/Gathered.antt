@@ -12,7 +12,7 @@ use Rattle.lp_term.specs.Tables.{Stays}
 use Rattle.holide_sig.specs.declared.module.Module.{Module}
 use Rattle.holide_sig.specs.Modules.{declarations_of}
 use Rattle.lp_spec.specs.Check.{Infer, Ask}
-use Rattle.lp_shape.specs.PlanLaws.{Leaves, leaves_equal, leaves_fewer}
+use Rattle.lp_check_laws.specs.PlanLaws.{Leaves, leaves_equal, leaves_fewer}
 use Rattle.lp_kernel.specs.declared.state.Application.{Application}
 use Rattle.lp_kernel.specs.declared.state.Frame.{Frame}
 use Rattle.lp_kernel.specs.declared.state.Frame.TheVariants as frame

@@ -13,10 +13,10 @@ use Rattle.lp_spec.specs.Typing.{WellTyped}
 use Rattle.holide_sig.specs.declared.module.Module.{Module}
 use Rattle.holide_sig.specs.Modules.{declaration_in, declarations_of, IsHeld}
 use Rattle.lp_spec.specs.Check.{Reply, Found, No}
-use Rattle.lp_shape.specs.CheckLaws.{Found-No}
+use Rattle.lp_check_laws.specs.CheckLaws.{Found-No}
 use Rattle.lp_spec.specs.FastCheck.{CheckBy, PassesBy}
-use Rattle.lp_fast.specs.FastPrices.{check-at, one_check}
-use Rattle.lp_fast.specs.FastModules.{checker_law_by}
+use Rattle.lp_fast_laws.specs.FastPrices.{check-at, one_check}
+use Rattle.lp_fast_laws.specs.FastModules.{checker_law_by}
 use Rattle.lp_conv.specs.Growth.{Grows}
 use Rattle.lp_conv.specs.GrowthLaws.{Grows-refl, Grows-trans, IsHeld-Grows, declarations_of-Grows}
 use Rattle.lp_conv.specs.declared.Answer.TheVariants as answer

@@ -3,7 +3,7 @@ use Rattle.std.proofs.Common.{◌≡◌, ℕ, ◌<◌, sym, ap, ◌∙◌, List,
 use Rattle.std.specs.Prelude.{slice_get, slice_set}
 use Rattle.std.proofs.lemmas.Bool.Decides.{eqb_tells}
 use Rattle.std.proofs.lemmas.Option.{same_Some}
-use Rattle.lp_binding.specs.LookUps.{slice_get-one_more}
+use Rattle.lp_binding_laws.specs.LookUps.{slice_get-one_more}
 use Rattle.lp_kernel.specs.declared.latest.Finding.{Finding}
 use Rattle.lp_kernel.proofs.NotedLaws.{slice_get-set, slice_get-set_other}
 

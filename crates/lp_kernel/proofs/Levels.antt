@@ -4,16 +4,16 @@ use Rattle.std.proofs.Math.Path.{ap₂}
 use Rattle.lp_spec.specs.Trees.{Tree, loose}
 use Rattle.lp_spec.specs.Modules.{Declaration}
 use Rattle.lp_spec.specs.ModuleOrder.{IsModule}
-use Rattle.lp_typing.specs.ConversionLaws.{IsClosed}
+use Rattle.lp_typing_laws.specs.ConversionLaws.{IsClosed}
 use Rattle.lp_term.specs.declared.LpId.{LpId}
 use Rattle.lp_term.specs.Tables.{tree_at, trees_at, AreKnown}
 use Rattle.lp_term.specs.TableLaws.{tree_at-Stays}
 use Rattle.holide_sig.specs.declared.module.Module.{Module}
 use Rattle.holide_sig.specs.Modules.{declarations_of, IsHeld}
 use Rattle.lp_spec.specs.Check.{Question, Infer, Reply, Found, No, Plan, Say, Ask, Ends, said, refused, asked}
-use Rattle.lp_shape.specs.ClosedTrees.{infer-anywhere}
-use Rattle.lp_shape.specs.EarlierDeclarations.{IsModule-IsSelfContained}
-use Rattle.lp_shape.specs.PlanLaws.{Leaves, leaves_all, leaves_equal, leaves_then, leaves_fewer, leaves_found, leaves_no, over_then, over_leaves}
+use Rattle.lp_check_laws.specs.ClosedTrees.{infer-anywhere}
+use Rattle.lp_check_laws.specs.EarlierDeclarations.{IsModule-IsSelfContained}
+use Rattle.lp_check_laws.specs.PlanLaws.{Leaves, leaves_all, leaves_equal, leaves_then, leaves_fewer, leaves_found, leaves_no, over_then, over_leaves}
 use Rattle.lp_conv.specs.Answers.{Answered, IsOver}
 use Rattle.lp_conv.specs.Growth.{Grows}
 use Rattle.lp_conv.specs.GrowthLaws.{Grows-refl, Grows-trans, IsHeld-Grows, declarations_of-Grows, trees_at-Stays}

@@ -10,7 +10,7 @@ use Rattle.lp_term.specs.TableLaws.{tree_at-Stays, Keeps-refl}
 use Rattle.holide_sig.specs.declared.module.Module.{Module}
 use Rattle.holide_sig.specs.Modules.{declarations_of, IsHeld}
 use Rattle.lp_spec.specs.Check.{Infer, Found, No, Plan, Ask, Ends, said, alone}
-use Rattle.lp_shape.specs.PlanLaws.{and_then, Leaves, leaves_equal, leaves_then, leaves_fewer, over_leaves}
+use Rattle.lp_check_laws.specs.PlanLaws.{and_then, Leaves, leaves_equal, leaves_then, leaves_fewer, over_leaves}
 use Rattle.lp_conv.specs.GrowthLaws.{Grows-trans, IsHeld-Grows, declarations_of-Grows, trees_at-Stays}
 use Rattle.lp_kernel.specs.declared.state.Frame.{Frame}
 use Rattle.lp_kernel.specs.declared.state.Frame.TheVariants as frame

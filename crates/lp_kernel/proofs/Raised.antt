@@ -2,7 +2,7 @@
 use Rattle.std.proofs.Common.{◌≡◌, sym, ap, ◌∙◌, ℕ, ◌<◌, ◌≤◌, List, length}
 use Rattle.std.proofs.Math.Path.{ap₂}
 use Rattle.lp_spec.specs.Trees.{Tree, App, lift, loose}
-use Rattle.lp_binding.specs.Closed.{lift_at-closed}
+use Rattle.lp_binding_laws.specs.Closed.{lift_at-closed}
 use Rattle.lp_term.specs.declared.LpId.{LpId}
 use Rattle.lp_term.specs.Tables.{tree_at, Holds, Stays}
 use Rattle.lp_term.specs.TableLaws.{Holds-tree_at, tree_at-Stays}

@@ -12,8 +12,8 @@ use Rattle.holide_sig.specs.declared.module.Module.{Module}
 use Rattle.holide_sig.specs.Modules.{declarations_of, IsHeld}
 use Rattle.lp_spec.specs.HeadSteps.{head_step}
 use Rattle.lp_spec.specs.Check.{Reach, Reply, Found, No, Plan, Say, Ask, if_step, reach, Ends, said, refused, asked}
-use Rattle.lp_shape.specs.CheckLaws.{one_reply}
-use Rattle.lp_shape.specs.PlanLaws.{and_then, Leaves, leaves_all, leaves_equal, leaves_then, leaves_fewer, leaves_ask, over_leaves}
+use Rattle.lp_check_laws.specs.CheckLaws.{one_reply}
+use Rattle.lp_check_laws.specs.PlanLaws.{and_then, Leaves, leaves_all, leaves_equal, leaves_then, leaves_fewer, leaves_ask, over_leaves}
 use Rattle.lp_kernel.specs.declared.inference.Inferred.TheVariants as inferred
 use Rattle.lp_conv.specs.Answers.{Answered, IsOver}
 use Rattle.lp_conv.specs.Growth.{Grows}

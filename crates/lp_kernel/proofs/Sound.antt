@@ -10,9 +10,9 @@ use Rattle.lp_term.specs.Tables.{tree_at, trees_at}
 use Rattle.holide_sig.specs.declared.module.Module.{Module}
 use Rattle.holide_sig.specs.Modules.{declarations_of}
 use Rattle.lp_spec.specs.Check.{Infer, Reply, Found, infer, alone, Ends, said, refused, asked}
-use Rattle.lp_shape.specs.CheckLaws.{Found-injective}
-use Rattle.lp_fast.specs.FastModules.{infer-typed}
-use Rattle.lp_shape.specs.EarlierDeclarations.{infer-longer, IsModule-IsSelfContained, IsModule-take}
+use Rattle.lp_check_laws.specs.CheckLaws.{Found-injective}
+use Rattle.lp_fast_laws.specs.FastModules.{infer-typed}
+use Rattle.lp_check_laws.specs.EarlierDeclarations.{infer-longer, IsModule-IsSelfContained, IsModule-take}
 use Rattle.lp_kernel.specs.declared.inference.Inferred.{Inferred}
 use Rattle.lp_kernel.specs.declared.inference.Inferred.TheVariants as inferred
 use Rattle.lp_kernel.specs.Inference.{IsContextOf, IsInferred, IsTypeOf}

@@ -4,12 +4,12 @@ use Rattle.std.specs.Prelude.{if◌then◌else◌, nat_eq}
 use Rattle.std.proofs.Math.Path.{fun_ext}
 use Rattle.std.proofs.lemmas.Bool.{eqb-true}
 use Rattle.lp_spec.specs.Trees.{Tree, SortType, SortKind, Var, Sym, App, Lam, Pi, put_all, put_all_at}
-use Rattle.lp_binding.specs.TreeEquality.{tree_eq-refl, tree_eq-true}
+use Rattle.lp_binding_laws.specs.TreeEquality.{tree_eq-refl, tree_eq-true}
 use Rattle.lp_spec.specs.Trees.{tree_eq}
 use Rattle.std.proofs.Math.Path.{ap₂, subst₂}
 use Rattle.lp_spec.specs.Modules.{Declaration}
-use Rattle.lp_binding.specs.Arguments.{put-put_all}
-use Rattle.lp_shape.specs.Sizes.{put_all-nil}
+use Rattle.lp_binding_laws.specs.Arguments.{put-put_all}
+use Rattle.lp_check_laws.specs.Sizes.{put_all-nil}
 use Rattle.lp_term.specs.declared.LpId.{LpId}
 use Rattle.lp_term.specs.declared.LpNode.{LpNode}
 use Rattle.lp_term.specs.declared.LpNode.TheVariants as node
@@ -17,7 +17,7 @@ use Rattle.lp_term.specs.Tables.{tree_at, trees_at, tree_of_node, Holds, Stays, 
 use Rattle.lp_term.specs.TableLaws.{Holds-tree_at, tree_at-Holds, tree_at-Stays}
 use Rattle.lp_spec.specs.HeadSteps.{head_step}
 use Rattle.lp_spec.specs.Check.{Infer, Reach, Meet, Convert, Reply, Found, No, Plan, Say, Ask, if_sort, unless_kind, recheck, if_product, if_step, product_of, reach, Ends}
-use Rattle.lp_shape.specs.PlanLaws.{and_then, Leaves, leaves_equal, leaves_then, leaves_fewer, leaves_ask, leaves_found, leaves_no, over_then, over_leaves}
+use Rattle.lp_check_laws.specs.PlanLaws.{and_then, Leaves, leaves_equal, leaves_then, leaves_fewer, leaves_ask, leaves_found, leaves_no, over_then, over_leaves}
 use Rattle.lp_kernel.specs.declared.state.Application.{Application}
 use Rattle.lp_kernel.specs.declared.state.Argument.{Argument}
 use Rattle.lp_kernel.specs.declared.state.Frame.{Frame}

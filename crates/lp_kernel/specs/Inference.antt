@@ -8,7 +8,7 @@ use Rattle.lp_term.specs.declared.LpId.{LpId}
 use Rattle.lp_term.specs.Tables.{tree_at, trees_at}
 use Rattle.holide_sig.specs.declared.module.Module.{Module}
 use Rattle.holide_sig.specs.Modules.{declarations_of}
-use Rattle.lp_shape.specs.EarlierDeclarations.{IsTreeOver, IsContextOver}
+use Rattle.lp_check_laws.specs.EarlierDeclarations.{IsTreeOver, IsContextOver}
 use Rattle.lp_spec.specs.Check.{Infer, Found, No, Plan, reach, alone}
 use Rattle.lp_conv.specs.Answers.{Answered, IsOver}
 use Rattle.lp_kernel.specs.declared.inference.Inferred.{Inferred}

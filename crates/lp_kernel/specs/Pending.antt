@@ -7,7 +7,7 @@ use Rattle.lp_term.specs.Tables.{tree_at, trees_at, Holds, AreKnown}
 use Rattle.holide_sig.specs.declared.module.Module.{Module}
 use Rattle.holide_sig.specs.Modules.{declarations_of}
 use Rattle.lp_spec.specs.Check.{Infer, Meet, Convert, Reply, Found, No, Plan, Say, Ask, if_type, if_sort, unless_kind, if_product, product_of, Ends}
-use Rattle.lp_shape.specs.PlanLaws.{and_then, Leaves}
+use Rattle.lp_check_laws.specs.PlanLaws.{and_then, Leaves}
 use Rattle.lp_kernel.specs.declared.state.Application.{Application}
 use Rattle.lp_kernel.specs.declared.state.Expected.{Expected}
 use Rattle.lp_kernel.specs.declared.state.Frame.{Frame}

@@ -2,7 +2,7 @@
 use Rattle.std.specs.Prelude.{◌≡◌, ◌⊎◌, ℕ, ◌<◌, Bool, List, Some, length, slice_get}
 use Rattle.lp_spec.specs.Trees.{Tree, loose}
 use Rattle.lp_spec.specs.Modules.{Declaration}
-use Rattle.lp_typing.specs.ConversionLaws.{IsClosed}
+use Rattle.lp_typing_laws.specs.ConversionLaws.{IsClosed}
 use Rattle.lp_term.specs.declared.LpId.{LpId}
 use Rattle.lp_term.specs.Tables.{tree_at, trees_at, AreKnown}
 use Rattle.holide_sig.specs.declared.module.Module.{Module}

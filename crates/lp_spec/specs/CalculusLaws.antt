@@ -1,5 +1,5 @@
--- What reduction, conversion and typing obey, as statements: of every well-typed module, proved in the crate lp_laws, and of the
--- signature and the two lemmas, proved in the crate lp_typing.
+-- What reduction, conversion and typing obey, as statements: of every well-typed module, proved in the crate lp_reduction_laws, and of the
+-- signature and the two lemmas, proved in the crate lp_typing_laws.
 use Rattle.std.specs.Prelude.{◌≡◌, ℕ, List, [], Some}
 use Rattle.lp_spec.specs.Trees.{Tree, Pi}
 use Rattle.lp_spec.specs.Modules.{Declaration, symbol_type}

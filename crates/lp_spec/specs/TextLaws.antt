@@ -1,4 +1,4 @@
--- What texts obey, as statements, proved in the crate text_laws: every text has one answer and is refused for its least fault, the lines of the prelude say the types of
+-- What texts obey, as statements, proved in the crate dk_laws: every text has one answer and is refused for its least fault, the lines of the prelude say the types of
 -- the signature, and what is written of a module reads as that module alone.
 use Rattle.std.specs.Prelude.{◌≡◌, ℕ, ◌<◌, ◌≤◌, true, List, [], ◌∷◌, ◌++◌, length, codes, Option, None, Some, ◌⊎◌}
 use Rattle.std.specs.List.{list_all}

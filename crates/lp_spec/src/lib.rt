@@ -21,8 +21,8 @@
 //! | `CalculusLaws`, `TextLaws` | what typing and texts obey, as statements |
 //! | `TreeCode` | the code of trees |
 //!
-//! The laws are proved in the crates above: of binding in `lp_binding`, of typing in `lp_typing`, of the check in `lp_shape` and
-//! `lp_fast`, of reduction in `lp_laws` and of texts in `text_laws`. A contract cites a definition by its path:
+//! The laws are proved in the crates above: of binding in `lp_binding_laws`, of typing in `lp_typing_laws`, of the check in `lp_check_laws` and
+//! `lp_fast_laws`, of reduction in `lp_reduction_laws` and of texts in `dk_laws`. A contract cites a definition by its path:
 //!
 //! ```text
 //! ghost use Rattle.lp_spec.specs.Trees.{Tree, lift};

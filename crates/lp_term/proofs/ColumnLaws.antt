@@ -14,7 +14,7 @@ use Rattle.lp_term.specs.contracts.shape.ShapePartialEq.TheImpl as shape_eq
 use Rattle.lp_term.specs.Tables.{tree_at, Holds, tree_of_node, PartsBelow, IsDistinct, Stays}
 use Rattle.lp_term.specs.TableLaws.{tree_at-Holds, Stays-refl, Stays-trans, Stays-append, tree_of_node-Stays}
 use Rattle.lp_term.specs.Columns.{trees_from, trees_of}
-use Rattle.lp_binding.specs.LookUps.{slice_get-last}
+use Rattle.lp_binding_laws.specs.LookUps.{slice_get-last}
 
 -- a shape more is a tree more
 pub trees_from-append : (ts : List Tree) (ss : List Shape) (s : Shape) → trees_from ts (ss ++ s ∷ []) ≡ trees_from ts ss ++ tree_of_node (trees_from ts ss) (node_of s) ∷ []

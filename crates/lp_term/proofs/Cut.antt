@@ -8,7 +8,7 @@ use Rattle.lp_term.specs.declared.measures.Measures.{Measures}
 use Rattle.lp_term.specs.declared.shape.Shape.{Shape}
 use Rattle.lp_term.specs.Shapes.{node_of}
 use Rattle.lp_term.specs.Tables.{Holds, tree_of_node}
-use Rattle.lp_binding.specs.LookUps.{slice_get-of_take}
+use Rattle.lp_binding_laws.specs.LookUps.{slice_get-of_take}
 use Rattle.lp_term.specs.Measured.{AreMeasured}
 use Rattle.lp_term.specs.Columns.{trees_from, trees_of, IsTable}
 use Rattle.lp_term.proofs.ColumnLaws.{length-trees_of}

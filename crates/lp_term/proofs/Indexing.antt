@@ -5,7 +5,7 @@ use Rattle.std.proofs.lemmas.Bool.{eqb-true}
 use Rattle.std.proofs.lemmas.Bool.Decides.{eqb_tells}
 use Rattle.std.proofs.lemmas.List.{length-set, length-take}
 use Rattle.std.proofs.lemmas.Option.{slice_get_within, same_Some}
-use Rattle.lp_binding.specs.LookUps.{slice_get-append, slice_get-one_more, slice_get-of_take}
+use Rattle.lp_binding_laws.specs.LookUps.{slice_get-append, slice_get-one_more, slice_get-of_take}
 use Rattle.lp_term.specs.declared.shape.Shape.{Shape}
 use Rattle.lp_term.specs.declared.shape.Shape.TheVariants as shape
 use Rattle.lp_term.specs.declared.shapes.Children.{Children}

@@ -12,7 +12,7 @@ use Rattle.lp_term.specs.TableLaws.{Holds-within, PartsBelow-more}
 use Rattle.lp_term.specs.Measured.{AreMeasured}
 use Rattle.lp_term.specs.Columns.{trees_of, IsTable}
 use Rattle.lp_term.proofs.ColumnLaws.{trees_from-append, length-trees_of, trees_of-Holds, node_of-same, tree_of_node-same}
-use Rattle.lp_binding.specs.LookUps.{slice_get-last, slice_get-one_more}
+use Rattle.lp_binding_laws.specs.LookUps.{slice_get-last, slice_get-one_more}
 
 -- a tree that the table lacks may stand last
 IsDistinct-more : (ts : List Tree) (u : Tree) → IsDistinct ts → ((i : ℕ) → Holds ts i u → ⊥) → IsDistinct (ts ++ u ∷ [])

@@ -8,7 +8,7 @@ use Rattle.lp_term.specs.declared.measures.Measures.{Measures}
 use Rattle.lp_term.specs.Tables.{tree_at}
 use Rattle.lp_term.specs.TableLaws.{tree_at-Holds, Holds-within}
 use Rattle.lp_term.specs.Measured.{IsMeasured, AreMeasured, IsJoined}
-use Rattle.lp_binding.specs.LookUps.{slice_get-one_more}
+use Rattle.lp_binding_laws.specs.LookUps.{slice_get-one_more}
 
 -- the measures with a number are those of its tree
 pub AreMeasured-at : (ms : List Measures) (ts : List Tree) (i : ℕ) (m : Measures) → AreMeasured ms ts → slice_get ms i ≡ Some m → IsMeasured m (tree_at ts i)

@@ -6,9 +6,9 @@ use Rattle.std.proofs.lemmas.Option.{slice_get-map, same_Some}
 use Rattle.std.proofs.lemmas.List.{length-map, map-append, reverse-append}
 use Rattle.std.proofs.Math.Path.{ap₂}
 use Rattle.lp_spec.specs.Trees.{Tree, SortType, SortKind, Var, Sym, App, Lam, Pi, size, loose, lift, put_all_at}
-use Rattle.lp_binding.specs.Composition.{put_all_var-high}
-use Rattle.lp_binding.specs.Closed.{lift_at-closed, lift_at-zero, put_all_at-closed}
-use Rattle.lp_binding.specs.Binding.{size-positive}
+use Rattle.lp_binding_laws.specs.Composition.{put_all_var-high}
+use Rattle.lp_binding_laws.specs.Closed.{lift_at-closed, lift_at-zero, put_all_at-closed}
+use Rattle.lp_binding_laws.specs.Binding.{size-positive}
 use Rattle.lp_term.specs.declared.LpId.{LpId}
 use Rattle.lp_term.specs.declared.LpNode.{LpNode}
 use Rattle.lp_term.specs.declared.LpNode.TheVariants as node

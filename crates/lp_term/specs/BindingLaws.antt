@@ -4,7 +4,7 @@ use Rattle.std.proofs.lemmas.Option.{same_Some}
 use Rattle.std.proofs.Math.Path.{ap₂}
 use Rattle.common.specs.Binding.{puts as puts_of, Pairwise}
 use Rattle.lp_spec.specs.Trees.{Tree, lift, put, put_at, put_all}
-use Rattle.lp_binding.specs.Binding.{put_all-puts, puts}
+use Rattle.lp_binding_laws.specs.Binding.{put_all-puts, puts}
 use Rattle.lp_term.specs.declared.LpId.{LpId}
 use Rattle.lp_term.specs.Tables.{tree_at, trees_at, AreKnown, Holds}
 use Rattle.lp_term.specs.TableLaws.{Holds-tree_at, Holds-within}

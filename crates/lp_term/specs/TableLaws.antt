@@ -4,7 +4,7 @@ use Rattle.std.specs.Prelude.{unwrap_or, take}
 use Rattle.std.proofs.lemmas.Option.{slice_get_within, slice_get-get_or, unwrap_or-slice_get, same_Some}
 use Rattle.std.proofs.Math.Path.{ap₂}
 use Rattle.lp_spec.specs.Trees.{Tree, SortType, App, Lam, Pi}
-use Rattle.lp_binding.specs.LookUps.{slice_get-append}
+use Rattle.lp_binding_laws.specs.LookUps.{slice_get-append}
 use Rattle.lp_term.specs.declared.LpId.{LpId}
 use Rattle.lp_term.specs.declared.LpNode.{LpNode}
 use Rattle.lp_term.specs.declared.LpNode.TheVariants as node

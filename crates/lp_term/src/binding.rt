@@ -1,6 +1,6 @@
 //! A table of lambda-Pi trees as a table of trees with numbers for bound variables.
 ghost use Rattle.lp_spec.specs.Trees.{Tree, lift as lift_tree, put_at, put_all as put_all_trees};
-ghost use Rattle.lp_binding.specs.Binding as laws;
+ghost use Rattle.lp_binding_laws.specs.Binding as laws;
 ghost use Rattle.lp_term.specs.Tables.{Holds};
 ghost use Rattle.lp_term.specs.BindingLaws.{put_list_puts as puts_law, one_tree as one_tree_law};
 

@@ -8,7 +8,7 @@ use Rattle.std.proofs.lemmas.List.{length-append}
 use Rattle.lp_spec.specs.Trees.{Tree, Sym, App, Pi, size}
 use Rattle.lp_spec.specs.Modules.{symbol_type}
 use Rattle.lp_spec.specs.Weight.{greatest, spread, spreads}
-use Rattle.lp_binding.specs.Binding.{size-positive}
+use Rattle.lp_binding_laws.specs.Binding.{size-positive}
 use Rattle.lp_term.specs.declared.LpId.{LpId}
 use Rattle.lp_term.specs.declared.LpNode.{LpNode}
 use Rattle.lp_term.specs.declared.LpNode.TheVariants as node

@@ -5,7 +5,7 @@ use Rattle.std.proofs.lemmas.List.{reverse-append}
 use Rattle.std.proofs.Math.Nat.{mul-suc}
 use Rattle.lp_spec.specs.Trees.{Tree, SortType, SortKind, Var, Sym, App, Lam, Pi, size, put_all_var, put_all_at, put_all, loose}
 use Rattle.lp_spec.specs.Weight.{spread_after, spread}
-use Rattle.lp_binding.specs.Binding.{size-positive}
+use Rattle.lp_binding_laws.specs.Binding.{size-positive}
 use Rattle.lp_weight.specs.Occurrences.{occurrences, spread_by}
 use Rattle.lp_weight.proofs.SpreadLaws.{size-variable, put_all_at-none}
 

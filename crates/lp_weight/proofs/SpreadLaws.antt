@@ -6,7 +6,7 @@ use Rattle.std.proofs.lemmas.Option.{slice_get-map}
 use Rattle.lp_spec.specs.Trees.{Tree, SortType, SortKind, Var, Sym, App, Lam, Pi, size, lift, put_all_var, put_all_at}
 use Rattle.lp_spec.specs.Modules.{Declaration}
 use Rattle.lp_spec.specs.Weight.{spreads, tree_weight, weight}
-use Rattle.lp_shape.specs.Sizes.{size-lift}
+use Rattle.lp_check_laws.specs.Sizes.{size-lift}
 use Rattle.lp_term.specs.declared.LpId.{LpId}
 use Rattle.lp_term.specs.Tables.{tree_at}
 use Rattle.holide_sig.specs.declared.decls.Decl.{Decl}

@@ -7,7 +7,7 @@ use Rattle.lp_weight.specs.declared.measure.Task.TheVariants.{Visit, Join}
 use Rattle.lp_weight.specs.Saturation.{saturated}
 use Rattle.tree_map.specs.Noted.{IsNoted}
 use Rattle.lp_weight.specs.Measures.{IsPlace, tree_of, AreTwo, Makes, IsMemo, IsWalk, work}
-use Rattle.lp_binding.specs.Binding.{size-positive}
+use Rattle.lp_binding_laws.specs.Binding.{size-positive}
 
 -- a sum of saturated numbers saturates as that of the numbers
 pub saturated-sum : (a b : ℕ) → saturated (saturated a + saturated b) ≡ saturated (a + b)

@@ -4,7 +4,7 @@ use Rattle.std.specs.Prelude.{if◌then◌else◌, option_map}
 use Rattle.std.specs.Option.{is_some}
 use Rattle.lp_spec.specs.Trees.{Tree, SortType, SortKind, Var, Sym, App, Lam, Pi, tree_eq}
 use Rattle.lp_spec.specs.Modules.{Declaration, types, term_of}
-use Rattle.lp_binding.specs.TreeEquality.{tree_eq-true}
+use Rattle.lp_binding_laws.specs.TreeEquality.{tree_eq-true}
 use Rattle.lp_term.specs.declared.LpId.{LpId}
 use Rattle.lp_term.specs.Tables.{tree_at, Holds, Keeps}
 use Rattle.lp_term.specs.TableLaws.{Holds-tree_at, Holds-within, tree_at-Stays}

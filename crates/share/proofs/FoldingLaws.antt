@@ -8,7 +8,7 @@ use Rattle.lp_spec.specs.Trees.{Tree}
 use Rattle.lp_spec.specs.Modules.{signature, Declaration}
 use Rattle.lp_spec.specs.ModuleOrder.{AreDeclared, IsModule}
 use Rattle.lp_spec.specs.ShortNames.{NoneShort}
-use Rattle.lp_shape.specs.ShapedPasses.{AreShaped}
+use Rattle.lp_check_laws.specs.ShapedPasses.{AreShaped}
 use Rattle.lp_term.specs.declared.LpId.{LpId}
 use Rattle.holide_sig.specs.declared.decls.Decl.{Decl}
 use Rattle.holide_sig.specs.declared.module.Module.{Module}

@@ -7,7 +7,7 @@ use Rattle.std.proofs.lemmas.List.{get_or-set_same, get_or-set_other, get_or-rep
 use Rattle.std.proofs.lemmas.Option.{same_Some}
 use Rattle.lp_spec.specs.Trees.{Tree, SortType, SortKind, Var, Sym, App, Lam, Pi, tree_eq, size}
 use Rattle.lp_spec.specs.Modules.{Declaration}
-use Rattle.lp_binding.specs.TreeEquality.{tree_eq-refl, tree_eq-true}
+use Rattle.lp_binding_laws.specs.TreeEquality.{tree_eq-refl, tree_eq-true}
 use Rattle.lp_term.specs.declared.LpId.{LpId}
 use Rattle.lp_term.specs.Tables.{tree_at, trees_at, Holds, IsDistinct, Keeps}
 use Rattle.lp_term.specs.TableLaws.{tree_at-Holds, tree_at-Stays, Holds-tree_at}

@@ -8,7 +8,7 @@ use Rattle.lp_spec.specs.Modules.{Declaration, arr_of}
 use Rattle.lp_term.specs.declared.LpId.{LpId}
 use Rattle.lp_term.specs.declared.LpNode.{LpNode}
 use Rattle.lp_term.specs.declared.LpNode.TheVariants as node
-use Rattle.lp_binding.specs.TreeEquality.{tree_eq-refl, tree_eq-true}
+use Rattle.lp_binding_laws.specs.TreeEquality.{tree_eq-refl, tree_eq-true}
 use Rattle.lp_term.specs.Tables.{tree_at, tree_of_node, Holds, IsDistinct, Keeps}
 use Rattle.lp_term.specs.TableLaws.{tree_at-Holds, Holds-tree_at, Holds-within, tree_at-Stays}
 use Rattle.share_spec.specs.Abbreviations.{or_else, constant_type, is_simple, simple_part, value_type, term_type}

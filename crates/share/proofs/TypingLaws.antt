@@ -7,7 +7,7 @@ use Rattle.std.proofs.lemmas.Bool.{and_parts}
 use Rattle.std.proofs.lemmas.Option.{same_Some}
 use Rattle.lp_spec.specs.Trees.{Tree, SortType, SortKind, Var, Sym, App, Lam, Pi, lift_at, lift, put_at, put, loose, tree_eq}
 use Rattle.lp_spec.specs.Modules.{Declaration, types, arr_of, term_of, arr_symbol}
-use Rattle.lp_binding.specs.TreeEquality.{tree_eq-refl, tree_eq-true}
+use Rattle.lp_binding_laws.specs.TreeEquality.{tree_eq-refl, tree_eq-true}
 use Rattle.share_spec.specs.Abbreviations.{provided, or_else, type_of_terms, at_a_type, constant_type, is_simple, simple_part, value_type, function_type, term_type}
 use Rattle.share_laws.specs.AbbreviationLaws.{and_then-Some, provided-Some}
 use Rattle.share.specs.Typings.{context, entry, constant_part, IsContext}

@@ -2,7 +2,7 @@
 ghost use Rattle.std.specs.Prelude.{◌≡◌, ◌≤◌, [], false, length, drop, replicate, IfOk, OnOk};
 ghost use Rattle.lp_spec.specs.ModuleOrder.{IsModule};
 ghost use Rattle.lp_spec.specs.ShortNames.{NoneShort};
-ghost use Rattle.lp_shape.specs.ShapedPasses.{AreShaped};
+ghost use Rattle.lp_check_laws.specs.ShapedPasses.{AreShaped};
 ghost use Rattle.lp_term.specs.Tables.{Keeps};
 ghost use Rattle.holide_sig.specs.Modules.{declarations_of, IsHeld};
 ghost use Rattle.share_spec.specs.Folded.{entries_of, folded};

@@ -9,10 +9,10 @@ use Rattle.lp_spec.specs.Trees.{Tree, SortType, SortKind, Var, Sym, App, Lam, Pi
 use Rattle.lp_spec.specs.Reading.{max_depth}
 use Rattle.std.proofs.lemmas.Grind.{common_steps}
 use Rattle.lp_spec.specs.Modules.{Declaration, symbol_type, types, arr_symbol, term_symbol, arr_of, term_of}
-use Rattle.lp_binding.specs.TreeEquality.{tree_eq-true}
+use Rattle.lp_binding_laws.specs.TreeEquality.{tree_eq-true}
 use Rattle.lp_spec.specs.Shaped.{Solid, IsConstant, type_variable, constant, at_type, IsSimple, IsTerm, of_entry, of_constant, of_function, of_binder, of_types, of_terms, IsProof, call, at_a_type as at_a_type_of, defined, by_type, IsShaped}
-use Rattle.lp_shape.specs.Found.{term-simple}
-use Rattle.lp_shape.specs.TermPrice.{size-positive}
+use Rattle.lp_check_laws.specs.Found.{term-simple}
+use Rattle.lp_check_laws.specs.TermPrice.{size-positive}
 use Rattle.share_spec.specs.FoldedStands.{IsAbbreviated, of_type, of_term}
 use Rattle.share_spec.specs.Abbreviations.{provided, or_else, is_solid, type_of_terms, at_a_type, constant_type, is_simple, simple_part, value_type, function_type, term_type, type_of_abbreviation, written_type, abbreviation}
 

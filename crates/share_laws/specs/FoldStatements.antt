@@ -5,9 +5,9 @@ use Rattle.lp_spec.specs.Modules.{Declaration}
 use Rattle.lp_spec.specs.ModuleOrder.{IsModule}
 use Rattle.lp_spec.specs.ShortNames.{NoneShort, AreLong}
 use Rattle.lp_spec.specs.TextLaws.{ArePlain, AreShallow, ReadsBack}
-use Rattle.lp_shape.specs.ShapedPasses.{AreShaped}
-use Rattle.lp_shape.specs.PricedModules.{IsPriced}
-use Rattle.module_spec.specs.Stands.{StandsForRun}
+use Rattle.lp_check_laws.specs.ShapedPasses.{AreShaped}
+use Rattle.lp_check_laws.specs.PricedModules.{IsPriced}
+use Rattle.translate_spec.specs.Stands.{StandsForRun}
 use Rattle.share_spec.specs.Folded.{folded}
 use Rattle.share_spec.specs.FoldedStands.{FoldedStands}
 

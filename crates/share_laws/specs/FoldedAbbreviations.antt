@@ -7,8 +7,8 @@ use Rattle.std.proofs.Math.Path.{ap₂}
 use Rattle.lp_spec.specs.Trees.{Tree, tree_eq}
 use Rattle.lp_spec.specs.Modules.{Declaration, signature, types}
 use Rattle.lp_spec.specs.ModuleOrder.{IsModule}
-use Rattle.lp_binding.specs.TreeEquality.{tree_eq-refl}
-use Rattle.lp_shape.specs.EarlierDeclarations.{IsModule-IsSelfContained}
+use Rattle.lp_binding_laws.specs.TreeEquality.{tree_eq-refl}
+use Rattle.lp_check_laws.specs.EarlierDeclarations.{IsModule-IsSelfContained}
 use Rattle.share_spec.specs.Abbreviations.{abbreviation}
 use Rattle.share_spec.specs.Folded.{abbreviated, abbreviations, firsts, is_in, is_shared, parts_in, places}
 use Rattle.share_laws.specs.AbbreviationsKept.{abbreviation-kept}

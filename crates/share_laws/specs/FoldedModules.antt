@@ -13,13 +13,13 @@ use Rattle.lp_spec.specs.Modules.{Declaration, signature, symbol_declaration}
 use Rattle.lp_spec.specs.ModuleOrder.{is_declared, AreDeclared, IsModule}
 use Rattle.lp_spec.specs.Lemmas.{lemmas}
 use Rattle.lp_spec.specs.Numerals.{numeral}
-use Rattle.text_laws.specs.ReadTrees.{signature_unshort, NoneShort-append, short_body-None, unshort-at}
+use Rattle.dk_laws.specs.ReadTrees.{signature_unshort, NoneShort-append, short_body-None, unshort-at}
 use Rattle.lp_spec.specs.ShortNames.{NoneShort, is_short_name, short_body, short_for, IsLong, IsBodyLong, AreLong}
-use Rattle.lp_typing.specs.Soundness.{IsSound, IsSound-after}
-use Rattle.lp_typing.specs.SignatureLaws.{signature_sound}
-use Rattle.lp_shape.specs.ShapedPasses.{AreShaped, shaped-typed}
-use Rattle.module_laws.specs.OrderedModules.{shaped-over}
-use Rattle.module_laws.specs.NumeralLaws.{numeral-injective, is_numeral-numeral}
+use Rattle.lp_typing_laws.specs.Soundness.{IsSound, IsSound-after}
+use Rattle.lp_typing_laws.specs.SignatureLaws.{signature_sound}
+use Rattle.lp_check_laws.specs.ShapedPasses.{AreShaped, shaped-typed}
+use Rattle.translate_laws.specs.OrderedModules.{shaped-over}
+use Rattle.translate_laws.specs.NumeralLaws.{numeral-injective, is_numeral-numeral}
 use Rattle.share_spec.specs.MovedTrees.{moved_symbol, moved, moved_declaration}
 use Rattle.share_spec.specs.Folded.{Entry, kept, abbreviated, parts_in, firsts, is_shared, abbreviations, entries, entries_of, place_in, declarations, folded}
 use Rattle.share_laws.specs.MovedLaws.{IsMoved, moved-symbol_declaration}

@@ -10,10 +10,10 @@ use Rattle.lp_spec.specs.Trees.{Tree}
 use Rattle.lp_spec.specs.Modules.{Declaration, types}
 use Rattle.lp_spec.specs.Lemmas.{lemmas}
 use Rattle.lp_spec.specs.Typing.{WellTyped}
-use Rattle.lp_binding.specs.LookUps.{slice_get-append, slice_get-last, slice_get-one_more}
+use Rattle.lp_binding_laws.specs.LookUps.{slice_get-append, slice_get-last, slice_get-one_more}
 use Rattle.lp_spec.specs.Shaped.{IsShaped}
-use Rattle.lp_shape.specs.ShapedPasses.{AreShaped, shaped-WellTyped}
-use Rattle.lp_shape.specs.PricedModules.{IsPriced, shaped-priced}
+use Rattle.lp_check_laws.specs.ShapedPasses.{AreShaped, shaped-WellTyped}
+use Rattle.lp_check_laws.specs.PricedModules.{IsPriced, shaped-priced}
 use Rattle.share_spec.specs.Abbreviations.{abbreviation}
 use Rattle.share_spec.specs.MovedTrees.{moved_declaration}
 use Rattle.share_spec.specs.Folded.{is_shared, firsts, parts_in, places, Entry, kept, abbreviated, abbreviations, entries, entries_of, place_in, declarations, folded}

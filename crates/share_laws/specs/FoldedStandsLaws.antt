@@ -17,11 +17,11 @@ use Rattle.lp_spec.specs.declared.form.Form.TheVariants.{Thm, Def}
 use Rattle.lp_spec.specs.Trees.{Tree, SortType, SortKind, Var, Sym, App, Lam, Pi}
 use Rattle.lp_spec.specs.ShortNames.{NoneShort}
 use Rattle.lp_spec.specs.Modules.{Declaration, signature, symbol, applied, types, products, abstractions, sub_symbol, sub_abs_symbol, sub_rep_symbol}
-use Rattle.lp_binding.specs.LookUps.{slice_get-seam}
-use Rattle.lp_shape.specs.ShapedPasses.{AreShaped}
-use Rattle.module_spec.specs.Stands.{is_export_name, occurs, uses, IsReached, export, used, IsConstantType, IsGiven, IsUnproved, DefinesConstant, IsPartOf, part_definition, IsDefined, IsTheoremName, AreExports, none, more, StandsForRun}
-use Rattle.module_spec.specs.Image.{constant_name, operator_name}
-use Rattle.module_spec.specs.Stands as stands
+use Rattle.lp_binding_laws.specs.LookUps.{slice_get-seam}
+use Rattle.lp_check_laws.specs.ShapedPasses.{AreShaped}
+use Rattle.translate_spec.specs.Stands.{is_export_name, occurs, uses, IsReached, export, used, IsConstantType, IsGiven, IsUnproved, DefinesConstant, IsPartOf, part_definition, IsDefined, IsTheoremName, AreExports, none, more, StandsForRun}
+use Rattle.translate_spec.specs.Image.{constant_name, operator_name}
+use Rattle.translate_spec.specs.Stands as stands
 use Rattle.share_spec.specs.MovedTrees.{moved_symbol, moved, moved_declaration}
 use Rattle.share_spec.specs.Folded.{Entry, kept, abbreviated, entries_of, place_in, declarations, folded}
 use Rattle.share_spec.specs.FoldedStands.{IsAbbreviated, of_type, of_term, IsAbbreviation, FoldedStands}

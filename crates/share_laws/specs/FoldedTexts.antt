@@ -15,9 +15,9 @@ use Rattle.lp_spec.specs.Numerals.{numeral, is_decimal_digit}
 use Rattle.lp_spec.specs.Tokens.{is_word_byte}
 use Rattle.lp_spec.specs.Reading.{max_depth}
 use Rattle.lp_spec.specs.TextLaws.{IsPlainName, ArePlain, IsBodyShallow, AreShallow, ReadsBack}
-use Rattle.lp_shape.specs.ShapedPasses.{AreShaped}
-use Rattle.text_laws.specs.WrittenModules.{written_reads}
-use Rattle.module_laws.specs.NumeralLaws.{numeral-digits}
+use Rattle.lp_check_laws.specs.ShapedPasses.{AreShaped}
+use Rattle.dk_laws.specs.WrittenModules.{written_reads}
+use Rattle.translate_laws.specs.NumeralLaws.{numeral-digits}
 use Rattle.share_spec.specs.Abbreviations.{abbreviation}
 use Rattle.share_spec.specs.MovedTrees.{moved}
 use Rattle.share_spec.specs.Folded.{parts, parts_in, is_shared, is_in, firsts, Entry, kept, abbreviated, abbreviations, entries, entries_of, place_in, declarations, folded}

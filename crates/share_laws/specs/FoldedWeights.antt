@@ -10,13 +10,13 @@ use Rattle.lp_spec.specs.Trees.{Tree, SortType, SortKind, Var, Sym, App, Lam, Pi
 use Rattle.lp_spec.specs.Modules.{Declaration, types, symbol_type}
 use Rattle.lp_spec.specs.Lemmas.{lemmas}
 use Rattle.lp_spec.specs.Weight.{spread_after, spread, symbol_spread, spreads, tree_weight, weight}
-use Rattle.lp_binding.specs.Arguments.{put-put_all}
+use Rattle.lp_binding_laws.specs.Arguments.{put-put_all}
 use Rattle.lp_spec.specs.Shaped.{IsConstant, type_variable, constant, at_type}
-use Rattle.lp_shape.specs.ShapedPasses.{AreShaped}
-use Rattle.lp_shape.specs.PricedModules.{weight-more}
-use Rattle.lp_shape.specs.Sizes.{put_all-nil}
-use Rattle.lp_shape.specs.Found.{term-simple}
-use Rattle.lp_shape.specs.TermPrice.{size-positive, constant-spreads, spread-type, AreSmall, type-size}
+use Rattle.lp_check_laws.specs.ShapedPasses.{AreShaped}
+use Rattle.lp_check_laws.specs.PricedModules.{weight-more}
+use Rattle.lp_check_laws.specs.Sizes.{put_all-nil}
+use Rattle.lp_check_laws.specs.Found.{term-simple}
+use Rattle.lp_check_laws.specs.TermPrice.{size-positive, constant-spreads, spread-type, AreSmall, type-size}
 use Rattle.share_spec.specs.MovedTrees.{moved, moved_declaration}
 use Rattle.share_spec.specs.Folded.{parts, parts_in, is_shared, is_in, firsts, Entry, kept, abbreviated, abbreviations, entries, entries_of, place_in, declarations, folded}
 use Rattle.share_spec.specs.FoldedStands.{IsAbbreviated, of_type, of_term}

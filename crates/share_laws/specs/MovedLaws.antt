@@ -13,7 +13,7 @@ use Rattle.lp_spec.specs.Modules.{Declaration, signature, applied, products, abs
 use Rattle.lp_spec.specs.Conversion.{definition_of, symbol_definition}
 use Rattle.lp_spec.specs.declared.form.Form.{Form}
 use Rattle.lp_spec.specs.declared.form.Form.TheVariants.{Symbol, Def, Thm}
-use Rattle.lp_binding.specs.Composition.{lift_is, put_at_is, put_all_at_is}
+use Rattle.lp_binding_laws.specs.Composition.{lift_is, put_at_is, put_all_at_is}
 use Rattle.share_spec.specs.MovedTrees.{moved_symbol, moved, moved_declaration}
 
 -- a list from its end, with something for each item

@@ -8,13 +8,13 @@ use Rattle.hol_spec.specs.ClosedForm as closed
 use Rattle.hol_spec.specs.ClosedForm.{ClosedType, ClosedTypes, ClosedTerm, ClosedSequent}
 use Rattle.lp_spec.specs.Trees.{Tree, Sym}
 use Rattle.lp_spec.specs.Modules.{Declaration, symbol_type, products, types, term_of, proof_of}
-use Rattle.module_spec.specs.OperatorMeaning.{NamesOperator, MeansOperator, arrow, truth_values, individuals}
-use Rattle.module_spec.specs.OperatorMeaning as operators
-use Rattle.module_spec.specs.TypeEnc.{Place, place, inside, StandsForType, StandForTypes}
-use Rattle.module_spec.specs.ConstantMeaning.{NamesConstant, HasGenericType, MeansConstant, equality, choice}
-use Rattle.module_spec.specs.ConstantMeaning as constants
-use Rattle.module_spec.specs.Enc.{StandsForConstant, StandsForTerm, StandForVariables, StandForHypotheses, domains, Enc}
-use Rattle.module_spec.specs.Stands.{IsConstantType}
+use Rattle.translate_spec.specs.OperatorMeaning.{NamesOperator, MeansOperator, arrow, truth_values, individuals}
+use Rattle.translate_spec.specs.OperatorMeaning as operators
+use Rattle.translate_spec.specs.TypeEnc.{Place, place, inside, StandsForType, StandForTypes}
+use Rattle.translate_spec.specs.ConstantMeaning.{NamesConstant, HasGenericType, MeansConstant, equality, choice}
+use Rattle.translate_spec.specs.ConstantMeaning as constants
+use Rattle.translate_spec.specs.Enc.{StandsForConstant, StandsForTerm, StandForVariables, StandForHypotheses, domains, Enc}
+use Rattle.translate_spec.specs.Stands.{IsConstantType}
 use Rattle.share_spec.specs.MovedTrees.{moved_symbol, moved}
 use Rattle.share_laws.specs.MovedLaws.{moved-applied, moved-products, IsMoved, moved-symbol_type, moved-symbol_name}
 

@@ -5,7 +5,7 @@ use Rattle.std.specs.Prelude.{min, ◌||◌, ◌⊎◌, slice_get}
 use Rattle.std.specs.List.{flat_map}
 use Rattle.std.specs.Option.{unwrap_or}
 use Rattle.lp_spec.specs.Trees.{Tree, SortType, SortKind, Var, Sym, App, Lam, Pi, tree_eq}
-use Rattle.lp_binding.specs.TreeEquality.{tree_eq-refl, tree_eq-true}
+use Rattle.lp_binding_laws.specs.TreeEquality.{tree_eq-refl, tree_eq-true}
 use Rattle.share_spec.specs.Folded.{parts, places, is_in}
 use Rattle.share_laws.specs.WrittenOnceLaws.{in-either, in-one, in-places, in-left, in-right}
 use Rattle.share_laws.specs.PlacesByNodes.{direct, total, passed, AreDescending, passed-places}

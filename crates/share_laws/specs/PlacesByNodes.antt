@@ -8,7 +8,7 @@ use Rattle.std.proofs.Math.Nat.{mul-zero, zero-mul, suc-mul, mul_comm}
 use Rattle.std.proofs.lemmas.List.{append-nil}
 use Rattle.lp_spec.specs.Trees.{Tree, SortType, SortKind, Var, Sym, App, Lam, Pi, tree_eq}
 use Rattle.lp_spec.specs.Modules.{Declaration}
-use Rattle.lp_binding.specs.TreeEquality.{tree_eq-refl, tree_eq-true}
+use Rattle.lp_binding_laws.specs.TreeEquality.{tree_eq-refl, tree_eq-true}
 use Rattle.share_spec.specs.Folded.{parts, parts_in, places, is_in}
 use Rattle.share_laws.specs.WrittenOnceLaws.{places-append, in-left, in-right}
 

@@ -13,13 +13,13 @@ use Rattle.lp_spec.specs.Trees.{Tree, SortType, SortKind, Var, Sym, App, Lam, Pi
 use Rattle.lp_spec.specs.Modules.{Declaration, signature}
 use Rattle.lp_spec.specs.Lemmas.{lemmas}
 use Rattle.lp_spec.specs.ModuleOrder.{symbols, IsBodyOver, MayFollow, AreDeclared, IsModule}
-use Rattle.lp_shape.specs.EarlierDeclarations.{IsModule-IsSelfContained}
+use Rattle.lp_check_laws.specs.EarlierDeclarations.{IsModule-IsSelfContained}
 use Rattle.share_spec.specs.Abbreviations.{abbreviation}
 use Rattle.share_laws.specs.AbbreviationLaws.{nat_le-true}
 use Rattle.share_laws.specs.AbbreviationsKept.{abbreviation-kept}
 use Rattle.lp_spec.specs.Numerals.{numeral}
 use Rattle.lp_spec.specs.ShortNames.{short, short_body, is_tree}
-use Rattle.lp_binding.specs.TreeEquality.{tree_eq-refl, tree_eq-true}
+use Rattle.lp_binding_laws.specs.TreeEquality.{tree_eq-refl, tree_eq-true}
 use Rattle.share_laws.specs.FoldedModules.{abbreviation_name-short}
 use Rattle.share_spec.specs.MovedTrees.{moved_symbol, moved, moved_declaration}
 use Rattle.share_spec.specs.Folded.{parts, parts_in, places, is_shared, is_in, firsts, Entry, kept, abbreviated, abbreviations, entries, entries_of, place_in, declarations}

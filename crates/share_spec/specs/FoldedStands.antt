@@ -9,7 +9,7 @@ use Rattle.lp_spec.specs.ModuleOrder.{IsModule}
 use Rattle.lp_spec.specs.Numerals.{numeral}
 use Rattle.lp_spec.specs.Typing.{WellTyped}
 use Rattle.lp_spec.specs.Shaped.{IsSimple, IsTerm}
-use Rattle.module_spec.specs.Stands.{IsUnproved, IsDefined, IsTheoremName, AreExports, is_export_name}
+use Rattle.translate_spec.specs.Stands.{IsUnproved, IsDefined, IsTheoremName, AreExports, is_export_name}
 
 -- a tree is a simple type, and the other is `type`; or it is a term of a simple type, and the other is `term` of that
 pub data IsAbbreviated (m : List Declaration) (t : Tree) : Tree → Type 0 where

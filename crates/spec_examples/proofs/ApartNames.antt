@@ -11,7 +11,7 @@ use Rattle.hol_spec.specs.Proofs.{IsProof, Each, Accepted}
 use Rattle.lp_spec.specs.Trees.{Tree, Var, Sym, App, Pi}
 use Rattle.lp_spec.specs.Modules.{symbol, types, bools, term_of, eq_of, proof_of}
 use Rattle.lp_spec.specs.Lemmas.{lemmas}
-use Rattle.module_spec.specs.Image.{image}
+use Rattle.translate_spec.specs.Image.{image}
 use Rattle.lp_spec.specs.Numerals.{numeral}
 use Rattle.spec_examples.proofs.SmallRuns.{takes, assumes, exports, theorem, own_lines, next, assumed, exported, alone}
 

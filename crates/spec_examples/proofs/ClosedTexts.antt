@@ -4,7 +4,7 @@ use Rattle.std.specs.Prelude.{codes, decimal}
 use Rattle.std.proofs.lemmas.Fmt.{decimal_digit}
 use Rattle.hol_spec.specs.Primitives.{equality_name}
 use Rattle.hol_spec.specs.ClosedForm.{ClosedType, ClosedTerm}
-use Rattle.module_spec.specs.ConstantMeaning.{closed_bool, closed_function}
+use Rattle.translate_spec.specs.ConstantMeaning.{closed_bool, closed_function}
 use Rattle.decode_spec.specs.Decode.{closed_sequent}
 use Rattle.decode_spec.specs.ClosedText.{closed_text}
 

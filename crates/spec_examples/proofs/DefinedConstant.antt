@@ -14,12 +14,12 @@ use Rattle.hol_spec.specs.declared.StepKind.TheVariants.{DefineConst, Restate}
 use Rattle.lp_spec.specs.declared.form.Form.TheVariants.{Def}
 use Rattle.lp_spec.specs.Trees.{Var, Lam}
 use Rattle.lp_spec.specs.Modules.{Declaration, bools, term_of, arr_of, arr_symbol, bool_symbol}
-use Rattle.module_spec.specs.Image.{image}
-use Rattle.module_spec.specs.OperatorMeaning.{truth_values, arrow}
-use Rattle.module_spec.specs.ConstantMeaning.{closed_bool, closed_function}
+use Rattle.translate_spec.specs.Image.{image}
+use Rattle.translate_spec.specs.OperatorMeaning.{truth_values, arrow}
+use Rattle.translate_spec.specs.ConstantMeaning.{closed_bool, closed_function}
 use Rattle.lp_spec.specs.Numerals.{numeral}
-use Rattle.module_spec.specs.TypeEnc.{Place, place, StandsForType}
-use Rattle.module_spec.specs.Stands.{IsDefined}
+use Rattle.translate_spec.specs.TypeEnc.{Place, place, StandsForType}
+use Rattle.translate_spec.specs.Stands.{IsDefined}
 use Rattle.article_spec.proofs.SmallArticles.{named}
 
 abbrev pub c : Name

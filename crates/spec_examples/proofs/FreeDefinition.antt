@@ -10,7 +10,7 @@ use Rattle.hol_spec.specs.Taking.{Takes}
 use Rattle.hol_spec.specs.Rules.{Rule, Parameters}
 use Rattle.hol_spec.specs.Proofs.{Made, IsProof, Each, IsOfDefinition, Accepted}
 use Rattle.hol_spec.specs.declared.StepKind.TheVariants.{FirstLaw, SecondLaw}
-use Rattle.module_spec.specs.Image.{image}
+use Rattle.translate_spec.specs.Image.{image}
 use Rattle.lp_spec.specs.Numerals.{numeral}
 use Rattle.spec_examples.proofs.SmallRuns.{infers, assumes, exports, own_lines, next, assumed, exported, alone}
 use Rattle.spec_examples.proofs.TypeDefinition.{names, functions, holds, one_holds, defines, is_a_definition}

@@ -10,7 +10,7 @@ use Rattle.hol_spec.specs.declared.StepKind.TheVariants.{BetaConv}
 use Rattle.lp_spec.specs.Trees.{Tree, Var, Sym, App, Lam, Pi}
 use Rattle.lp_spec.specs.Modules.{bools, eq_of, proof_of, refl_of}
 use Rattle.lp_spec.specs.Lemmas.{lemmas}
-use Rattle.module_spec.specs.Image.{image}
+use Rattle.translate_spec.specs.Image.{image}
 use Rattle.lp_spec.specs.Numerals.{numeral}
 use Rattle.spec_examples.proofs.SmallRuns.{p, I, TB, infers, exports, theorem, own_lines, next, exported, alone}
 

@@ -14,7 +14,7 @@ use Rattle.hol_spec.specs.declared.StepKind.TheVariants.{DefineConstList}
 use Rattle.lp_spec.specs.Trees.{Tree, Var, Sym, Lam, Pi}
 use Rattle.lp_spec.specs.Modules.{symbol, applied, bools, term_of, arr_of, eq_of, proof_of, refl_of}
 use Rattle.lp_spec.specs.Lemmas.{lemmas}
-use Rattle.module_spec.specs.Image.{image}
+use Rattle.translate_spec.specs.Image.{image}
 use Rattle.lp_spec.specs.Numerals.{numeral}
 use Rattle.spec_examples.proofs.SmallRuns.{name, truths, I, TB, infers, assumes, exports, theorem, definition, own_lines, next, assumed, exported, alone}
 

@@ -11,7 +11,7 @@ use Rattle.hol_spec.specs.declared.StepKind.TheVariants.{Subst}
 use Rattle.lp_spec.specs.Trees.{Tree, Var, Sym, Lam, Pi}
 use Rattle.lp_spec.specs.Modules.{symbol, applied, proof_of}
 use Rattle.lp_spec.specs.Lemmas.{lemmas}
-use Rattle.module_spec.specs.Image.{image}
+use Rattle.translate_spec.specs.Image.{image}
 use Rattle.lp_spec.specs.Numerals.{numeral}
 use Rattle.spec_examples.proofs.SmallRuns.{name, p, q, r, TB, infers, assumes, exports, theorem, own_lines, next, assumed, exported}
 

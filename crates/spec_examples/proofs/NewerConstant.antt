@@ -13,7 +13,7 @@ use Rattle.hol_spec.specs.declared.StepKind.TheVariants.{DefineConst}
 use Rattle.lp_spec.specs.Trees.{Tree, Var, Sym, Lam}
 use Rattle.lp_spec.specs.Modules.{bools, term_of, arr_of, eq_of, proof_of, refl_of}
 use Rattle.lp_spec.specs.Lemmas.{lemmas}
-use Rattle.module_spec.specs.Image.{image}
+use Rattle.translate_spec.specs.Image.{image}
 use Rattle.lp_spec.specs.Numerals.{numeral}
 use Rattle.spec_examples.proofs.SmallRuns.{name, truths, I, TB, infers, exports, theorem, definition, own_lines, next, exported, alone}
 

@@ -6,7 +6,7 @@ use Rattle.hol_spec.specs.Proofs.{Made, Accepted}
 use Rattle.lp_spec.specs.Trees.{Var, Pi}
 use Rattle.lp_spec.specs.Modules.{Declaration, symbol, types, term_of}
 use Rattle.lp_spec.specs.Numerals.{numeral}
-use Rattle.module_spec.specs.Stands.{IsGiven}
+use Rattle.translate_spec.specs.Stands.{IsGiven}
 use Rattle.article_spec.proofs.SmallArticles.{named}
 
 abbrev run : Accepted

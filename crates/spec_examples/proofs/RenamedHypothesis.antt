@@ -12,7 +12,7 @@ use Rattle.hol_spec.specs.declared.StepKind.TheVariants.{DeductAntisym}
 use Rattle.lp_spec.specs.Trees.{Tree, Var, Sym, App, Lam, Pi}
 use Rattle.lp_spec.specs.Modules.{symbol, applied, types, bools, term_of, arr_of, eq_of, proof_of, prop_ext_symbol}
 use Rattle.lp_spec.specs.Lemmas.{lemmas}
-use Rattle.module_spec.specs.Image.{image}
+use Rattle.translate_spec.specs.Image.{image}
 use Rattle.lp_spec.specs.Numerals.{numeral}
 use Rattle.spec_examples.proofs.SmallRuns.{name, boolean, p, truths, TB, takes, infers, assumes, exports, theorem, own_lines, next, assumed, exported, alone}
 

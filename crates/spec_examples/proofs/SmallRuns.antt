@@ -17,7 +17,7 @@ use Rattle.lp_spec.specs.declared.form.Form.TheVariants.{Thm, Def}
 use Rattle.lp_spec.specs.Trees.{Tree}
 use Rattle.lp_spec.specs.Modules.{Declaration, bools, term_of}
 use Rattle.lp_spec.specs.Text.{tree_text, body_text}
-use Rattle.module_spec.specs.Image.{image}
+use Rattle.translate_spec.specs.Image.{image}
 
 -- names of one component, and variables of the truth values
 abbrev pub name : List ℕ → Name

@@ -18,7 +18,7 @@ use Rattle.hol_spec.specs.declared.StepKind.TheVariants.{FirstLaw, SecondLaw}
 use Rattle.lp_spec.specs.Trees.{Tree, Var, Sym, App, Lam, Pi, lift}
 use Rattle.lp_spec.specs.Modules.{symbol, applied, types, term_of, arr_of, eq_of, proof_of, select_symbol, fun_ext_symbol, sub_symbol, sub_abs_symbol, sub_rep_symbol, sub_abs_rep_symbol}
 use Rattle.lp_spec.specs.Lemmas.{lemmas}
-use Rattle.module_spec.specs.Image.{image}
+use Rattle.translate_spec.specs.Image.{image}
 use Rattle.lp_spec.specs.Numerals.{numeral}
 use Rattle.spec_examples.proofs.SmallRuns.{name, infers, assumes, exports, theorem, definition, own_lines, next, assumed, exported, alone}
 

@@ -12,13 +12,13 @@ use Rattle.hol_spec.specs.declared.StepKind.TheVariants.{Axiom, Restate}
 use Rattle.lp_spec.specs.declared.form.Form.TheVariants.{Thm}
 use Rattle.lp_spec.specs.Trees.{Tree, Var, Sym, App, Lam, Pi}
 use Rattle.lp_spec.specs.Modules.{Declaration, signature, symbol, bools, term_of, proof_of, bool_symbol}
-use Rattle.module_spec.specs.Image.{image}
-use Rattle.module_spec.specs.OperatorMeaning.{truth_values}
-use Rattle.module_spec.specs.ConstantMeaning.{closed_bool}
-use Rattle.module_spec.specs.TypeEnc.{Place, place, StandsForType}
-use Rattle.module_spec.specs.Enc.{Enc}
+use Rattle.translate_spec.specs.Image.{image}
+use Rattle.translate_spec.specs.OperatorMeaning.{truth_values}
+use Rattle.translate_spec.specs.ConstantMeaning.{closed_bool}
+use Rattle.translate_spec.specs.TypeEnc.{Place, place, StandsForType}
+use Rattle.translate_spec.specs.Enc.{Enc}
 use Rattle.lp_spec.specs.Numerals.{numeral}
-use Rattle.module_spec.specs.Stands.{uses, IsGiven, IsReached, IsUnproved}
+use Rattle.translate_spec.specs.Stands.{uses, IsGiven, IsReached, IsUnproved}
 use Rattle.article_spec.proofs.SmallArticles.{boolean}
 use Rattle.spec_examples.proofs.SmallRuns.{own_lines}
 

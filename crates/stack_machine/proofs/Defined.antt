@@ -15,8 +15,8 @@ use Rattle.article_spec.specs.State as state
 use Rattle.article_spec.specs.Results.{◌>>=◌, Fails}
 use Rattle.article_spec.specs.Changes.{with_theorem, defining, defining_type, with_type}
 use Rattle.article_spec.specs.Step.{obey}
-use Rattle.proof_laws.specs.ProofGrowth.{steps_of-append}
-use Rattle.proof_laws.specs.ProofLaws.{steps_of-push, steps_of-symbols}
+use Rattle.hol_proof_laws.specs.ProofGrowth.{steps_of-append}
+use Rattle.hol_proof_laws.specs.ProofLaws.{steps_of-push, steps_of-symbols}
 use Rattle.compose.specs.declared.pool.Said.{Said}
 use Rattle.compose.specs.Pools.{steps_in}
 use Rattle.hol_rules.specs.Kept.{Kept}

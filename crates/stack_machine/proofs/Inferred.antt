@@ -14,7 +14,7 @@ use Rattle.article_spec.specs.Results.{◌>>=◌, ◌>>◌, Fails}
 use Rattle.article_spec.specs.Conditions.{sequent_in_limits}
 use Rattle.article_spec.specs.Changes.{with_theorem, by_step}
 use Rattle.article_spec.specs.Step.{obey}
-use Rattle.proof_laws.specs.ProofLaws.{steps_of-push}
+use Rattle.hol_proof_laws.specs.ProofLaws.{steps_of-push}
 use Rattle.compose.specs.declared.pool.Said.{Said}
 use Rattle.compose.specs.Pools.{steps_in}
 use Rattle.hol_term.specs.Tables.{IsTermAt}

@@ -19,8 +19,8 @@ use Rattle.hol_spec.specs.declared.StepKind.TheVariants as by_rule
 use Rattle.hol_laws.specs.Members.{All-append, All-at, is_in-IsIn, IsIn-distinct}
 use Rattle.hol_laws.specs.RenamingLaws.{length_map}
 use Rattle.hol_laws.specs.TermLaws.{term_eq-Decides, type_eq-refl}
-use Rattle.proof_laws.specs.ProofLaws.{steps_of-push}
-use Rattle.proof_laws.specs.ProofGrowth.{All-get, proof-sequents}
+use Rattle.hol_proof_laws.specs.ProofLaws.{steps_of-push}
+use Rattle.hol_proof_laws.specs.ProofGrowth.{All-get, proof-sequents}
 use Rattle.common.specs.declared.faults.Fault.{Fault}
 use Rattle.common.specs.declared.faults.Fault.TheVariants.{Memory, Refused}
 use Rattle.common.specs.declared.faults.Kind.{Kind}

@@ -8,7 +8,7 @@ use Rattle.hol_spec.specs.Terms.{bound}
 use Rattle.hol_spec.specs.Symbols.{Symbol}
 use Rattle.hol_spec.specs.Proofs.{Made, Step, sequent_at, sequents_of, steps_of}
 use Rattle.hol_laws.specs.RenamingLaws.{length_map}
-use Rattle.proof_laws.specs.ProofLaws.{steps_of-symbols}
+use Rattle.hol_proof_laws.specs.ProofLaws.{steps_of-symbols}
 use Rattle.hol_term.specs.Tables.{Keeps}
 use Rattle.hol_term.specs.TableLaws.{AreKnown-Keeps, Keeps-refl, term_in-Stays, terms_at-Keeps}
 use Rattle.sequent.specs.declared.Sequent.{Sequent}

@@ -4,7 +4,7 @@ use Rattle.std.specs.Coded.{Coded, code_by, coded×, coded_list, coded_ℕ}
 use Rattle.std.specs.List.{AllByRecursion}
 use Rattle.hol_spec.specs.Symbols.{Symbol}
 use Rattle.hol_spec.specs.Proofs.{Made, steps_of}
-use Rattle.proof_laws.specs.ProofCodes.{coded_made}
+use Rattle.hol_proof_laws.specs.ProofCodes.{coded_made}
 use Rattle.hol_defs.specs.declared.SymbolKind.{SymbolKind}
 use Rattle.hol_defs.specs.declared.SymbolKind.TheVariants.{Primitive, Defined}
 

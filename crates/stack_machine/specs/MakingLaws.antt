@@ -3,7 +3,7 @@ use Rattle.std.proofs.Common.{◌≡◌, ℕ, ◌<◌, ◌≤◌, ◌+◌, ap, �
 use Rattle.hol_spec.specs.Symbols.{Symbol}
 use Rattle.hol_spec.specs.Proofs.{Made, Step, steps_of}
 use Rattle.hol_laws.specs.Members.{All-append}
-use Rattle.proof_laws.specs.ProofLaws.{steps_of-push, steps_of-symbols}
+use Rattle.hol_proof_laws.specs.ProofLaws.{steps_of-push, steps_of-symbols}
 use Rattle.stack_machine.specs.Making.{AreSteps, IsRunKnown}
 
 -- as many steps where nothing but symbols is taken, and one more where a step is made

@@ -13,13 +13,13 @@ use Rattle.hol_rules.specs.Views.{step_at}
 use Rattle.lp_spec.specs.Lemmas.{theorem}
 use Rattle.lp_spec.specs.Modules.{Declaration, symbol, types}
 use Rattle.lp_spec.specs.Trees.{Tree}
-use Rattle.module_laws.specs.NeededSteps.{needed-sequent, needed-row}
-use Rattle.module_spec.specs.Items.{declaration_of}
-use Rattle.module_spec.specs.MadeItems.{content_by}
-use Rattle.module_spec.specs.Rows.{has_row, proof_tree}
-use Rattle.module_spec.specs.Scopes.{SymbolMap, Scope, conclusion_tree, domains_of, scope_of, sequent_tree, term_domains, proof_domains, under_term, under_proof, scope_of_types, scope_of_terms}
+use Rattle.translate_laws.specs.NeededSteps.{needed-sequent, needed-row}
+use Rattle.translate_spec.specs.Items.{declaration_of}
+use Rattle.translate_spec.specs.MadeItems.{content_by}
+use Rattle.translate_spec.specs.Rows.{has_row, proof_tree}
+use Rattle.translate_spec.specs.Scopes.{SymbolMap, Scope, conclusion_tree, domains_of, scope_of, sequent_tree, term_domains, proof_domains, under_term, under_proof, scope_of_types, scope_of_terms}
 use Rattle.translate_rule.specs.Steps.{TellsContent, TellsGiven, TellsProof, needed_at, content_at, symbol_in, rule_tree}
-use Rattle.rule_proofs.specs.Told.{TellsSequent}
+use Rattle.translate_proof.specs.Told.{TellsSequent}
 use Rattle.translate_rule.proofs.StepLaws.{step-sequent}
 
 -- how many binders a sequent has

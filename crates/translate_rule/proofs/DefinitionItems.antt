@@ -14,20 +14,20 @@ use Rattle.hol_spec.specs.TypeDefinitions.{IsTypeDefinition}
 use Rattle.hol_spec.specs.Types.{HolType}
 use Rattle.hol_term.specs.Tables.{term_at, type_at}
 use Rattle.hol_rules.specs.Kept.{Kept}
-use Rattle.module_laws.specs.AcceptedItems.{EachAfter, each-after}
-use Rattle.module_reach.specs.MadeItems.{definition_made}
-use Rattle.module_spec.specs.Image.{type_definition_name}
-use Rattle.module_spec.specs.Items.{Content, Item}
-use Rattle.module_spec.specs.MadeItems.{type_contents, premise_at}
-use Rattle.module_spec.specs.Reach.{renumbered_content}
-use Rattle.proof_laws.specs.ProofGrowth.{sequents_of-append, steps_of-append}
-use Rattle.rule_proofs.specs.declared.parts.Part.{Part}
-use Rattle.rule_proofs.specs.declared.parts.Part.TheVariants as part
-use Rattle.telling_laws.specs.MadeInOrder.{items-grow}
-use Rattle.telling_laws.specs.Making.{items_made, module_number, definition_up_to, definition_in_module, IsNextDefinition}
-use Rattle.telling_laws.specs.NextDefinitions.{next-definition, next-definition-kept, next-definition-gone}
-use Rattle.telling_laws.specs.NextSteps.{each-at, nothing_said}
-use Rattle.telling_laws.specs.Positions.{index-front, get-within}
+use Rattle.translate_laws.specs.AcceptedItems.{EachAfter, each-after}
+use Rattle.translate_reach.specs.MadeItems.{definition_made}
+use Rattle.translate_spec.specs.Image.{type_definition_name}
+use Rattle.translate_spec.specs.Items.{Content, Item}
+use Rattle.translate_spec.specs.MadeItems.{type_contents, premise_at}
+use Rattle.translate_spec.specs.Reach.{renumbered_content}
+use Rattle.hol_proof_laws.specs.ProofGrowth.{sequents_of-append, steps_of-append}
+use Rattle.translate_proof.specs.declared.parts.Part.{Part}
+use Rattle.translate_proof.specs.declared.parts.Part.TheVariants as part
+use Rattle.image_items_laws.specs.MadeInOrder.{items-grow}
+use Rattle.image_items_laws.specs.Making.{items_made, module_number, definition_up_to, definition_in_module, IsNextDefinition}
+use Rattle.image_items_laws.specs.NextDefinitions.{next-definition, next-definition-kept, next-definition-gone}
+use Rattle.image_items_laws.specs.NextSteps.{each-at, nothing_said}
+use Rattle.image_items_laws.specs.Positions.{index-front, get-within}
 use Rattle.translate_rule.specs.declared.items.Item.{Item as AnItem}
 use Rattle.translate_rule.specs.declared.items.Item.TheVariants as item
 use Rattle.translate_rule.specs.declared.items.TypeDefinition.{TypeDefinition}

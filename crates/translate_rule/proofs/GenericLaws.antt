@@ -11,13 +11,13 @@ use Rattle.hol_spec.specs.NameEquality.{name_eq}
 use Rattle.hol_laws.specs.NameEqualityLaws.{name_eq-Decides}
 use Rattle.lp_spec.specs.Trees.{Tree, Var, Lam, Pi, lift}
 use Rattle.lp_spec.specs.Modules.{abstractions, bools, products, types}
-use Rattle.lp_binding.specs.Binding.{lift-lift}
-use Rattle.lp_binding.specs.Composition.{lift_zero}
+use Rattle.lp_binding_laws.specs.Binding.{lift-lift}
+use Rattle.lp_binding_laws.specs.Composition.{lift_zero}
 use Rattle.lp_term.specs.declared.LpId.{LpId}
 use Rattle.lp_term.specs.Tables.{tree_at, Holds, Keeps}
 use Rattle.lp_term.specs.TableLaws.{Holds-tree_at, Holds-within, Keeps-refl, Keeps-trans, tree_at-Holds, tree_at-Stays}
-use Rattle.module_spec.specs.Scopes.{TypeScope, set_type, under_types, unfilled}
-use Rattle.module_laws.specs.ListedScopes.{told_types, under_all, under_types-all}
+use Rattle.translate_spec.specs.Scopes.{TypeScope, set_type, under_types, unfilled}
+use Rattle.translate_laws.specs.ListedScopes.{told_types, under_all, under_types-all}
 use Rattle.translate_term.specs.Told.{types_in, AreTypesKnown}
 use Rattle.translate_rule.specs.TypeScopes.{IsTypeScope}
 

@@ -15,9 +15,9 @@ use Rattle.lp_spec.specs.Trees.{Tree, Pi, Var}
 use Rattle.lp_term.specs.declared.LpId.{LpId}
 use Rattle.lp_term.specs.Tables.{tree_at, Holds}
 use Rattle.lp_term.specs.TableLaws.{Holds-tree_at}
-use Rattle.module_spec.specs.Items.{Content, declaration_of, definition_tree}
-use Rattle.module_spec.specs.Scopes.{SymbolMap, filled, generic_tree, term_tree, type_tree, under_types, unfilled}
-use Rattle.module_laws.specs.ListedScopes.{told, told_types}
+use Rattle.translate_spec.specs.Items.{Content, declaration_of, definition_tree}
+use Rattle.translate_spec.specs.Scopes.{SymbolMap, filled, generic_tree, term_tree, type_tree, under_types, unfilled}
+use Rattle.translate_laws.specs.ListedScopes.{told, told_types}
 use Rattle.translate_term.specs.Told.{types_in, terms_in}
 use Rattle.translate_rule.specs.TypeScopes.{IsTypeScope}
 use Rattle.translate_rule.proofs.GenericLaws.{binders-of}

@@ -17,7 +17,7 @@ use Rattle.hol_rules.specs.declared.made.Parameters.TheVariants as given
 use Rattle.hol_rules.specs.Kept.{Kept}
 use Rattle.hol_rules.specs.Views.{parameters_view, step_at}
 use Rattle.hol_term.specs.Tables.{Trees}
-use Rattle.rule_proofs.specs.Parts.{IsFirstLaw, IsSecondLaw}
+use Rattle.translate_proof.specs.Parts.{IsFirstLaw, IsSecondLaw}
 use Rattle.translate_rule.specs.LawSteps.{IsOperatorStep, IsFirstLawStep, IsSecondLawStep}
 
 -- a sequent is a law of a type operator, as it is in a version, by a theorem that defines it

@@ -14,7 +14,7 @@ use Rattle.hol_rules.specs.declared.made.Parameters.TheVariants as given
 use Rattle.hol_term.specs.declared.Variable.{Variable as AVariable}
 use Rattle.hol_term.specs.Tables.{Trees}
 use Rattle.lp_spec.specs.Modules.{Declaration}
-use Rattle.module_spec.specs.Scopes.{SymbolMap}
+use Rattle.translate_spec.specs.Scopes.{SymbolMap}
 use Rattle.translate_term.specs.Told.{TellsConstant}
 use Rattle.translate_rule.specs.Steps.{TellsGiven}
 

@@ -12,16 +12,16 @@ use Rattle.hol_spec.specs.declared.StepKind.{StepKind}
 use Rattle.hol_rules.specs.Kept.{Kept}
 use Rattle.lp_spec.specs.Lemmas.{lemmas}
 use Rattle.lp_spec.specs.Modules.{Declaration, signature}
-use Rattle.module_laws.specs.NeededSteps.{needed-row}
-use Rattle.module_spec.specs.Image.{symbol_name, step_name}
-use Rattle.module_spec.specs.Items.{Content, Item, declaration}
-use Rattle.module_spec.specs.MadeItems.{contents_of, content_by, contents, needed, numbered}
-use Rattle.module_spec.specs.Rows.{has_row}
-use Rattle.telling_laws.specs.MadeInOrder.{items-grow, items-stay, next-made}
-use Rattle.telling_laws.specs.Making.{items_made, made_items, is_kept, module_number, kept_of, kept_symbols, declared, step_item, step_symbol, used_step, module_content, items_up_to, content_number, step_in_module, symbol_in_module}
-use Rattle.telling_laws.specs.NextItems.{next-step-kept, next-step-gone, next-symbol-kept, next-symbol-gone}
-use Rattle.telling_laws.specs.NextSteps.{next-premises}
-use Rattle.telling_laws.specs.Positions.{index-front, index-seam}
+use Rattle.translate_laws.specs.NeededSteps.{needed-row}
+use Rattle.translate_spec.specs.Image.{symbol_name, step_name}
+use Rattle.translate_spec.specs.Items.{Content, Item, declaration}
+use Rattle.translate_spec.specs.MadeItems.{contents_of, content_by, contents, needed, numbered}
+use Rattle.translate_spec.specs.Rows.{has_row}
+use Rattle.image_items_laws.specs.MadeInOrder.{items-grow, items-stay, next-made}
+use Rattle.image_items_laws.specs.Making.{items_made, made_items, is_kept, module_number, kept_of, kept_symbols, declared, step_item, step_symbol, used_step, module_content, items_up_to, content_number, step_in_module, symbol_in_module}
+use Rattle.image_items_laws.specs.NextItems.{next-step-kept, next-step-gone, next-symbol-kept, next-symbol-gone}
+use Rattle.image_items_laws.specs.NextSteps.{next-premises}
+use Rattle.image_items_laws.specs.Positions.{index-front, index-seam}
 use Rattle.translate_rule.specs.declared.items.Item.{Item as AnItem}
 use Rattle.translate_rule.specs.declared.items.Item.TheVariants as item
 use Rattle.translate_rule.specs.declared.run.Run.{Run}

@@ -13,23 +13,23 @@ use Rattle.hol_term.specs.Tables.{Trees, terms_at, AreKnown, IsDistinct}
 use Rattle.hol_rules.specs.Kept.{Kept}
 use Rattle.lp_spec.specs.Modules.{Declaration, bools}
 use Rattle.lp_spec.specs.Trees.{lift}
-use Rattle.lp_binding.specs.Composition.{lift_zero}
+use Rattle.lp_binding_laws.specs.Composition.{lift_zero}
 use Rattle.holide_sig.specs.declared.module.Module.{Module}
 use Rattle.holide_sig.specs.Modules.{declarations_of, IsHeld}
-use Rattle.module_spec.specs.Scopes.{SymbolMap, Scope, filled, scope_of, scope_of_terms, lifted, under_terms, under_types, unfilled}
-use Rattle.rule_proofs.specs.Environments.{filled_terms, unproved}
-use Rattle.rule_proofs.specs.Placed.{placed}
-use Rattle.rule_proofs.specs.Placing.{IsPlaced}
-use Rattle.rule_proofs.specs.Rescoped.{over_types, with_scope}
-use Rattle.rule_proofs.specs.declared.scope.Environment.{Environment}
-use Rattle.rule_proofs.specs.EnvironmentLaws.{Represents-Grows}
+use Rattle.translate_spec.specs.Scopes.{SymbolMap, Scope, filled, scope_of, scope_of_terms, lifted, under_terms, under_types, unfilled}
+use Rattle.translate_proof.specs.Environments.{filled_terms, unproved}
+use Rattle.translate_proof.specs.Placed.{placed}
+use Rattle.translate_proof.specs.Placing.{IsPlaced}
+use Rattle.translate_proof.specs.Rescoped.{over_types, with_scope}
+use Rattle.translate_proof.specs.declared.scope.Environment.{Environment}
+use Rattle.translate_proof.specs.EnvironmentLaws.{Represents-Grows}
 use Rattle.translate_rule.specs.declared.own.OwnStep.{OwnStep}
 use Rattle.translate_rule.specs.OwnSteps.{own_scope, proof_in, IsReady, StandsFor}
 use Rattle.translate_rule.specs.Steps.{given_at, given_over, AreParams}
 use Rattle.translate_term.specs.GrowLaws.{declarations_of-Grows, IsHeld-Grows}
 use Rattle.translate_term.specs.Walks.{Grows}
 use Rattle.translate_rule.proofs.StatementLaws.{without_hypotheses, type_variables-joined, free_variables-joined}
-use Rattle.rule_proofs.specs.PlacedLaws.{placed-under_types, types-placed, terms-placed, proofs-placed}
+use Rattle.translate_proof.specs.PlacedLaws.{placed-under_types, types-placed, terms-placed, proofs-placed}
 
 -- as many terms and variables as numbers
 pub terms-count : (trees : Trees) (hs : List TermId) → length (terms_at trees hs) ≡ length hs

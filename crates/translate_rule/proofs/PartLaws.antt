@@ -14,16 +14,16 @@ use Rattle.hol_rules.specs.Kept.{Kept}
 use Rattle.hol_term.specs.Tables.{term_at, type_at}
 use Rattle.lp_spec.specs.declared.form.Form.TheVariants.{Def}
 use Rattle.lp_spec.specs.Modules.{Declaration, abstractions, types}
-use Rattle.module_spec.specs.Items.{declaration_of, part_definition_tree}
-use Rattle.module_spec.specs.ProofTrees.{witness, part_tree}
-use Rattle.module_spec.specs.Rows.{type_or}
-use Rattle.module_spec.specs.Scopes.{SymbolMap, filled, under_types, unfilled}
-use Rattle.rule_proofs.specs.declared.parts.Part.{Part}
-use Rattle.rule_proofs.specs.declared.parts.Part.TheVariants as part
-use Rattle.rule_proofs.specs.declared.premise.Premise.{Premise}
-use Rattle.rule_proofs.specs.Parts.{part_symbol, whole_type, IsDefiningStep}
-use Rattle.rule_proofs.specs.Told as rule
-use Rattle.telling_laws.specs.Told.{TellsContent}
+use Rattle.translate_spec.specs.Items.{declaration_of, part_definition_tree}
+use Rattle.translate_spec.specs.ProofTrees.{witness, part_tree}
+use Rattle.translate_spec.specs.Rows.{type_or}
+use Rattle.translate_spec.specs.Scopes.{SymbolMap, filled, under_types, unfilled}
+use Rattle.translate_proof.specs.declared.parts.Part.{Part}
+use Rattle.translate_proof.specs.declared.parts.Part.TheVariants as part
+use Rattle.translate_proof.specs.declared.premise.Premise.{Premise}
+use Rattle.translate_proof.specs.Parts.{part_symbol, whole_type, IsDefiningStep}
+use Rattle.translate_proof.specs.Told as rule
+use Rattle.image_items_laws.specs.Told.{TellsContent}
 use Rattle.translate_term.specs.Told.{TellsType}
 use Rattle.translate_rule.specs.declared.items.Item.TheVariants as item
 use Rattle.translate_rule.specs.declared.items.TypeDefinition.{TypeDefinition}

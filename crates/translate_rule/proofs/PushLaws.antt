@@ -14,14 +14,14 @@ use Rattle.holide_sig.specs.Modules.{declarations_of}
 use Rattle.lp_spec.specs.Lemmas.{lemmas}
 use Rattle.lp_spec.specs.ModuleOrder.{MayFollow}
 use Rattle.lp_spec.specs.Modules.{Declaration, signature}
-use Rattle.module_spec.specs.Items.{Content, operator, constant, defined_constant, type_operator, type_abstraction, type_representation, unproved, step, Item, declaration, declaration_of, module_of}
-use Rattle.module_spec.specs.Scopes.{SymbolMap}
-use Rattle.rule_proofs.specs.Told as rule
-use Rattle.run_laws.specs.Named.{HasNames}
-use Rattle.telling_laws.specs.MadeInOrder.{next-follows}
-use Rattle.telling_laws.specs.Making.{kept_of, kept_symbols, declared}
-use Rattle.telling_laws.specs.NextTells.{next-tells}
-use Rattle.telling_laws.specs.Told.{TellsContent, TellsGiven, TellsSequent}
+use Rattle.translate_spec.specs.Items.{Content, operator, constant, defined_constant, type_operator, type_abstraction, type_representation, unproved, step, Item, declaration, declaration_of, module_of}
+use Rattle.translate_spec.specs.Scopes.{SymbolMap}
+use Rattle.translate_proof.specs.Told as rule
+use Rattle.image_laws.specs.Named.{HasNames}
+use Rattle.image_items_laws.specs.MadeInOrder.{next-follows}
+use Rattle.image_items_laws.specs.Making.{kept_of, kept_symbols, declared}
+use Rattle.image_items_laws.specs.NextTells.{next-tells}
+use Rattle.image_items_laws.specs.Told.{TellsContent, TellsGiven, TellsSequent}
 use Rattle.translate_term.specs.Told.{TellsTerm}
 use Rattle.translate_rule.specs.declared.items.Item.{Item as AnItem}
 use Rattle.translate_rule.specs.ItemViews.{item_name, item_content}

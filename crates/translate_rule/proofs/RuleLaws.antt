@@ -9,9 +9,9 @@ use Rattle.hol_spec.specs.Rules.{Rule, Parameters}
 use Rattle.hol_spec.specs.Rules as rule
 use Rattle.hol_spec.specs.declared.StepKind.TheVariants as kinds
 use Rattle.lp_spec.specs.Trees.{Tree}
-use Rattle.module_spec.specs.Scopes.{SymbolMap, Scope}
-use Rattle.module_spec.specs.ProofTrees.{refl_tree, app_thm_tree}
-use Rattle.module_spec.specs.Rows.{proof_tree, equated_type, left_side, right_side, argument_type, result_type, type_or}
+use Rattle.translate_spec.specs.Scopes.{SymbolMap, Scope}
+use Rattle.translate_spec.specs.ProofTrees.{refl_tree, app_thm_tree}
+use Rattle.translate_spec.specs.Rows.{proof_tree, equated_type, left_side, right_side, argument_type, result_type, type_or}
 
 -- a conclusion is an equation
 pub record IsEquation (s : Sequent) : Type 0 where

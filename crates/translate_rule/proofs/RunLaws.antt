@@ -18,10 +18,10 @@ use Rattle.hol_spec.specs.declared.StepKind.TheVariants.{Refl}
 use Rattle.hol_rules.specs.declared.made.Made.{Made as OneMade}
 use Rattle.hol_rules.specs.declared.made.Made.TheVariants as one
 use Rattle.hol_rules.specs.Views.{made_of, first_symbol, other_symbols, type_operator_made, step_at}
-use Rattle.module_reach.specs.MadeItems.{IsNoted}
-use Rattle.proof_laws.specs.ProofGrowth.{symbols_of-append, steps_of-append}
-use Rattle.rule_proofs.specs.Numbers.{IsRising}
-use Rattle.telling_laws.specs.Positions.{index-seam}
+use Rattle.translate_reach.specs.MadeItems.{IsNoted}
+use Rattle.hol_proof_laws.specs.ProofGrowth.{symbols_of-append, steps_of-append}
+use Rattle.translate_proof.specs.Numbers.{IsRising}
+use Rattle.image_items_laws.specs.Positions.{index-seam}
 use Rattle.translate_rule.specs.Building.{IsSameKind}
 
 -- the thing at a place

@@ -21,13 +21,13 @@ use Rattle.hol_term.specs.Subterms.{HaveTypes, variables_of}
 use Rattle.hol_term.specs.Tables.{Trees, term_at, terms_at, type_at, AreKnown}
 use Rattle.lp_spec.specs.Trees.{Tree, App, Lam, Pi, Sym, lift}
 use Rattle.lp_spec.specs.Modules.{Declaration, products, proof_of, proof_symbol, term_of, term_symbol, types}
-use Rattle.lp_binding.specs.Binding.{lift-lift}
-use Rattle.lp_binding.specs.Composition.{lift_zero}
-use Rattle.module_laws.specs.ScopeLaws.{type_tree-lift, term_tree-lift}
-use Rattle.module_spec.specs.Scopes.{SymbolMap, TypeScope, Scope, type_tree, term_tree, lifted, lifted_types, inside, under_term, under_proof, term_domains, proof_domains, scope_of_types, scope_of_terms, conclusion_tree, sequent_tree}
+use Rattle.lp_binding_laws.specs.Binding.{lift-lift}
+use Rattle.lp_binding_laws.specs.Composition.{lift_zero}
+use Rattle.translate_laws.specs.ScopeLaws.{type_tree-lift, term_tree-lift}
+use Rattle.translate_spec.specs.Scopes.{SymbolMap, TypeScope, Scope, type_tree, term_tree, lifted, lifted_types, inside, under_term, under_proof, term_domains, proof_domains, scope_of_types, scope_of_terms, conclusion_tree, sequent_tree}
 use Rattle.translate_term.specs.Told.{TellsType, TellsTerm}
-use Rattle.rule_proofs.specs.Environments.{Given, IsTold}
-use Rattle.rule_proofs.specs.Told.{TellsSequent}
+use Rattle.translate_proof.specs.Environments.{Given, IsTold}
+use Rattle.translate_proof.specs.Told.{TellsSequent}
 use Rattle.translate_rule.specs.Domains.{lifted_domains}
 use Rattle.translate_rule.proofs.GenericLaws.{binders-of}
 

@@ -15,7 +15,7 @@ use Rattle.hol_spec.specs.Rules as rule
 use Rattle.hol_spec.specs.Proofs.{Made, Step, steps_of, sequents_of, sequent_at, ArePremises, IsStep, IsMade, IsProof}
 use Rattle.hol_spec.specs.Proofs as made
 use Rattle.hol_spec.specs.declared.StepKind.TheVariants as kinds
-use Rattle.proof_laws.specs.ProofGrowth.{steps_of-append, sequents_of-append}
+use Rattle.hol_proof_laws.specs.ProofGrowth.{steps_of-append, sequents_of-append}
 use Rattle.hol_rules.specs.Views.{step_at}
 
 -- a premise list over more steps

@@ -15,14 +15,14 @@ use Rattle.hol_rules.specs.Kept.{Kept, step_count}
 use Rattle.hol_rules.specs.Views.{step_at}
 use Rattle.lp_spec.specs.Modules.{Declaration}
 use Rattle.lp_spec.specs.Trees.{Tree}
-use Rattle.module_spec.specs.MadeItems.{proves_nothing, restated, needed}
-use Rattle.module_spec.specs.Rows.{proof_tree, has_row}
-use Rattle.module_spec.specs.Scopes.{SymbolMap, Scope, theorem_tree}
+use Rattle.translate_spec.specs.MadeItems.{proves_nothing, restated, needed}
+use Rattle.translate_spec.specs.Rows.{proof_tree, has_row}
+use Rattle.translate_spec.specs.Scopes.{SymbolMap, Scope, theorem_tree}
 use Rattle.translate_term.specs.Told.{TellsType, TellsTerm}
-use Rattle.rule_proofs.specs.declared.premise.Premise.{Premise}
+use Rattle.translate_proof.specs.declared.premise.Premise.{Premise}
 use Rattle.translate_rule.specs.Steps.{symbol_in, needed_at, rule_tree, TellsProof, IsPremise, IsOne, AreTwo}
-use Rattle.rule_proofs.specs.Told.{TellsSequent}
-use Rattle.rule_proofs.specs.Equations.{IsEquationStep}
+use Rattle.translate_proof.specs.Told.{TellsSequent}
+use Rattle.translate_proof.specs.Equations.{IsEquationStep}
 use Rattle.translate_rule.proofs.RuleLaws.{IsEquation}
 use Rattle.translate_rule.proofs.StepLaws.{step-rule, step-sequent, premises-below}
 

@@ -11,7 +11,7 @@ use Rattle.hol_rules.specs.Views.{step_at, parameters_view}
 use Rattle.hol_rules.specs.declared.made.Parameters.{Parameters as Given}
 use Rattle.hol_rules.specs.declared.made.Parameters.TheVariants as given
 use Rattle.hol_term.specs.Tables.{Trees}
-use Rattle.rule_proofs.specs.Images.{type_pairs, term_pairs, IsSubstituted}
+use Rattle.translate_proof.specs.Images.{type_pairs, term_pairs, IsSubstituted}
 
 substituted-rule : (k : Kept) (put : Substitution) (id one : ℕ) → Rule kinds.Subst (sequent_at k.made one ∷ []) (Parameters.substitution (type_pairs k.trees put) (term_pairs k.trees put)) (sequent_at k.made id) → IsSubstituted k put id one
 substituted-rule k put id one (rule.subst fitting e) = record { fitting = fitting; hypotheses = ap (λ (s : Sequent). s.hypotheses) e; conclusion = ap (λ (s : Sequent). s.conclusion) e }

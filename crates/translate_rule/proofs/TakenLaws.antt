@@ -17,14 +17,14 @@ use Rattle.hol_type.specs.declared.table.TypeId.{TypeId}
 use Rattle.hol_rules.specs.declared.made.Made.{Made as OneMade}
 use Rattle.hol_rules.specs.declared.made.Made.TheVariants as one
 use Rattle.hol_rules.specs.Kept.{Kept}
-use Rattle.module_laws.specs.AcceptedItems.{each-after}
-use Rattle.module_laws.specs.DefinitionsHeld.{type_or-is}
-use Rattle.module_reach.specs.MadeItems.{definition_made, IsNoted}
-use Rattle.module_spec.specs.Image.{symbol_name}
-use Rattle.module_spec.specs.Items.{Content}
-use Rattle.module_spec.specs.MadeItems.{contents_of}
-use Rattle.telling_laws.specs.Making.{items_made}
-use Rattle.telling_laws.specs.NextSteps.{each-at}
+use Rattle.translate_laws.specs.AcceptedItems.{each-after}
+use Rattle.translate_laws.specs.DefinitionsHeld.{type_or-is}
+use Rattle.translate_reach.specs.MadeItems.{definition_made, IsNoted}
+use Rattle.translate_spec.specs.Image.{symbol_name}
+use Rattle.translate_spec.specs.Items.{Content}
+use Rattle.translate_spec.specs.MadeItems.{contents_of}
+use Rattle.image_items_laws.specs.Making.{items_made}
+use Rattle.image_items_laws.specs.NextSteps.{each-at}
 use Rattle.translate_rule.specs.declared.items.Item.{Item as AnItem}
 use Rattle.translate_rule.specs.declared.items.Item.TheVariants as item
 use Rattle.translate_rule.specs.declared.run.Run.{Run}

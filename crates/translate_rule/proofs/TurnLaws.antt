@@ -13,11 +13,11 @@ use Rattle.hol_rules.specs.declared.made.Made.{Made as OneMade}
 use Rattle.hol_rules.specs.declared.made.Made.TheVariants as one
 use Rattle.holide_sig.specs.Modules.{declarations_of, declaration_in}
 use Rattle.lp_spec.specs.Modules.{signature}
-use Rattle.module_reach.specs.MadeItems.{IsNoted}
-use Rattle.module_reach.specs.Reached.{flag}
-use Rattle.module_spec.specs.Image.{name_in, image}
-use Rattle.module_spec.specs.Items.{Item}
-use Rattle.telling_laws.specs.Making.{items_made, is_kept, kept_of, declared}
+use Rattle.translate_reach.specs.MadeItems.{IsNoted}
+use Rattle.translate_reach.specs.Reached.{flag}
+use Rattle.translate_spec.specs.Image.{name_in, image}
+use Rattle.translate_spec.specs.Items.{Item}
+use Rattle.image_items_laws.specs.Making.{items_made, is_kept, kept_of, declared}
 use Rattle.translate_rule.specs.declared.items.Item.TheVariants as item
 use Rattle.translate_rule.specs.declared.builder.ModuleBuilder.{ModuleBuilder}
 use Rattle.translate_rule.specs.declared.run.Run.{Run}

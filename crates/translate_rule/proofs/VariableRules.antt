@@ -12,9 +12,9 @@ use Rattle.hol_rules.specs.declared.made.Parameters.TheVariants as given
 use Rattle.hol_term.specs.declared.Variable.{Variable as AVariable}
 use Rattle.hol_term.specs.Tables.{Trees}
 use Rattle.lp_spec.specs.Modules.{Declaration}
-use Rattle.module_spec.specs.Scopes.{SymbolMap}
+use Rattle.translate_spec.specs.Scopes.{SymbolMap}
 use Rattle.translate_term.specs.Told.{TellsType, TellsTerm}
-use Rattle.rule_proofs.specs.Told.{TellsSequent}
+use Rattle.translate_proof.specs.Told.{TellsSequent}
 
 -- the type of the variable is told where the sequent is
 variable-of : (d : List Declaration) (tables : SymbolMap) (v : Variable) (one s : Sequent) → Rule kinds.AbsThm (one ∷ []) (Parameters.variable v) s → TellsSequent d tables s → TellsType d tables v.1

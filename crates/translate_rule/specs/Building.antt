@@ -8,11 +8,11 @@ use Rattle.hol_rules.specs.declared.made.Made.TheVariants as one
 use Rattle.hol_rules.specs.Kept.{Kept}
 use Rattle.holide_sig.specs.declared.module.Module.{Module}
 use Rattle.holide_sig.specs.Modules.{declarations_of, IsHeld}
-use Rattle.module_reach.specs.MadeItems.{definition_made, IsNoted}
-use Rattle.module_reach.specs.Reached.{IsReach}
-use Rattle.module_spec.specs.Items.{Item}
-use Rattle.run_laws.specs.Named.{HasNames}
-use Rattle.telling_laws.specs.Making.{items_made, made_items, is_kept, kept_of, declared, step_item, step_symbol, IsNextKept}
+use Rattle.translate_reach.specs.MadeItems.{definition_made, IsNoted}
+use Rattle.translate_reach.specs.Reached.{IsReach}
+use Rattle.translate_spec.specs.Items.{Item}
+use Rattle.image_laws.specs.Named.{HasNames}
+use Rattle.image_items_laws.specs.Making.{items_made, made_items, is_kept, kept_of, declared, step_item, step_symbol, IsNextKept}
 use Rattle.translate_rule.specs.declared.items.Item.{Item as AnItem}
 use Rattle.translate_rule.specs.declared.items.TypeDefinition.{TypeDefinition}
 use Rattle.translate_rule.specs.declared.run.Run.{Run}

@@ -7,9 +7,9 @@ use Rattle.holide_sig.specs.declared.module.Module.{Module}
 use Rattle.holide_sig.specs.Modules.{declaration_in, declarations_of}
 use Rattle.lp_term.specs.declared.LpId.{LpId}
 use Rattle.lp_term.specs.Tables.{Holds}
-use Rattle.module_spec.specs.Items.{Content, declaration_of, definition_tree}
-use Rattle.module_spec.specs.Scopes.{SymbolMap, generic_tree}
-use Rattle.telling_laws.specs.Told.{TellsContent}
+use Rattle.translate_spec.specs.Items.{Content, declaration_of, definition_tree}
+use Rattle.translate_spec.specs.Scopes.{SymbolMap, generic_tree}
+use Rattle.image_items_laws.specs.Told.{TellsContent}
 use Rattle.translate_rule.specs.declared.items.Item.{Item}
 use Rattle.translate_rule.specs.declared.run.Run.{Run}
 use Rattle.translate_rule.specs.ItemViews.{accepted, item_content, item_name}

@@ -15,10 +15,10 @@ use Rattle.hol_term.specs.declared.TermId.{TermId}
 use Rattle.hol_term.specs.Tables.{Trees, term_at, type_at}
 use Rattle.hol_rules.specs.Kept.{Kept, step_count}
 use Rattle.hol_rules.specs.Views.{step_at}
-use Rattle.module_spec.specs.Image.{step_name, input_constant_name, input_operator_name, constant_name, operator_name}
-use Rattle.module_spec.specs.Items.{Content}
-use Rattle.rule_proofs.specs.declared.parts.Part.{Part}
-use Rattle.rule_proofs.specs.declared.parts.Part.TheVariants as part
+use Rattle.translate_spec.specs.Image.{step_name, input_constant_name, input_operator_name, constant_name, operator_name}
+use Rattle.translate_spec.specs.Items.{Content}
+use Rattle.translate_proof.specs.declared.parts.Part.{Part}
+use Rattle.translate_proof.specs.declared.parts.Part.TheVariants as part
 use Rattle.translate_rule.specs.declared.items.Item.{Item}
 use Rattle.translate_rule.specs.declared.items.Item.TheVariants as item
 use Rattle.translate_rule.specs.declared.items.TypeDefinition.{TypeDefinition}

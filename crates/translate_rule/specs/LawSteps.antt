@@ -5,7 +5,7 @@ use Rattle.hol_spec.specs.Rules.{Parameters}
 use Rattle.hol_spec.specs.declared.Version.{Version}
 use Rattle.hol_rules.specs.Kept.{Kept}
 use Rattle.hol_rules.specs.Views.{step_at}
-use Rattle.rule_proofs.specs.Parts.{IsFirstLaw, IsSecondLaw}
+use Rattle.translate_proof.specs.Parts.{IsFirstLaw, IsSecondLaw}
 
 -- a step was given a type operator, in an article of this version
 pub record IsOperatorStep (version : Version) (k : Kept) (id : ℕ) : Type 0 where

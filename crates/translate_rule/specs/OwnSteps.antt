@@ -12,15 +12,15 @@ use Rattle.lp_spec.specs.Modules.{products, Declaration}
 use Rattle.lp_spec.specs.Trees.{Tree}
 use Rattle.lp_term.specs.declared.LpId.{LpId}
 use Rattle.lp_term.specs.Tables.{Holds}
-use Rattle.module_spec.specs.Image.{step_name}
-use Rattle.module_spec.specs.Items.{Content, declaration_of}
-use Rattle.module_spec.specs.Rows.{proof_tree}
-use Rattle.module_spec.specs.Scopes.{SymbolMap, Scope, filled, proof_domains, scope_of, scope_of_terms, scope_of_types, term_domains, under_types, unfilled}
-use Rattle.rule_proofs.specs.declared.premise.Premise.{Premise}
-use Rattle.rule_proofs.specs.declared.scope.Environment.{Environment}
-use Rattle.rule_proofs.specs.Environments.{Represents}
-use Rattle.rule_proofs.specs.Keeping.{AreKept}
-use Rattle.rule_proofs.specs.Told.{TellsSequent}
+use Rattle.translate_spec.specs.Image.{step_name}
+use Rattle.translate_spec.specs.Items.{Content, declaration_of}
+use Rattle.translate_spec.specs.Rows.{proof_tree}
+use Rattle.translate_spec.specs.Scopes.{SymbolMap, Scope, filled, proof_domains, scope_of, scope_of_terms, scope_of_types, term_domains, under_types, unfilled}
+use Rattle.translate_proof.specs.declared.premise.Premise.{Premise}
+use Rattle.translate_proof.specs.declared.scope.Environment.{Environment}
+use Rattle.translate_proof.specs.Environments.{Represents}
+use Rattle.translate_proof.specs.Keeping.{AreKept}
+use Rattle.translate_proof.specs.Told.{TellsSequent}
 use Rattle.translate_rule.specs.declared.declaration.Unnamed.{Unnamed}
 use Rattle.translate_rule.specs.declared.own.OwnStep.{OwnStep}
 use Rattle.translate_rule.specs.declared.run.Run.{Run}

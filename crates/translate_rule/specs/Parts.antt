@@ -15,17 +15,17 @@ use Rattle.lp_spec.specs.Modules.{abstractions, products, types}
 use Rattle.lp_spec.specs.Trees.{Tree}
 use Rattle.lp_term.specs.declared.LpId.{LpId}
 use Rattle.lp_term.specs.Tables.{Holds}
-use Rattle.module_spec.specs.Items.{Content, part_definition_tree}
-use Rattle.module_spec.specs.ProofTrees.{part_tree}
-use Rattle.module_spec.specs.Scopes.{SymbolMap, generic_tree}
-use Rattle.rule_proofs.specs.declared.parts.Part.{Part}
-use Rattle.rule_proofs.specs.declared.parts.Part.TheVariants as part
-use Rattle.rule_proofs.specs.declared.premise.Premise.{Premise}
-use Rattle.rule_proofs.specs.declared.scope.Environment.{Environment}
-use Rattle.rule_proofs.specs.Environments.{Given, Represents}
-use Rattle.rule_proofs.specs.Parts.{part_symbol, whole_type, TellsWhole}
-use Rattle.rule_proofs.specs.Told.{TellsSequent, TellsStep}
-use Rattle.telling_laws.specs.Told.{TellsContent}
+use Rattle.translate_spec.specs.Items.{Content, part_definition_tree}
+use Rattle.translate_spec.specs.ProofTrees.{part_tree}
+use Rattle.translate_spec.specs.Scopes.{SymbolMap, generic_tree}
+use Rattle.translate_proof.specs.declared.parts.Part.{Part}
+use Rattle.translate_proof.specs.declared.parts.Part.TheVariants as part
+use Rattle.translate_proof.specs.declared.premise.Premise.{Premise}
+use Rattle.translate_proof.specs.declared.scope.Environment.{Environment}
+use Rattle.translate_proof.specs.Environments.{Given, Represents}
+use Rattle.translate_proof.specs.Parts.{part_symbol, whole_type, TellsWhole}
+use Rattle.translate_proof.specs.Told.{TellsSequent, TellsStep}
+use Rattle.image_items_laws.specs.Told.{TellsContent}
 use Rattle.translate_term.specs.Told.{TellsType}
 use Rattle.translate_rule.specs.ItemViews.{names_of_view, part_content}
 

@@ -14,9 +14,9 @@ use Rattle.lp_spec.specs.Modules.{products, proof_of, proof_symbol, term_of, ter
 use Rattle.lp_spec.specs.Trees.{Tree, lift, Pi}
 use Rattle.lp_term.specs.declared.LpId.{LpId}
 use Rattle.lp_term.specs.Tables.{Holds}
-use Rattle.module_spec.specs.Scopes.{term_tree, type_tree}
-use Rattle.rule_proofs.specs.declared.scope.Environment.{Environment}
-use Rattle.rule_proofs.specs.Environments.{Given, IsTold, Represents}
+use Rattle.translate_spec.specs.Scopes.{term_tree, type_tree}
+use Rattle.translate_proof.specs.declared.scope.Environment.{Environment}
+use Rattle.translate_proof.specs.Environments.{Given, IsTold, Represents}
 use Rattle.translate_rule.specs.Domains.{lifted_domains}
 use Rattle.translate_term.specs.Told.{TellsType}
 

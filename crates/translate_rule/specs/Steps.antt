@@ -13,14 +13,14 @@ use Rattle.hol_rules.specs.Kept.{Kept, step_count}
 use Rattle.hol_rules.specs.Views.{step_at}
 use Rattle.lp_spec.specs.Modules.{Declaration}
 use Rattle.lp_spec.specs.Trees.{Tree}
-use Rattle.module_spec.specs.Items.{Content, operator, constant, defined_constant, type_operator, type_abstraction, type_representation, unproved, step}
-use Rattle.module_spec.specs.MadeItems.{content_by, needed}
-use Rattle.module_spec.specs.Rows.{has_row, proof_tree}
-use Rattle.module_spec.specs.Scopes.{SymbolMap, Scope, filled, scope_of, under_types, unfilled}
+use Rattle.translate_spec.specs.Items.{Content, operator, constant, defined_constant, type_operator, type_abstraction, type_representation, unproved, step}
+use Rattle.translate_spec.specs.MadeItems.{content_by, needed}
+use Rattle.translate_spec.specs.Rows.{has_row, proof_tree}
+use Rattle.translate_spec.specs.Scopes.{SymbolMap, Scope, filled, scope_of, under_types, unfilled}
 use Rattle.translate_term.specs.Told.{TellsConstant}
-use Rattle.rule_proofs.specs.declared.premise.Premise.{Premise}
-use Rattle.rule_proofs.specs.Environments.{Given}
-use Rattle.rule_proofs.specs.Told.{TellsSequent}
+use Rattle.translate_proof.specs.declared.premise.Premise.{Premise}
+use Rattle.translate_proof.specs.Environments.{Given}
+use Rattle.translate_proof.specs.Told.{TellsSequent}
 
 -- the symbol of each step's declaration
 abbrev pub symbol_in : List ℕ → ℕ → ℕ

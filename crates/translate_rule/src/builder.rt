@@ -5,10 +5,10 @@ ghost use Rattle.hol_defs.specs.Symbols.{IsKnownSymbol};
 ghost use Rattle.hol_rules.specs.Kept.{Kept as AProof};
 ghost use Rattle.hol_spec.specs.Proofs.{Accepted};
 ghost use Rattle.holide_sig.specs.Modules.{declarations_of, IsHeld};
-ghost use Rattle.module_reach.specs.MadeItems.{IsNoted};
-ghost use Rattle.module_spec.specs.Image.{image};
-ghost use Rattle.rule_proofs.specs.Keeping.{AreKept};
-ghost use Rattle.run_laws.specs.Named.{HasNames};
+ghost use Rattle.translate_reach.specs.MadeItems.{IsNoted};
+ghost use Rattle.translate_spec.specs.Image.{image};
+ghost use Rattle.translate_proof.specs.Keeping.{AreKept};
+ghost use Rattle.image_laws.specs.Named.{HasNames};
 ghost use Rattle.translate_rule.specs.ItemViews.{accepted, run_of};
 ghost use Rattle.translate_rule.specs.Building.{IsBegun, IsDefinition, IsRun, IsSameKind, IsStep, IsTaken};
 ghost use Rattle.translate_rule.specs.Building.{AddsItem, AddsItemsOf, AddsThing, Declares, DeclaresNext, HasKept, HasNext, HasThing};
@@ -21,8 +21,8 @@ use common::Memory;
 use hol_defs::SymbolView;
 use hol_rules::{Made, Proof, StepId};
 use holide_sig::{Module, SIGNATURE};
-use module_reach::Reached;
-use rule_proofs::{KeptParams, Part};
+use translate_reach::Reached;
+use translate_proof::{KeptParams, Part};
 use std::alloc::Global;
 
 /// The module of what a proof made and its exports reach: the two lemmas, and then each item that is reached, in order of making. The
@@ -38,7 +38,7 @@ pub fn module(
     ensures module { IfOk result (λ m. declarations_of m ≡ image (run_of proof.now assumptions.now exports.now)) }
     ensures held { IfOk result IsHeld }
 {
-    let reached = module_reach::reached(alloc, proof, exports)?;
+    let reached = translate_reach::reached(alloc, proof, exports)?;
     let run = Run {
         proof,
         assumptions,

@@ -5,7 +5,7 @@ ghost use Rattle.tree_map.specs.Entries.{insert_entry};
 ghost use Rattle.lp_spec.specs.Modules.{abstractions, products, term_of as terms_of, types as simple_types};
 ghost use Rattle.lp_spec.specs.Trees.{Pi, Var};
 ghost use Rattle.lp_term.specs.Tables.{tree_at, Holds, Keeps};
-ghost use Rattle.module_spec.specs.Scopes.{under_types, unfilled};
+ghost use Rattle.translate_spec.specs.Scopes.{under_types, unfilled};
 ghost use Rattle.translate_rule.specs.TypeScopes.{IsTypeScope};
 
 use common::Memory;

@@ -4,9 +4,9 @@ ghost use Rattle.hol_term.specs.Tables.{term_at};
 ghost use Rattle.hol_rules.specs.Kept.{step_count};
 ghost use Rattle.hol_rules.specs.Views.{variable_view};
 ghost use Rattle.holide_sig.specs.Modules.{IsHeld};
-ghost use Rattle.module_spec.specs.Scopes.{lifted, under_proof as proof_under, under_term};
+ghost use Rattle.translate_spec.specs.Scopes.{lifted, under_proof as proof_under, under_term};
 ghost use Rattle.translate_term.specs.Walks.{Grows};
-ghost use Rattle.rule_proofs.specs.Keeping.{lent_params, AreKept};
+ghost use Rattle.translate_proof.specs.Keeping.{lent_params, AreKept};
 ghost use Rattle.translate_rule.specs.OwnSteps.{outer_scope, own_scope, proof_in, types_scope, variable_scope, IsReady, StandsFor, StandsUnder};
 ghost use Rattle.translate_rule.specs.Steps.{AreParams};
 
@@ -15,7 +15,7 @@ use hol_name::Name;
 use hol_rules::{Proof, StepId};
 use hol_term::{TermId, Variable};
 use holide_sig::Module;
-use rule_proofs::{Environment, Ground, KeptParams, LentParams};
+use translate_proof::{Environment, Ground, KeptParams, LentParams};
 use sequent::Params;
 use std::alloc::Global;
 

@@ -7,9 +7,9 @@ ghost use Rattle.hol_spec.specs.Types.{type_variables};
 ghost use Rattle.hol_term.specs.Tables.{type_at};
 ghost use Rattle.hol_rules.specs.Kept.{step_count};
 ghost use Rattle.holide_sig.specs.Modules.{IsHeld, IsKnown};
-ghost use Rattle.rule_proofs.specs.Environments.{Given, Represents};
-ghost use Rattle.rule_proofs.specs.Parts.{IsDefiningStep, TellsWhole};
-ghost use Rattle.rule_proofs.specs.Told.{TellsStep};
+ghost use Rattle.translate_proof.specs.Environments.{Given, Represents};
+ghost use Rattle.translate_proof.specs.Parts.{IsDefiningStep, TellsWhole};
+ghost use Rattle.translate_proof.specs.Told.{TellsStep};
 ghost use Rattle.translate_term.specs.Walks.{Grows};
 ghost use Rattle.translate_rule.specs.Declaring.{IsDeclared, IsTold};
 ghost use Rattle.translate_rule.specs.ItemViews.{names_of_view, part_name as name_of_part};
@@ -26,7 +26,7 @@ use hol_rules::Proof;
 use hol_type::TypeId;
 use holide_sig::{Decl, Form, Ident, Module};
 use lp_term::LpId;
-use rule_proofs::{Environment, Part, Premise, type_part};
+use translate_proof::{Environment, Part, Premise, type_part};
 use std::alloc::Global;
 
 // The declaration of a part of a type definition, from a premise with its symbol.

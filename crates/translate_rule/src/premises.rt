@@ -5,12 +5,12 @@ ghost use Rattle.hol_spec.specs.Proofs.{sequent_at};
 ghost use Rattle.hol_spec.specs.Terms.{term_eq};
 ghost use Rattle.hol_rules.specs.Kept.{step_count};
 ghost use Rattle.hol_rules.specs.Views.{step_at};
-ghost use Rattle.module_spec.specs.MadeItems.{proves_nothing as nothing_proved};
+ghost use Rattle.translate_spec.specs.MadeItems.{proves_nothing as nothing_proved};
 ghost use Rattle.translate_rule.specs.Steps.{AreTwo, IsOne, symbol_in};
 
 use hol_rules::{Proof, StepId};
 use hol_spec::StepKind;
-use rule_proofs::Premise;
+use translate_proof::Premise;
 
 // The one premise of a step.
 pub(crate) fn one_premise(proof: &Proof, symbols: &[usize], id: StepId) -> Premise

@@ -4,7 +4,7 @@ ghost use Rattle.hol_spec.specs.declared.StepKind.TheVariants.{AbsThm, DeductAnt
 ghost use Rattle.hol_spec.specs.declared.Version.{Version as AVersion};
 ghost use Rattle.hol_spec.specs.declared.Version.TheVariants.{Five, Six};
 ghost use Rattle.hol_rules.specs.Kept.{step_count};
-ghost use Rattle.module_spec.specs.Rows.{has_row};
+ghost use Rattle.translate_spec.specs.Rows.{has_row};
 ghost use Rattle.translate_term.specs.Walks.{Grows};
 ghost use Rattle.translate_rule.specs.LawSteps.{IsFirstLawStep, IsOperatorStep, IsSecondLawStep};
 ghost use Rattle.translate_rule.specs.OwnSteps.{needed_step, own_step, proof_in, IsProofBy, IsProofOf, IsProofTold, IsReady};
@@ -16,7 +16,7 @@ use hol_rules::{Parameters, Proof, StepId};
 use hol_spec::{StepKind, Version};
 use holide_sig::Module;
 use lp_term::LpId;
-use rule_proofs::{
+use translate_proof::{
     Premise, abs_thm, app_thm, constant_list, deduct_antisym, eq_mp, first_law, first_law_free,
     prove_hyp, refl, second_law, second_law_free, subst, sym, trans,
 };

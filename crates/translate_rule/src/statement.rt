@@ -4,7 +4,7 @@ ghost use Rattle.hol_term.specs.Subterms.{HaveTypes};
 ghost use Rattle.hol_term.specs.Tables.{AreKnown};
 ghost use Rattle.lp_spec.specs.Trees.{lift, App, Pi, Sym};
 ghost use Rattle.lp_term.specs.Tables.{tree_at, Holds, Keeps};
-ghost use Rattle.module_spec.specs.Scopes.{conclusion_tree, sequent_tree};
+ghost use Rattle.translate_spec.specs.Scopes.{conclusion_tree, sequent_tree};
 ghost use Rattle.translate_term.specs.Walks.{Grows};
 ghost use Rattle.translate_rule.specs.OwnSteps.{hypotheses_product, variables_product, IsReady, IsSequentTold, IsTreeOf};
 ghost use Rattle.translate_rule.specs.Products.{AreOverFormulas, AreOverTypes, HasGiven, IsOverFormula, IsOverType};
@@ -19,7 +19,7 @@ use hol_type::TypeId;
 use holide_sig::Module;
 use holide_sig::symbols::{PROOF, TERM};
 use lp_term::{LpId, LpNode, LpTable};
-use rule_proofs::Environment;
+use translate_proof::Environment;
 
 // The type of a step's declaration.
 pub(crate) fn theorem_type(target: &mut Module, step: OwnStep<'_>) -> Result<LpId, Memory>

@@ -1,7 +1,7 @@
 //! The names of the symbols of constants and operators.
 ghost use Rattle.std.specs.Prelude.{◌≡◌, ◌++◌, decimal, IfOk, OnOk};
 ghost use Rattle.hol_spec.specs.Mangling.{mangled};
-ghost use Rattle.module_spec.specs.Image.{constant_name as name_of_constant, input_constant_name as name_of_input_constant, input_operator_name as name_of_input_operator, operator_name as name_of_operator};
+ghost use Rattle.translate_spec.specs.Image.{constant_name as name_of_constant, input_constant_name as name_of_input_constant, input_operator_name as name_of_input_operator, operator_name as name_of_operator};
 ghost use Rattle.lp_spec.specs.Numerals.{numeral};
 
 use common::Memory;

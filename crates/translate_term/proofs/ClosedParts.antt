@@ -14,7 +14,7 @@ use Rattle.lp_term.specs.declared.LpId.{LpId}
 use Rattle.lp_term.specs.Tables.{tree_at, Holds, Keeps}
 use Rattle.lp_term.specs.TableLaws.{Holds-tree_at, tree_at-Stays}
 use Rattle.holide_sig.specs.declared.module.Module.{Module}
-use Rattle.module_spec.specs.Scopes.{type_tree, term_tree}
+use Rattle.translate_spec.specs.Scopes.{type_tree, term_tree}
 use Rattle.sequent.specs.declared.closed.ClosedType.{ClosedType}
 use Rattle.sequent.specs.declared.closed.ClosedTerm.{ClosedTerm}
 use Rattle.sequent.specs.Closed.{closed_type_view, closed_term_view}

@@ -9,7 +9,7 @@ use Rattle.lp_spec.specs.Modules.{products, types, proof_of}
 use Rattle.lp_term.specs.declared.LpId.{LpId}
 use Rattle.holide_sig.specs.declared.module.Module.{Module}
 use Rattle.holide_sig.specs.Modules.{declarations_of, IsHeld}
-use Rattle.module_spec.specs.Scopes.{SymbolMap, term_tree, sequent_tree}
+use Rattle.translate_spec.specs.Scopes.{SymbolMap, term_tree, sequent_tree}
 use Rattle.sequent.specs.declared.closed.Closed.{Closed}
 use Rattle.sequent.specs.declared.closed.ClosedTerm.{ClosedTerm}
 use Rattle.sequent.specs.Closed.{closed_type_view, closed_term_view, closed_view}

@@ -20,7 +20,7 @@ use Rattle.lp_term.specs.Tables.{tree_at, trees_at, AreKnown, Holds}
 use Rattle.lp_term.specs.TableLaws.{Holds-tree_at, Holds-within, tree_at-Holds}
 use Rattle.holide_sig.specs.declared.module.Module.{Module}
 use Rattle.holide_sig.specs.Modules.{declarations_of}
-use Rattle.module_spec.specs.Scopes.{TypeScope, operator_symbol, type_tree, type_trees, term_tree, constant_tree}
+use Rattle.translate_spec.specs.Scopes.{TypeScope, operator_symbol, type_tree, type_trees, term_tree, constant_tree}
 use Rattle.sequent.specs.declared.closed.ClosedType.{ClosedType}
 use Rattle.sequent.specs.declared.closed.TypeNode.{TypeNode}
 use Rattle.sequent.specs.declared.closed.TermNode.{TermNode}

@@ -8,9 +8,9 @@ use Rattle.hol_spec.specs.Sequents.{Sequent, IsSequent}
 use Rattle.hol_spec.specs.ClosedForm.{closed_form}
 use Rattle.lp_spec.specs.Trees.{Var, Sym, App, Lam, Pi}
 use Rattle.lp_spec.specs.Modules.{Declaration, symbol, types, bools, arr_of, term_of, proof_of}
-use Rattle.module_spec.specs.Image.{input_constant_name}
-use Rattle.module_spec.specs.Scopes.{SymbolMap, sequent_tree, term_tree}
-use Rattle.module_laws.specs.ListedScopes.{told}
+use Rattle.translate_spec.specs.Image.{input_constant_name}
+use Rattle.translate_spec.specs.Scopes.{SymbolMap, sequent_tree, term_tree}
+use Rattle.translate_laws.specs.ListedScopes.{told}
 use Rattle.translate_term.specs.Told.{TellsType, TellsTerm, TellsConstant, TellsClosed, told_constant}
 
 -- i_u : v0 : type -> term v0

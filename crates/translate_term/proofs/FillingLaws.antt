@@ -5,7 +5,7 @@ use Rattle.lp_spec.specs.Modules.{term_of, eq_of, term_symbol, eq_symbol, select
 use Rattle.lp_term.specs.declared.LpId.{LpId}
 use Rattle.lp_term.specs.Tables.{tree_at, Holds, Keeps}
 use Rattle.lp_term.specs.TableLaws.{Holds-tree_at, Keeps-trans, tree_at-Stays}
-use Rattle.module_spec.specs.Scopes.{filler}
+use Rattle.translate_spec.specs.Scopes.{filler}
 use Rattle.std.proofs.Math.Path.{ap₂}
 
 module _ (t0 t1 t2 t3 t4 t5 t6 : List Tree) (ty lifted variable equation domain test : LpId) (known : ty.0 < length t0)

@@ -10,8 +10,8 @@ use Rattle.lp_spec.specs.Modules.{Declaration, signature, symbol_type, products,
 use Rattle.lp_term.specs.declared.LpId.{LpId}
 use Rattle.lp_term.specs.Tables.{tree_at, trees_at, Holds}
 use Rattle.lp_term.specs.TableLaws.{Holds-tree_at}
-use Rattle.module_spec.specs.Scopes.{SymbolMap, TypeScope, type_tree, under_types, unfilled}
-use Rattle.module_laws.specs.SequentEncoding.{types-are}
+use Rattle.translate_spec.specs.Scopes.{SymbolMap, TypeScope, type_tree, under_types, unfilled}
+use Rattle.translate_laws.specs.SequentEncoding.{types-are}
 use Rattle.translate_term.specs.Patterns.{IsGeneric, Mentions}
 use Rattle.translate_term.proofs.PatternLaws.{below, wants, pattern_of, pattern-becomes, generic-mentions, wants-arguments}
 use Rattle.translate_term.proofs.TreeLists.{trees_at-append, append-none}

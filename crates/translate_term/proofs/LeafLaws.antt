@@ -13,14 +13,14 @@ use Rattle.hol_type.specs.Tables as type
 use Rattle.hol_term.specs.declared.Variable.{Variable}
 use Rattle.lp_spec.specs.Trees.{Tree, Sym}
 use Rattle.lp_spec.specs.Modules.{applied}
-use Rattle.lp_binding.specs.Composition.{lift_zero}
+use Rattle.lp_binding_laws.specs.Composition.{lift_zero}
 use Rattle.lp_term.specs.declared.LpId.{LpId}
 use Rattle.lp_term.specs.Tables as lp
-use Rattle.lp_term.specs.TableLaws as lp_laws
+use Rattle.lp_term.specs.TableLaws as lp_reduction_laws
 use Rattle.holide_sig.specs.declared.module.Module.{Module}
 use Rattle.holide_sig.specs.Modules.{declarations_of}
-use Rattle.module_spec.specs.Scopes.{SymbolMap, TypeScope, constant_symbol, constant_tree, generic_type, type_tree, filler}
-use Rattle.module_laws.specs.ListedScopes.{told_types, told}
+use Rattle.translate_spec.specs.Scopes.{SymbolMap, TypeScope, constant_symbol, constant_tree, generic_type, type_tree, filler}
+use Rattle.translate_laws.specs.ListedScopes.{told_types, told}
 use Rattle.sequent.specs.Params.{same_variable}
 use Rattle.translate_term.specs.Told.{TellsConstant, told_constant}
 use Rattle.translate_term.specs.Patterns.{IsGeneric, IsTypeTree}
@@ -73,8 +73,8 @@ pub constant-typed : (given : Given) (m now : Module) (types : List HolType) (na
     → IsTypeTree given.symbols (told_types given.types) (type.tree_at types ty.0) now n tree
 constant-typed given m now types names made n ty start told grows tree h = record {
   held = IsHeld-Grows m now grows start.reads.held;
-  known = lp_laws.Holds-within now.table tree.0 _ h;
-  is = lp_laws.Holds-tree_at now.table tree.0 _ h;
+  known = lp_reduction_laws.Holds-within now.table tree.0 _ h;
+  is = lp_reduction_laws.Holds-tree_at now.table tree.0 _ h;
   told = subst (λ d. TellsConstant d given.symbols n (type.tree_at types ty.0)) (sym (declarations_of-Grows m now grows start.reads.held ∙ start.reads.declared)) told;
 }
 

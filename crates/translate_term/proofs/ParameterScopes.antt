@@ -23,13 +23,13 @@ use Rattle.hol_laws.specs.Members.{All-each, All-at, All-append, IsIn-distinct_o
 use Rattle.hol_laws.specs.RenamedSequents.{free_variables-known}
 use Rattle.lp_spec.specs.Trees.{Tree, Var, Pi, raised}
 use Rattle.lp_spec.specs.Modules.{Declaration, products, types, bools, term_of, proof_of}
-use Rattle.module_spec.specs.Scopes.{SymbolMap, Scope, filler, type_tree, term_tree, inside, under_term, under_proof, under_proofs, term_domains, proof_domains, scope_of_types, scope_of_terms, conclusion_tree, sequent_tree}
-use Rattle.module_laws.specs.ListedScopes.{told}
-use Rattle.module_laws.specs.ToldParameters.{TypesTold, TypesTold-lifted, TypesTold-own, TypesTold-terms, TermsTold, TermsTold-lifted, TermsTold-own}
-use Rattle.module_laws.specs.SequentEncoding.{told-at, types-are}
-use Rattle.module_laws.specs.TermScopeLaws.{AreInstances, term_tree-agrees}
-use Rattle.module_laws.specs.TheoremTyping.{IsFormula, HasInstances, term-IsFormula}
-use Rattle.proof_laws.specs.SymbolGrowth.{symmetric}
+use Rattle.translate_spec.specs.Scopes.{SymbolMap, Scope, filler, type_tree, term_tree, inside, under_term, under_proof, under_proofs, term_domains, proof_domains, scope_of_types, scope_of_terms, conclusion_tree, sequent_tree}
+use Rattle.translate_laws.specs.ListedScopes.{told}
+use Rattle.translate_laws.specs.ToldParameters.{TypesTold, TypesTold-lifted, TypesTold-own, TypesTold-terms, TermsTold, TermsTold-lifted, TermsTold-own}
+use Rattle.translate_laws.specs.SequentEncoding.{told-at, types-are}
+use Rattle.translate_laws.specs.TermScopeLaws.{AreInstances, term_tree-agrees}
+use Rattle.translate_laws.specs.TheoremTyping.{IsFormula, HasInstances, term-IsFormula}
+use Rattle.hol_proof_laws.specs.SymbolGrowth.{symmetric}
 use Rattle.translate_term.specs.Told.{TellsType, TellsTerm, TellsClosed}
 use Rattle.translate_term.specs.Closed.{Numbered, types_under, scope_under, IsInside, IsTypeOf, IsTermOf, hypothesis_domains, variable_domains, numbered_of, statement_under}
 

@@ -17,12 +17,12 @@ use Rattle.hol_laws.specs.GenericInstances.{type_arguments-filled_in, substitute
 use Rattle.lp_spec.specs.Trees.{Tree, Var, Sym, App, lift}
 use Rattle.lp_spec.specs.Substitution.{sub}
 use Rattle.lp_spec.specs.Modules.{applied}
-use Rattle.lp_binding.specs.Composition.{lift_zero}
-use Rattle.lp_binding.specs.Binding.{lift-lift}
-use Rattle.module_spec.specs.Scopes.{SymbolMap, operator_symbol, TypeScope, type_tree, type_trees, under_type, under_types, unfilled}
-use Rattle.module_laws.specs.ScopeLaws.{through_types, type_tree-sub, type_tree-substitute}
-use Rattle.module_laws.specs.TermScopeLaws.{type_tree-agrees}
-use Rattle.proof_laws.specs.SymbolGrowth.{symmetric}
+use Rattle.lp_binding_laws.specs.Composition.{lift_zero}
+use Rattle.lp_binding_laws.specs.Binding.{lift-lift}
+use Rattle.translate_spec.specs.Scopes.{SymbolMap, operator_symbol, TypeScope, type_tree, type_trees, under_type, under_types, unfilled}
+use Rattle.translate_laws.specs.ScopeLaws.{through_types, type_tree-sub, type_tree-substitute}
+use Rattle.translate_laws.specs.TermScopeLaws.{type_tree-agrees}
+use Rattle.hol_proof_laws.specs.SymbolGrowth.{symmetric}
 use Rattle.translate_term.specs.Patterns.{Mentions}
 use Rattle.std.proofs.Math.Path.{ap₂}
 

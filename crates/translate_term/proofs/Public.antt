@@ -11,9 +11,9 @@ use Rattle.hol_term.specs.Tables.{Trees, term_at}
 use Rattle.lp_term.specs.declared.LpId.{LpId}
 use Rattle.holide_sig.specs.declared.module.Module.{Module}
 use Rattle.holide_sig.specs.Modules.{declarations_of, IsHeld}
-use Rattle.module_spec.specs.Scopes.{SymbolMap, term_tree}
-use Rattle.module_laws.specs.DeepScopes.{deep-zero}
-use Rattle.module_laws.specs.ListedScopes.{told}
+use Rattle.translate_spec.specs.Scopes.{SymbolMap, term_tree}
+use Rattle.translate_laws.specs.DeepScopes.{deep-zero}
+use Rattle.translate_laws.specs.ListedScopes.{told}
 use Rattle.translate_term.specs.Tasks.{IsNoted}
 use Rattle.translate_term.specs.Told.{TellsType, TellsTerm, types_in, terms_in, AreTypesKnown, AreTermsKnown}
 use Rattle.translate_term.specs.Walks.{Given, IsTypeStart, IsTermStart, term_wanted}

@@ -19,7 +19,7 @@ use Rattle.lp_spec.specs.Modules.{bools}
 use Rattle.lp_term.specs.declared.LpId.{LpId}
 use Rattle.lp_term.specs.Tables.{tree_at, Holds}
 use Rattle.lp_term.specs.TableLaws.{tree_at-Holds}
-use Rattle.module_laws.specs.ListedScopes.{told_types}
+use Rattle.translate_laws.specs.ListedScopes.{told_types}
 use Rattle.sequent.specs.Params.{same_variable}
 use Rattle.translate_term.specs.Told.{types_in, terms_in, AreTypesKnown, AreTermsKnown}
 

@@ -13,14 +13,14 @@ use Rattle.hol_term.specs.Tables.{Trees, term_at, type_at, Holds, IsDistinct}
 use Rattle.hol_term.specs.TableLaws.{term_in-same, Some-term_in}
 use Rattle.lp_spec.specs.Trees.{Tree, Var, Lam, lift}
 use Rattle.lp_spec.specs.Modules.{term_of}
-use Rattle.lp_binding.specs.Composition.{lift_zero, lift_is, ren_is_sub}
+use Rattle.lp_binding_laws.specs.Composition.{lift_zero, lift_is, ren_is_sub}
 use Rattle.lp_term.specs.declared.LpId.{LpId}
 use Rattle.lp_term.specs.Tables as lp
 use Rattle.holide_sig.specs.declared.module.Module.{Module}
-use Rattle.module_spec.specs.Scopes.{SymbolMap, constant_tree, type_tree, term_tree}
-use Rattle.module_laws.specs.DeepScopes.{deep, deep-suc}
-use Rattle.module_laws.specs.ListedScopes.{told_types, told}
-use Rattle.module_laws.specs.ScopeLaws.{type_tree-sub, term_tree-sub}
+use Rattle.translate_spec.specs.Scopes.{SymbolMap, constant_tree, type_tree, term_tree}
+use Rattle.translate_laws.specs.DeepScopes.{deep, deep-suc}
+use Rattle.translate_laws.specs.ListedScopes.{told_types, told}
+use Rattle.translate_laws.specs.ScopeLaws.{type_tree-sub, term_tree-sub}
 use Rattle.lp_spec.specs.Substitution.{sub}
 use Rattle.translate_term.specs.declared.memo.Place.{Place}
 use Rattle.translate_term.specs.declared.tasks.Task.{Task}

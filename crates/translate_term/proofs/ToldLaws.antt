@@ -8,7 +8,7 @@ use Rattle.hol_laws.specs.NameEqualityLaws.{name_eq-Decides}
 use Rattle.hol_spec.specs.Primitives.{arrow_name, bool_name, ind_name, equality_name, select_name}
 use Rattle.lp_spec.specs.Modules.{Declaration, arr_symbol, bool_symbol, ind_symbol, eq_symbol, select_symbol}
 use Rattle.holide_sig.specs.Modules.{symbol_number}
-use Rattle.module_spec.specs.Image.{input_constant_name, input_operator_name, constant_name, operator_name}
+use Rattle.translate_spec.specs.Image.{input_constant_name, input_operator_name, constant_name, operator_name}
 use Rattle.translate_term.specs.Told.{either_number, told_operator, told_constant}
 
 -- a test of a name that fails

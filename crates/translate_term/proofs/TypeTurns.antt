@@ -11,11 +11,11 @@ use Rattle.lp_spec.specs.Trees.{Tree, Sym}
 use Rattle.lp_spec.specs.Modules.{applied}
 use Rattle.lp_term.specs.declared.LpId.{LpId}
 use Rattle.lp_term.specs.Tables as lp
-use Rattle.lp_term.specs.TableLaws as lp_laws
+use Rattle.lp_term.specs.TableLaws as lp_reduction_laws
 use Rattle.holide_sig.specs.declared.module.Module.{Module}
 use Rattle.holide_sig.specs.Modules.{declarations_of}
-use Rattle.module_spec.specs.Scopes.{operator_symbol, type_trees}
-use Rattle.module_laws.specs.ListedScopes.{told_types}
+use Rattle.translate_spec.specs.Scopes.{operator_symbol, type_trees}
+use Rattle.translate_laws.specs.ListedScopes.{told_types}
 use Rattle.translate_term.specs.declared.tasks.Task.{Task}
 use Rattle.translate_term.specs.declared.tasks.Task.TheVariants.{Visit, Join}
 use Rattle.translate_term.specs.Tasks.{IsNoted, IsDone, AreAll, visits, PartsAre}
@@ -88,7 +88,7 @@ module _ (given : Given) (root : TypeId) (m : Module) (types : List HolType) (na
 
     made-trees : (args : List TypeId) (parts : List LpId) → IsTypeMemo given types m.table made → AreNoted made args parts → lp.trees_at m.table parts ≡ type_trees given.symbols (told_types given.types) (types_of (types_at types args))
     made-trees [] [] s a = refl
-    made-trees (x ∷ args) (p ∷ parts) s a = ap₂ (λ t l. t ∷ l) (lp_laws.Holds-tree_at m.table p.0 _ (s x p a.0)) (made-trees args parts s a.1)
+    made-trees (x ∷ args) (p ∷ parts) s a = ap₂ (λ t l. t ∷ l) (lp_reduction_laws.Holds-tree_at m.table p.0 _ (s x p a.0)) (made-trees args parts s a.1)
     made-trees [] (p ∷ parts) s a = absurd a
     made-trees (x ∷ args) [] s a = absurd a
 
@@ -114,7 +114,7 @@ type_no_join given root m types names id tasks made n h w = no-parts types id n 
 -- what was made is of the table
 pub noted-known : (given : Given) (types : List HolType) (trees : List Tree) (made : List (TypeId × LpId)) → IsTypeMemo given types trees made → (args : List TypeId) (parts : List LpId) → AreNoted made args parts → lp.AreKnown trees parts
 noted-known given types trees made s [] [] a = tt
-noted-known given types trees made s (x ∷ args) (p ∷ parts) a = (lp_laws.Holds-within trees p.0 _ (s x p a.0), noted-known given types trees made s args parts a.1)
+noted-known given types trees made s (x ∷ args) (p ∷ parts) a = (lp_reduction_laws.Holds-within trees p.0 _ (s x p a.0), noted-known given types trees made s args parts a.1)
 noted-known given types trees made s [] (p ∷ parts) a = absurd a
 noted-known given types trees made s (x ∷ args) [] a = absurd a
 

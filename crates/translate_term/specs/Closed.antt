@@ -15,9 +15,9 @@ use Rattle.lp_term.specs.declared.LpId.{LpId}
 use Rattle.lp_term.specs.Tables.{trees_at, AreKnown, Holds}
 use Rattle.holide_sig.specs.declared.module.Module.{Module}
 use Rattle.holide_sig.specs.Modules.{declarations_of, IsHeld}
-use Rattle.module_spec.specs.Scopes.{SymbolMap, TypeScope, Scope, type_tree, term_tree}
-use Rattle.module_laws.specs.ListedScopes.{parameters}
-use Rattle.module_laws.specs.ListedScopes.{told_types, told}
+use Rattle.translate_spec.specs.Scopes.{SymbolMap, TypeScope, Scope, type_tree, term_tree}
+use Rattle.translate_laws.specs.ListedScopes.{parameters}
+use Rattle.translate_laws.specs.ListedScopes.{told_types, told}
 use Rattle.sequent.specs.declared.closed.TypeNode.{TypeNode}
 use Rattle.sequent.specs.Closed.{first, others, firsts, behind, no_type, no_term}
 use Rattle.translate_term.specs.declared.closed.TypeWork.{TypeWork}

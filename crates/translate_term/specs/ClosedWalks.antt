@@ -11,7 +11,7 @@ use Rattle.lp_term.specs.declared.LpId.{LpId}
 use Rattle.lp_term.specs.Tables.{tree_at, Holds}
 use Rattle.holide_sig.specs.declared.module.Module.{Module}
 use Rattle.holide_sig.specs.Modules.{declarations_of}
-use Rattle.module_spec.specs.Scopes.{SymbolMap, TypeScope, constant_tree, sequent_tree, term_tree, type_tree}
+use Rattle.translate_spec.specs.Scopes.{SymbolMap, TypeScope, constant_tree, sequent_tree, term_tree, type_tree}
 use Rattle.sequent.specs.declared.closed.TypeNode.{TypeNode}
 use Rattle.sequent.specs.declared.closed.TermNode.{TermNode}
 use Rattle.sequent.specs.Closed.{spelled_terms, spelled_types, term_step, type_step}

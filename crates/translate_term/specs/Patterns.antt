@@ -10,7 +10,7 @@ use Rattle.lp_term.specs.declared.LpId.{LpId}
 use Rattle.lp_term.specs.Tables.{tree_at, trees_at, Holds}
 use Rattle.holide_sig.specs.declared.module.Module.{Module}
 use Rattle.holide_sig.specs.Modules.{declarations_of, IsHeld}
-use Rattle.module_spec.specs.Scopes.{SymbolMap, TypeScope, constant_tree, type_tree, generic_tree}
+use Rattle.translate_spec.specs.Scopes.{SymbolMap, TypeScope, constant_tree, type_tree, generic_tree}
 use Rattle.translate_term.specs.declared.generic.Meeting.{Meeting}
 use Rattle.translate_term.specs.Tasks.{IsNoted, IsDone}
 use Rattle.translate_term.specs.Told.{TellsConstant}

@@ -13,7 +13,7 @@ use Rattle.lp_term.specs.declared.LpId.{LpId}
 use Rattle.lp_term.specs.Tables as lp
 use Rattle.holide_sig.specs.declared.module.Module.{Module}
 use Rattle.holide_sig.specs.Modules.{declarations_of}
-use Rattle.module_spec.specs.Scopes.{filler}
+use Rattle.translate_spec.specs.Scopes.{filler}
 use Rattle.translate_term.specs.declared.memo.Place.{Place}
 use Rattle.translate_term.specs.declared.sources.Source.{Source}
 use Rattle.translate_term.specs.declared.sources.TypeSource.{TypeSource}

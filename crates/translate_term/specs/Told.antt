@@ -17,9 +17,9 @@ use Rattle.lp_term.specs.declared.LpId.{LpId}
 use Rattle.lp_term.specs.Tables.{tree_at}
 use Rattle.hol_type.specs.Tables as type
 use Rattle.holide_sig.specs.Modules.{symbol_number}
-use Rattle.module_spec.specs.Image.{input_constant_name, input_operator_name, constant_name, operator_name}
-use Rattle.module_spec.specs.Scopes.{SymbolMap, operator_symbol, constant_symbol, generic_type}
-use Rattle.module_laws.specs.ScopeTyping.{DeclaresConstant}
+use Rattle.translate_spec.specs.Image.{input_constant_name, input_operator_name, constant_name, operator_name}
+use Rattle.translate_spec.specs.Scopes.{SymbolMap, operator_symbol, constant_symbol, generic_type}
+use Rattle.translate_laws.specs.ScopeTyping.{DeclaresConstant}
 
 -- the first of two that there is
 abbrev pub either_number : Option ℕ → Option ℕ → Option ℕ

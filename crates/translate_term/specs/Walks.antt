@@ -16,9 +16,9 @@ use Rattle.lp_term.specs.declared.LpId.{LpId}
 use Rattle.lp_term.specs.Tables as lp
 use Rattle.holide_sig.specs.declared.module.Module.{Module}
 use Rattle.holide_sig.specs.Modules.{declarations_of, IsHeld}
-use Rattle.module_spec.specs.Scopes.{SymbolMap, type_tree, term_tree}
-use Rattle.module_laws.specs.DeepScopes.{deep}
-use Rattle.module_laws.specs.ListedScopes.{told_types, told}
+use Rattle.translate_spec.specs.Scopes.{SymbolMap, type_tree, term_tree}
+use Rattle.translate_laws.specs.DeepScopes.{deep}
+use Rattle.translate_laws.specs.ListedScopes.{told_types, told}
 use Rattle.translate_term.specs.declared.memo.Place.{Place}
 use Rattle.translate_term.specs.declared.tasks.Task.{Task}
 use Rattle.translate_term.specs.Tasks.{IsNoted, IsDone, Ends}

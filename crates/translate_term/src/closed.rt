@@ -7,7 +7,7 @@ ghost use Rattle.lp_spec.specs.Modules.{products, term_of, types as sorts};
 ghost use Rattle.lp_spec.specs.Trees.{App, Lam, Pi, Sym, Var};
 ghost use Rattle.lp_term.specs.Tables.{tree_at, tree_of_node, Holds, PartsBelow};
 ghost use Rattle.holide_sig.specs.Modules.{declarations_of, IsHeld};
-ghost use Rattle.module_spec.specs.Scopes.{SymbolMap, TypeScope};
+ghost use Rattle.translate_spec.specs.Scopes.{SymbolMap, TypeScope};
 ghost use Rattle.sequent.specs.Closed.{closed_term_view, closed_type_view, closed_view};
 ghost use Rattle.translate_term.specs.declared.closed.TermWork.TheVariants as term_work;
 ghost use Rattle.translate_term.specs.declared.closed.TypeWork.TheVariants as type_work;

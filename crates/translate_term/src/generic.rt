@@ -7,7 +7,7 @@ ghost use Rattle.lp_spec.specs.Modules.{signature};
 ghost use Rattle.lp_term.specs.declared.LpId.{LpId as AnId};
 ghost use Rattle.lp_term.specs.Tables.{tree_at, AreKnown};
 ghost use Rattle.holide_sig.specs.Modules.{declarations_of, IsHeld};
-ghost use Rattle.module_spec.specs.Scopes.{SymbolMap, TypeScope};
+ghost use Rattle.translate_spec.specs.Scopes.{SymbolMap, TypeScope};
 ghost use Rattle.translate_term.specs.Patterns.{AreArguments, FindsWanted, Fits, IsGenericType, IsInstance, IsMatching, IsPart, IsTypeTree, IsWanted, MakesInstance, MatchingGoesOn, Mentions, work};
 ghost use Rattle.translate_term.specs.Tasks.{IsDone, IsNoted};
 ghost use Rattle.translate_term.specs.Walks.{Grows};

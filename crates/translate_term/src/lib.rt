@@ -8,7 +8,7 @@
 //!
 //! A constant is its symbol at what the variables of its generic type have in its type. The generic type is read back from the
 //! declared type of the symbol, of primitive, input and defined constants alike. That what is made in a shaped scope is shaped is
-//! a law of the clauses `made`: `terms_shaped` of `module_laws`.
+//! a law of the clauses `made`: `terms_shaped` of `translate_laws`.
 //!
 //! The names of the symbols of operators and constants are spelled here, for those that declare them too: [`input_constant_name`],
 //! [`input_operator_name`], [`constant_name`] and [`operator_name`], with [`push_numeral`] for a number in a name.
@@ -32,10 +32,10 @@ ghost use Rattle.hol_type.specs.Tables as type;
 ghost use Rattle.hol_term.specs.Tables.{term_at};
 ghost use Rattle.holide_sig.specs.Modules.{declarations_of, IsHeld};
 ghost use Rattle.lp_term.specs.Tables.{tree_at, Holds, Keeps};
-ghost use Rattle.module_spec.specs.Enc.{Enc};
-ghost use Rattle.module_spec.specs.Scopes.{SymbolMap, constant_tree, filler as filler_of, sequent_tree, term_tree as tree_of_term, type_tree as tree_of_type};
-ghost use Rattle.module_laws.specs.ListedScopes.{told, told_types};
-ghost use Rattle.module_laws.specs.SequentEncoding.{TermMeant};
+ghost use Rattle.translate_spec.specs.Enc.{Enc};
+ghost use Rattle.translate_spec.specs.Scopes.{SymbolMap, constant_tree, filler as filler_of, sequent_tree, term_tree as tree_of_term, type_tree as tree_of_type};
+ghost use Rattle.translate_laws.specs.ListedScopes.{told, told_types};
+ghost use Rattle.translate_laws.specs.SequentEncoding.{TermMeant};
 ghost use Rattle.sequent.specs.Closed.{closed_view};
 ghost use Rattle.translate_term.specs.Told.{AreTermsKnown, AreTypesKnown, TellsClosed, TellsConstant, TellsTerm, TellsType, terms_in, types_in};
 

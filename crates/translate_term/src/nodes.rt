@@ -1,7 +1,7 @@
 //! Trees that are made of the signature's symbols.
 ghost use Rattle.std.specs.Prelude.{◌≡◌, ◌<◌, length, IfOk};
 ghost use Rattle.lp_term.specs.Tables.{tree_at, Holds, Keeps};
-ghost use Rattle.module_spec.specs.Scopes.{filler as filler_of};
+ghost use Rattle.translate_spec.specs.Scopes.{filler as filler_of};
 
 use common::Memory;
 use holide_sig::call;

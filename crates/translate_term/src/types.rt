@@ -3,7 +3,7 @@ ghost use Rattle.std.specs.Prelude.{◌≡◌, ◌<◌, [], ◌∷◌, List, IsS
 ghost use Rattle.hol_spec.specs.Limits.{type_size};
 ghost use Rattle.lp_term.specs.Tables as lp;
 ghost use Rattle.holide_sig.specs.Modules.{declarations_of};
-ghost use Rattle.module_laws.specs.ListedScopes.{told_types};
+ghost use Rattle.translate_laws.specs.ListedScopes.{told_types};
 ghost use Rattle.translate_term.specs.declared.tasks.Task.TheVariants as task;
 ghost use Rattle.translate_term.specs.Sources.{AppliesTold, GoesOnFromJoin, IsAtJoin, IsOnTypes, MakesType, MayBegin, NotesTypes, TypesGoOn};
 ghost use Rattle.translate_term.specs.Tasks.{AreAll, IsDone, work};

@@ -19,7 +19,7 @@ use Rattle.lp_term.specs.Tables as lp
 use Rattle.holide_sig.specs.declared.module.Module.{Module}
 use Rattle.holide_sig.specs.Modules.{declarations_of, IsHeld}
 use Rattle.holide_sig.specs.ModuleLaws.{IsHeld-Keeps, declarations_of-Keeps}
-use Rattle.module_spec.specs.Scopes.{SymbolMap}
+use Rattle.translate_spec.specs.Scopes.{SymbolMap}
 use Rattle.translate_term.specs.Told.{TellsConstant, TellsTerm, TellsType}
 use Rattle.translate_term_tests.specs.Inputs.{input_symbols, input_module}
 use Rattle.translate_term_tests.specs.Plain.{IsPlainType, IsPlainTerm, HasPlainType, HasPlainTree, KeepsPlain}

@@ -14,7 +14,7 @@ use Rattle.hol_laws.specs.ListLaws.{distinct-IsDistinct}
 use Rattle.hol_laws.specs.PositionLaws.{turned}
 use Rattle.hol_laws.specs.TermLaws.{term_eq-Decides}
 use Rattle.lp_spec.specs.Modules.{Declaration}
-use Rattle.module_spec.specs.Scopes.{SymbolMap}
+use Rattle.translate_spec.specs.Scopes.{SymbolMap}
 use Rattle.sequent.specs.declared.closed.ClosedTerm.{ClosedTerm}
 use Rattle.sequent.specs.Closed.{closed_term_view}
 use Rattle.translate_term.specs.Told.{TellsClosed}

@@ -3,7 +3,7 @@ use Rattle.std.specs.Prelude.{List, [], ◌∷◌, length, codes}
 use Rattle.hol_spec.specs.Types.{variable}
 use Rattle.lp_spec.specs.Trees.{Tree, Var, Pi}
 use Rattle.lp_spec.specs.Modules.{Declaration, signature, symbol, types, term_of}
-use Rattle.module_spec.specs.Scopes.{SymbolMap}
+use Rattle.translate_spec.specs.Scopes.{SymbolMap}
 
 -- v0 : type -> term v0
 abbrev pub input_type : Tree

@@ -2,9 +2,9 @@ use Rattle.std.proofs.Common.{sym, subst}
 use Rattle.std.proofs.lemmas.Result.{IfOk-weaker}
 use Rattle.lp_term.specs.TableLaws.{Holds-tree_at, Holds-within}
 use Rattle.holide_sig.specs.Modules.{declarations_of}
-use Rattle.module_spec.specs.Enc.{Enc}
-use Rattle.module_spec.specs.Scopes.{sequent_tree}
-use Rattle.module_laws.specs.SequentEncoding.{sequent_tree-Enc}
+use Rattle.translate_spec.specs.Enc.{Enc}
+use Rattle.translate_spec.specs.Scopes.{sequent_tree}
+use Rattle.translate_laws.specs.SequentEncoding.{sequent_tree-Enc}
 use Rattle.sequent.specs.Closed.{closed_view}
 use Rattle.translate_term.specs.GrowLaws.{IsHeld-Grows, declarations_of-Grows}
 use Rattle.translate_term.proofs.ParameterScopes.{TellsClosed-HasInstances}

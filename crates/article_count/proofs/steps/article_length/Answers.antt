@@ -1,7 +1,7 @@
 use Rattle.std.proofs.Common.{◌<◌, ◌≤◌, ◌+◌, ◌∙◌, ap, arith, length}
 use Rattle.hol_spec.specs.Proofs.{steps_of}
 use Rattle.hol_rules.specs.Kept.{step_count}
-use Rattle.writing_spec.specs.Lengths.{capped, Tally}
+use Rattle.article_write_spec.specs.Lengths.{capped, Tally}
 use Rattle.article_lines.specs.Greatest.{greatest_length}
 use Rattle.article_count.specs.StepCounts.{tally_begun}
 use Rattle.article_count.proofs.StepWalks.{flagged-exports, next-counted, next-skipped, walk-ends, walk-new}

@@ -1,6 +1,6 @@
 use Rattle.hol_spec.specs.Proofs.{steps_of}
-use Rattle.writing_spec.specs.Lengths.{count_each}
-use Rattle.writing_laws.specs.Flags.{selected}
+use Rattle.article_write_spec.specs.Lengths.{count_each}
+use Rattle.article_write_laws.specs.Flags.{selected}
 use Rattle.article_lines.specs.Flagged.{flag}
 use Rattle.article_count.specs.StepCounts.{count_flagged, tally_begun, IsStepWalk}
 use Rattle.article_count.proofs.steps.article_length.Given as goal

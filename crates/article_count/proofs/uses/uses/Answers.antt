@@ -1,6 +1,6 @@
 use Rattle.std.proofs.Common.{◌≡◌, ◌∷◌, ◌∙◌, [], ap, refl, subst, sym, arith}
 use Rattle.hol_term.specs.Tables.{term_at}
-use Rattle.writing_spec.specs.TermLengths.{uses}
+use Rattle.article_write_spec.specs.TermLengths.{uses}
 use Rattle.article_count.specs.declared.uses.UsesTask.TheVariants as task
 use Rattle.article_count.specs.declared.uses.UsesWalk.{UsesWalk}
 use Rattle.article_count.specs.Used.{IsUsesWalk}

@@ -1,5 +1,5 @@
 use Rattle.hol_term.specs.Tables.{term_at}
-use Rattle.writing_spec.specs.TermLengths.{uses}
+use Rattle.article_write_spec.specs.TermLengths.{uses}
 use Rattle.article_count.specs.Used.{IsUsesWalk, uses_work}
 use Rattle.article_count.proofs.uses.uses.Given as goal
 

@@ -1,6 +1,6 @@
 use Rattle.std.proofs.Common.{◌≡◌, take}
 use Rattle.article_spec.specs.Numbers.{decimal}
-use Rattle.writing_spec.specs.Lengths.{capped}
+use Rattle.article_write_spec.specs.Lengths.{capped}
 use Rattle.article_lines.specs.Greatest.{greatest_length}
 use Rattle.article_lines.proofs.binders.value_of.Given as goal
 

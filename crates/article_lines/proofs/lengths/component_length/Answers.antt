@@ -1,6 +1,6 @@
 use Rattle.std.proofs.Common.{◌≡◌, ◌+◌, ◌∙◌, ap, arith, length, take, length-append}
 use Rattle.std.specs.Prelude.{slice_index_or}
-use Rattle.writing_spec.specs.ItemTexts.{component_text}
+use Rattle.article_write_spec.specs.ItemTexts.{component_text}
 use Rattle.article_lines.specs.Writing.{byte_text}
 use Rattle.article_lines.proofs.NameTexts.{next-byte}
 use Rattle.article_lines.proofs.lengths.component_length.Goals as goal

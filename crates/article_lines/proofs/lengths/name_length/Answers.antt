@@ -1,5 +1,5 @@
 use Rattle.std.proofs.Common.{◌≡◌, ◌+◌, ◌∙◌, ap, arith, length, take, length-append, List, ℕ}
-use Rattle.writing_spec.specs.ItemTexts.{component_text, components_text}
+use Rattle.article_write_spec.specs.ItemTexts.{component_text, components_text}
 use Rattle.article_lines.specs.Writing.{behind_text}
 use Rattle.article_lines.proofs.NameTexts.{next-components}
 use Rattle.article_lines.proofs.lengths.name_length.Goals as goal

@@ -1,6 +1,6 @@
 use Rattle.std.proofs.Common.{◌≡◌, ◌≤◌, take, length}
-use Rattle.writing_spec.specs.ItemTexts.{components_text}
-use Rattle.writing_spec.specs.Lengths.{capped}
+use Rattle.article_write_spec.specs.ItemTexts.{components_text}
+use Rattle.article_write_spec.specs.Lengths.{capped}
 use Rattle.article_lines.specs.Greatest.{greatest_length}
 use Rattle.article_lines.proofs.lengths.name_length.Given as goal
 

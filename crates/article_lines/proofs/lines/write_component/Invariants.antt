@@ -1,6 +1,6 @@
 use Rattle.std.proofs.Common.{◌≤◌, take}
 use Rattle.bridge_base.specs.Outside.{Gains}
-use Rattle.writing_spec.specs.ItemTexts.{component_text}
+use Rattle.article_write_spec.specs.ItemTexts.{component_text}
 use Rattle.article_lines.proofs.lines.write_component.Given as goal
 
 -- the bytes up to here are written

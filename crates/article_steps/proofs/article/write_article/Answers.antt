@@ -1,7 +1,7 @@
 use Rattle.std.proofs.Common.{ap, sym, subst, arith}
 use Rattle.hol_spec.specs.Proofs.{steps_of}
-use Rattle.writing_spec.specs.Article.{version_items}
-use Rattle.writing_spec.specs.ItemTexts.{text_of}
+use Rattle.article_write_spec.specs.Article.{version_items}
+use Rattle.article_write_spec.specs.ItemTexts.{text_of}
 use Rattle.article_lines.specs.Things.{Keyed}
 use Rattle.article_lines.specs.KeptThings.{AreDistinct}
 use Rattle.article_lines.specs.WritingLaws.{writes_then, writes_stop, writes_same}

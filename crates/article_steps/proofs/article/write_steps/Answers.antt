@@ -1,8 +1,8 @@
 use Rattle.std.proofs.Common.{◌∙◌, length, refl, sym, subst, arith, ◌<◌}
 use Rattle.hol_spec.specs.Proofs.{steps_of}
 use Rattle.hol_rules.specs.Views.{step_at}
-use Rattle.writing_spec.specs.Drafts.{Draft}
-use Rattle.writing_spec.specs.ReachedSteps.{Numbered}
+use Rattle.article_write_spec.specs.Drafts.{Draft}
+use Rattle.article_write_spec.specs.ReachedSteps.{Numbered}
 use Rattle.article_lines.specs.Flagged.{flag}
 use Rattle.article_steps.specs.SelectedSteps.{numbered_from, flagged_writer, told_writer}
 use Rattle.article_steps.proofs.SaidLaws.{appends-none}

@@ -1,6 +1,6 @@
 use Rattle.std.proofs.Common.{Ok, take}
 use Rattle.hol_spec.specs.Proofs.{steps_of}
-use Rattle.writing_spec.specs.Drafts.{write_each}
+use Rattle.article_write_spec.specs.Drafts.{write_each}
 use Rattle.article_lines.specs.Flagged.{flag}
 use Rattle.article_steps.specs.Left.{Adds}
 use Rattle.article_steps.specs.SelectedSteps.{numbered_from, flagged_writer, told_writer}

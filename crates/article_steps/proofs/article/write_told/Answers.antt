@@ -1,6 +1,6 @@
 use Rattle.std.proofs.Common.{refl, sym, ap}
 use Rattle.hol_rules.specs.Views.{step_at}
-use Rattle.writing_spec.specs.WrittenSteps.{write_by}
+use Rattle.article_write_spec.specs.WrittenSteps.{write_by}
 use Rattle.article_steps.specs.SelectedSteps.{written_if}
 use Rattle.article_lines.specs.Flagged.{flag}
 use Rattle.article_steps.proofs.AddsLaws.{adds-nothing}

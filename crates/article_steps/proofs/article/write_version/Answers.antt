@@ -1,7 +1,7 @@
 use Rattle.std.proofs.Common.{ap, arith}
 use Rattle.bridge_base.specs.Gaining.{gains_none}
-use Rattle.writing_spec.specs.ItemTexts.{text_of}
-use Rattle.writing_spec.specs.Article.{version_items}
+use Rattle.article_write_spec.specs.ItemTexts.{text_of}
+use Rattle.article_write_spec.specs.Article.{version_items}
 use Rattle.article_lines.specs.WritingLaws.{writes_same}
 use Rattle.article_steps.proofs.article.write_version.Goals as goal
 

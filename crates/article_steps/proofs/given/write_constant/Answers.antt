@@ -1,7 +1,7 @@
 use Rattle.hol_term.specs.Tables.{term_at}
 use Rattle.article_spec.specs.declared.commands.Item.TheVariants as item
-use Rattle.writing_spec.specs.Drafts.{say_name}
-use Rattle.writing_spec.specs.WrittenTerms.{write_term}
+use Rattle.article_write_spec.specs.Drafts.{say_name}
+use Rattle.article_write_spec.specs.WrittenTerms.{write_term}
 use Rattle.article_steps.proofs.SaidLaws.{appends-under}
 use Rattle.article_steps.proofs.AddsLaws.{adds-say, adds-then, adds-stop}
 use Rattle.article_steps.proofs.given.write_constant.Goals as goal

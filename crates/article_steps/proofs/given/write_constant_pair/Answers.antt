@@ -1,8 +1,8 @@
 use Rattle.hol_defs.specs.Lists.{variable_at}
 use Rattle.article_spec.specs.declared.commands.Item.TheVariants as item
 use Rattle.article_spec.specs.declared.commands.Word.TheVariants as word
-use Rattle.writing_spec.specs.Drafts.{Draft, say_name, say_word, conses}
-use Rattle.writing_spec.specs.WrittenTypes.{write_variable}
+use Rattle.article_write_spec.specs.Drafts.{Draft, say_name, say_word, conses}
+use Rattle.article_write_spec.specs.WrittenTypes.{write_variable}
 use Rattle.article_steps.proofs.SaidLaws.{appends-then, appends-variable, appends-listed}
 use Rattle.article_steps.proofs.AddsLaws.{adds-say, adds-then, adds-stop}
 use Rattle.article_steps.proofs.given.write_constant_pair.Goals as goal

@@ -2,7 +2,7 @@ use Rattle.hol_defs.specs.Lists.{pair_at}
 use Rattle.article_steps.specs.Given.{constant_pair_writer}
 use Rattle.std.proofs.Common.{Ok, take}
 use Rattle.article_steps.specs.Left.{Adds}
-use Rattle.writing_spec.specs.Drafts.{write_each}
+use Rattle.article_write_spec.specs.Drafts.{write_each}
 use Rattle.article_steps.proofs.given.write_constant_pairs.Given as goal
 
 -- those up to here are written

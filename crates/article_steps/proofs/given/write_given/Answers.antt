@@ -1,8 +1,8 @@
 use Rattle.std.proofs.Common.{◌∙◌, ap, sym, subst, refl}
 use Rattle.hol_defs.specs.Lists.{pairs_at}
 use Rattle.hol_rules.specs.Views.{parameters_view, AreParametersKnown}
-use Rattle.writing_spec.specs.Drafts.{say_name, write_list}
-use Rattle.writing_spec.specs.WrittenSteps.{write_given}
+use Rattle.article_write_spec.specs.Drafts.{say_name, write_list}
+use Rattle.article_write_spec.specs.WrittenSteps.{write_given}
 use Rattle.article_steps.specs.Given.{put_writer, constant_pair_writer, AreClosed}
 use Rattle.article_steps.proofs.AddsLaws.{adds-nothing}
 use Rattle.article_steps.proofs.EachLaws.{adds-same}

@@ -1,12 +1,12 @@
 use Rattle.std.proofs.Common.{refl}
 use Rattle.article_spec.specs.declared.commands.Item.TheVariants as item
-use Rattle.writing_spec.specs.Drafts.{say_name}
+use Rattle.article_write_spec.specs.Drafts.{say_name}
 use Rattle.article_steps.proofs.SaidLaws.{appends-say}
 use Rattle.article_steps.proofs.AddsLaws.{adds-say}
 use Rattle.article_steps.proofs.GivenLaws.{item-at}
 use Rattle.std.proofs.Common.{arith, length}
 use Rattle.article_spec.specs.declared.commands.Word.TheVariants as word
-use Rattle.writing_spec.specs.Drafts.{Draft, say_word, conses}
+use Rattle.article_write_spec.specs.Drafts.{Draft, say_word, conses}
 use Rattle.article_steps.proofs.SaidLaws.{appends-listed}
 use Rattle.article_steps.proofs.EachLaws.{adds-same, each-first, each-next, each-failed, each-done}
 use Rattle.article_steps.proofs.given.write_names.Goals as goal

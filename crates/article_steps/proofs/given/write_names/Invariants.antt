@@ -1,7 +1,7 @@
-use Rattle.writing_spec.specs.Drafts.{say_name}
+use Rattle.article_write_spec.specs.Drafts.{say_name}
 use Rattle.std.proofs.Common.{Ok, take}
 use Rattle.article_steps.specs.Left.{Adds}
-use Rattle.writing_spec.specs.Drafts.{write_each}
+use Rattle.article_write_spec.specs.Drafts.{write_each}
 use Rattle.article_steps.proofs.given.write_names.Given as goal
 
 -- those up to here are written

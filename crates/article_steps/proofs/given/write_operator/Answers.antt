@@ -1,5 +1,5 @@
 use Rattle.article_spec.specs.declared.commands.Item.TheVariants as item
-use Rattle.writing_spec.specs.Drafts.{Draft, say_name, write_list}
+use Rattle.article_write_spec.specs.Drafts.{Draft, say_name, write_list}
 use Rattle.article_steps.proofs.SaidLaws.{appends-say, appends-list, appends-then}
 use Rattle.article_steps.proofs.AddsLaws.{adds-say, adds-then, adds-stop}
 use Rattle.article_steps.proofs.given.write_operator.Goals as goal

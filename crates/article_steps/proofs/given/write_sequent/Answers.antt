@@ -2,8 +2,8 @@ use Rattle.std.proofs.Common.{ap, sym, subst}
 use Rattle.std.specs.List.{AllByRecursion}
 use Rattle.hol_spec.specs.Terms.{IsTerm}
 use Rattle.hol_term.specs.Tables.{AreKnown, term_at, terms_at}
-use Rattle.writing_spec.specs.Drafts.{write_list}
-use Rattle.writing_spec.specs.WrittenTerms.{write_term}
+use Rattle.article_write_spec.specs.Drafts.{write_list}
+use Rattle.article_write_spec.specs.WrittenTerms.{write_term}
 use Rattle.article_steps.proofs.SaidLaws.{appends-under}
 use Rattle.article_steps.proofs.AddsLaws.{adds-then, adds-stop}
 use Rattle.article_steps.proofs.EachLaws.{adds-same}

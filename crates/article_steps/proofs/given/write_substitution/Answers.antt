@@ -1,7 +1,7 @@
 use Rattle.hol_type.specs.Tables.{pairs_at}
 use Rattle.hol_term.specs.Substitutions.{term_pairs_at}
 use Rattle.article_spec.specs.declared.commands.Word.TheVariants as word
-use Rattle.writing_spec.specs.Drafts.{Draft, say_word, conses, write_list}
+use Rattle.article_write_spec.specs.Drafts.{Draft, say_word, conses, write_list}
 use Rattle.article_steps.specs.Given.{type_pair_writer, term_pair_writer}
 use Rattle.article_steps.proofs.SaidLaws.{appends-then, appends-list, appends-listed}
 use Rattle.article_steps.proofs.GivenLaws.{appends-term_pair}

@@ -1,7 +1,7 @@
 use Rattle.article_steps.specs.Given.{term_pair_writer, term_pair_at}
 use Rattle.std.proofs.Common.{Ok, take}
 use Rattle.article_steps.specs.Left.{Adds}
-use Rattle.writing_spec.specs.Drafts.{write_each}
+use Rattle.article_write_spec.specs.Drafts.{write_each}
 use Rattle.article_steps.proofs.given.write_term_pairs.Given as goal
 
 -- those up to here are written

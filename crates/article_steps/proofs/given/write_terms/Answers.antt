@@ -1,12 +1,12 @@
 use Rattle.std.proofs.Common.{[], refl}
 use Rattle.std.specs.Prelude.{slice_index_or}
 use Rattle.hol_term.specs.Tables.{term_at}
-use Rattle.writing_spec.specs.WrittenTerms.{write_term}
+use Rattle.article_write_spec.specs.WrittenTerms.{write_term}
 use Rattle.article_steps.proofs.SaidLaws.{appends-under}
 use Rattle.article_steps.proofs.GivenLaws.{item-here, term-known, term-closed}
 use Rattle.std.proofs.Common.{arith, length}
 use Rattle.article_spec.specs.declared.commands.Word.TheVariants as word
-use Rattle.writing_spec.specs.Drafts.{Draft, say_word, conses}
+use Rattle.article_write_spec.specs.Drafts.{Draft, say_word, conses}
 use Rattle.article_steps.proofs.SaidLaws.{appends-listed}
 use Rattle.article_steps.proofs.EachLaws.{adds-same, each-first, each-next, each-failed, each-done, list-viewed}
 use Rattle.article_steps.proofs.given.write_terms.Goals as goal

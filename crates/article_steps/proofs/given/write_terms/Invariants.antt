@@ -1,8 +1,8 @@
 use Rattle.hol_term.specs.Tables.{term_at}
-use Rattle.writing_spec.specs.WrittenTerms.{write_term}
+use Rattle.article_write_spec.specs.WrittenTerms.{write_term}
 use Rattle.std.proofs.Common.{Ok, take}
 use Rattle.article_steps.specs.Left.{Adds}
-use Rattle.writing_spec.specs.Drafts.{write_each}
+use Rattle.article_write_spec.specs.Drafts.{write_each}
 use Rattle.article_steps.proofs.given.write_terms.Given as goal
 
 -- those up to here are written

@@ -2,7 +2,7 @@ use Rattle.article_steps.specs.Given.{type_pair_writer, type_pair_at}
 use Rattle.article_steps.proofs.GivenLaws.{item-at, type_pairs-view, type_pair-known, appends-type_pair}
 use Rattle.std.proofs.Common.{arith, length}
 use Rattle.article_spec.specs.declared.commands.Word.TheVariants as word
-use Rattle.writing_spec.specs.Drafts.{Draft, say_word, conses}
+use Rattle.article_write_spec.specs.Drafts.{Draft, say_word, conses}
 use Rattle.article_steps.proofs.SaidLaws.{appends-listed}
 use Rattle.article_steps.proofs.EachLaws.{adds-same, each-first, each-next, each-failed, each-done, list-viewed}
 use Rattle.article_steps.proofs.given.write_type_pairs.Goals as goal

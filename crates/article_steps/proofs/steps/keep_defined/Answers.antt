@@ -1,6 +1,6 @@
 use Rattle.article_spec.specs.declared.commands.Item.TheVariants as item
 use Rattle.article_spec.specs.declared.commands.Word.TheVariants as word
-use Rattle.writing_spec.specs.WrittenSteps.{keep_theorem}
+use Rattle.article_write_spec.specs.WrittenSteps.{keep_theorem}
 use Rattle.article_steps.proofs.AddsLaws.{adds-then-say, adds-stop-say}
 use Rattle.article_steps.proofs.steps.keep_defined.Goals as goal
 

@@ -1,8 +1,8 @@
 use Rattle.std.proofs.Common.{◌≡◌, suc, ◌+◌, subst, ap, arith}
 use Rattle.article_spec.specs.declared.commands.Item.TheVariants as item
 use Rattle.article_spec.specs.declared.commands.Word.TheVariants as word
-use Rattle.writing_spec.specs.Drafts.{Draft, say_word, pops}
-use Rattle.writing_spec.specs.WrittenSteps.{keep_theorem}
+use Rattle.article_write_spec.specs.Drafts.{Draft, say_word, pops}
+use Rattle.article_write_spec.specs.WrittenSteps.{keep_theorem}
 use Rattle.article_lines.specs.NewSteps.{IsNew}
 use Rattle.article_lines.specs.Things.{Keyed}
 use Rattle.article_steps.proofs.SaidLaws.{appends-then}

@@ -1,6 +1,6 @@
 use Rattle.std.proofs.Common.{ap, sym, subst}
 use Rattle.article_lines.specs.NewSteps.{IsNewStep}
-use Rattle.writing_spec.specs.WrittenSteps.{keep_made}
+use Rattle.article_write_spec.specs.WrittenSteps.{keep_made}
 use Rattle.article_steps.proofs.EachLaws.{adds-same}
 use Rattle.article_steps.proofs.StepWriters.{made-plain, new-plain}
 use Rattle.article_steps.proofs.steps.keep_made.Goals as goal

@@ -1,6 +1,6 @@
 use Rattle.article_spec.specs.declared.commands.Item.TheVariants as item
 use Rattle.article_spec.specs.declared.commands.Word.TheVariants as word
-use Rattle.writing_spec.specs.Drafts.{Kept, keep}
+use Rattle.article_write_spec.specs.Drafts.{Kept, keep}
 use Rattle.article_steps.proofs.AddsLaws.{adds-then-say, adds-stop-say}
 use Rattle.article_steps.proofs.StepWriters.{adds-kept}
 use Rattle.article_steps.proofs.steps.keep_theorem.Goals as goal

@@ -1,7 +1,7 @@
 use Rattle.std.proofs.Common.{refl, arith}
 use Rattle.std.specs.Prelude.{slice_index_or}
-use Rattle.writing_spec.specs.Drafts.{Draft}
-use Rattle.writing_spec.specs.WrittenSteps.{write_premise}
+use Rattle.article_write_spec.specs.Drafts.{Draft}
+use Rattle.article_write_spec.specs.WrittenSteps.{write_premise}
 use Rattle.std.proofs.ByRecursion.{All-get_or}
 use Rattle.article_steps.proofs.SaidLaws.{appends-none}
 use Rattle.article_steps.proofs.AddsLaws.{adds-nothing}

@@ -1,7 +1,7 @@
 use Rattle.std.proofs.Common.{ℕ, Ok, take}
 use Rattle.hol_term.specs.Tables.{Trees}
-use Rattle.writing_spec.specs.Drafts.{write_each}
-use Rattle.writing_spec.specs.WrittenSteps.{write_premise}
+use Rattle.article_write_spec.specs.Drafts.{write_each}
+use Rattle.article_write_spec.specs.WrittenSteps.{write_premise}
 use Rattle.article_steps.specs.Left.{IsOpen, Adds}
 use Rattle.article_steps.proofs.steps.refer_to_all.Given as goal
 

@@ -3,8 +3,8 @@ use Rattle.hol_rules.specs.Views.{step_at}
 use Rattle.hol_spec.specs.declared.StepKind.TheVariants.{Axiom}
 use Rattle.article_spec.specs.declared.commands.Item.TheVariants as item
 use Rattle.article_spec.specs.declared.commands.Word.TheVariants as word
-use Rattle.writing_spec.specs.Drafts.{Draft, say_word}
-use Rattle.writing_spec.specs.WrittenSteps.{keep_theorem, write_given}
+use Rattle.article_write_spec.specs.Drafts.{Draft, say_word}
+use Rattle.article_write_spec.specs.WrittenSteps.{keep_theorem, write_given}
 use Rattle.article_steps.proofs.SaidLaws.{appends-then}
 use Rattle.article_steps.proofs.AddsLaws.{adds-then, adds-stop, adds-then-say, open-of, count-of}
 use Rattle.article_steps.proofs.NewTheorems.{new-given}

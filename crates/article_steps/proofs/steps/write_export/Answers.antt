@@ -1,8 +1,8 @@
 use Rattle.hol_rules.specs.Views.{step_at}
 use Rattle.article_spec.specs.declared.commands.Item.TheVariants as item
 use Rattle.article_spec.specs.declared.commands.Word.TheVariants as word
-use Rattle.writing_spec.specs.Drafts.{Draft, say_word, write_each}
-use Rattle.writing_spec.specs.WrittenSteps.{write_premise, write_given}
+use Rattle.article_write_spec.specs.Drafts.{Draft, say_word, write_each}
+use Rattle.article_write_spec.specs.WrittenSteps.{write_premise, write_given}
 use Rattle.article_steps.proofs.SaidLaws.{appends-then}
 use Rattle.article_steps.proofs.AddsLaws.{adds-then, adds-stop, adds-then-say, adds-stop-say}
 use Rattle.article_steps.proofs.StepWriters.{appends-given, appends-word}

@@ -1,8 +1,8 @@
 use Rattle.std.proofs.Common.{◌∙◌, sym, subst, ap, ◌<◌}
 use Rattle.hol_rules.specs.Views.{step_at}
 use Rattle.article_spec.specs.declared.commands.Item.TheVariants as item
-use Rattle.writing_spec.specs.Drafts.{Draft, say_word, write_each}
-use Rattle.writing_spec.specs.WrittenSteps.{keep_made, word_of, write_given, write_premise}
+use Rattle.article_write_spec.specs.Drafts.{Draft, say_word, write_each}
+use Rattle.article_write_spec.specs.WrittenSteps.{keep_made, word_of, write_given, write_premise}
 use Rattle.article_lines.specs.Writing.{line}
 use Rattle.article_lines.specs.WritingLaws.{writes_same}
 use Rattle.article_steps.proofs.SaidLaws.{appends-then}

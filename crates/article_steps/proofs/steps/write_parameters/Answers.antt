@@ -1,7 +1,7 @@
 use Rattle.std.proofs.Common.{sym, subst, ap}
 use Rattle.hol_term.specs.Tables.{Trees}
 use Rattle.hol_rules.specs.Views.{parameters_view, step_at}
-use Rattle.writing_spec.specs.WrittenSteps.{write_given}
+use Rattle.article_write_spec.specs.WrittenSteps.{write_given}
 use Rattle.article_steps.specs.Given.{AreClosed}
 use Rattle.article_steps.proofs.AddsLaws.{adds-moved}
 use Rattle.article_steps.proofs.ClosedSteps.{given-closed}

@@ -1,7 +1,7 @@
 use Rattle.std.proofs.Common.{ap}
 use Rattle.hol_rules.specs.Views.{step_at}
-use Rattle.writing_spec.specs.Drafts.{write_each}
-use Rattle.writing_spec.specs.WrittenSteps.{write_premise}
+use Rattle.article_write_spec.specs.Drafts.{write_each}
+use Rattle.article_write_spec.specs.WrittenSteps.{write_premise}
 use Rattle.article_lines.specs.EarlierPremises.{premises-earlier, premises-room}
 use Rattle.article_steps.proofs.EachLaws.{adds-same}
 use Rattle.article_steps.proofs.steps.write_premises.Goals as goal

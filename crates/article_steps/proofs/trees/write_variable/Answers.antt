@@ -1,7 +1,7 @@
 use Rattle.std.proofs.Common.{arith, [], ◌∷◌}
 use Rattle.article_spec.specs.declared.commands.Item.TheVariants as item
 use Rattle.article_spec.specs.declared.commands.Word.TheVariants as word
-use Rattle.writing_spec.specs.Drafts.{say_name}
+use Rattle.article_write_spec.specs.Drafts.{say_name}
 use Rattle.article_steps.specs.declared.room.Job.TheVariants as job
 use Rattle.article_steps.specs.Agendas.{do_jobs}
 use Rattle.article_steps.proofs.AgendaLaws.{appends-jobs}

@@ -1,7 +1,7 @@
 use Rattle.std.proofs.Common.{◌∙◌, ◌-◌, length, refl, sym, ap, arith}
 use Rattle.hol_term.specs.TableLaws.{Some-term_in}
 use Rattle.article_spec.specs.declared.commands.Item.TheVariants as item
-use Rattle.writing_spec.specs.BinderNames.{binder_name}
+use Rattle.article_write_spec.specs.BinderNames.{binder_name}
 use Rattle.article_lines.specs.Writing.{line}
 use Rattle.article_steps.specs.Agendas.{bound_by}
 use Rattle.article_lines.specs.WritingLaws.{writes_same}

@@ -1,7 +1,7 @@
 use Rattle.std.proofs.Common.{◌≡◌, ℕ, List, true, take}
 use Rattle.std.specs.List.{list_all}
 use Rattle.hol_spec.specs.Proofs.{steps_of}
-use Rattle.writing_laws.specs.Flags.{selected}
+use Rattle.article_write_laws.specs.Flags.{selected}
 use Rattle.article_lines.specs.Flagged.{flag, AreExports}
 use Rattle.article_write.specs.Fitting.{fits_step}
 use Rattle.article_write.proofs.fitting.is_fitting.Given as goal

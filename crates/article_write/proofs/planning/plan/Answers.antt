@@ -1,11 +1,11 @@
 use Rattle.std.proofs.Common.{refl, sym, ap, ap₂, subst, ◌∙◌, [], length}
 use Rattle.std.specs.List.{list_all}
 use Rattle.hol_spec.specs.Proofs.{steps_of}
-use Rattle.writing_spec.specs.ArticleLength.{count_step}
-use Rattle.writing_spec.specs.Article.{version_items}
-use Rattle.writing_spec.specs.Lengths.{Tally, capped, count_each, items_length}
-use Rattle.writing_laws.specs.CountedArticles.{lengths_are_counted}
-use Rattle.writing_laws.specs.Flags.{selected}
+use Rattle.article_write_spec.specs.ArticleLength.{count_step}
+use Rattle.article_write_spec.specs.Article.{version_items}
+use Rattle.article_write_spec.specs.Lengths.{Tally, capped, count_each, items_length}
+use Rattle.article_write_laws.specs.CountedArticles.{lengths_are_counted}
+use Rattle.article_write_laws.specs.Flags.{selected}
 use Rattle.article_lines.specs.Flagged.{flag, AreExports}
 use Rattle.article_lines.specs.Greatest.{greatest_length}
 use Rattle.article_lines.specs.Things.{none_keyed}

@@ -1,5 +1,5 @@
 use Rattle.std.proofs.Common.{ap}
-use Rattle.writing_spec.specs.Article.{article}
+use Rattle.article_write_spec.specs.Article.{article}
 use Rattle.article_write.proofs.GatheringLaws.{writes_begun}
 use Rattle.article_write.proofs.writing.write_gathered.Goals as goal
 

@@ -1,10 +1,10 @@
 use Rattle.std.proofs.Common.{sym, ap₂, subst, ◌∙◌}
 use Rattle.hol_spec.specs.Proofs.{steps_of}
-use Rattle.writing_spec.specs.Article.{version_draft}
-use Rattle.writing_spec.specs.Drafts.{write_each}
-use Rattle.writing_spec.specs.ItemTexts.{text_of}
-use Rattle.writing_spec.specs.WrittenSteps.{write_step}
-use Rattle.writing_laws.specs.Flags.{selected}
+use Rattle.article_write_spec.specs.Article.{version_draft}
+use Rattle.article_write_spec.specs.Drafts.{write_each}
+use Rattle.article_write_spec.specs.ItemTexts.{text_of}
+use Rattle.article_write_spec.specs.WrittenSteps.{write_step}
+use Rattle.article_write_laws.specs.Flags.{selected}
 use Rattle.article_lines.specs.Flagged.{flag, AreExports}
 use Rattle.article_lines.specs.Writing.{Writes}
 use Rattle.article_write.specs.Plans.{IsPlanOf}

@@ -1,5 +1,5 @@
 use Rattle.std.proofs.Common.{◌∙◌, [], sym}
-use Rattle.writing_spec.specs.Article.{article as article_of}
+use Rattle.article_write_spec.specs.Article.{article as article_of}
 use Rattle.bridge_spec.specs.Calls.{sunk}
 use Rattle.bridge_spec.specs.declared.status.Status.TheVariants.{Done}
 use Rattle.bridge_answer.specs.Delivered.{of_err, told_of_fault, output_stopped}

@@ -1,7 +1,7 @@
 use Rattle.std.proofs.Common.{[], refl, subst}
 use Rattle.article_spec.specs.Run.{accepted_state}
 use Rattle.article_spec.specs.State.{last_version}
-use Rattle.writing_spec.specs.Article.{article as article_of}
+use Rattle.article_write_spec.specs.Article.{article as article_of}
 use Rattle.bridge_spec.specs.declared.status.Status.TheVariants.{Done}
 use Rattle.bridge_article.specs.Runs.{IsWritablePlan}
 use Rattle.bridge_article.proofs.RunAnswers.{run_of-state}

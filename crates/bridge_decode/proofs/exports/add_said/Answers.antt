@@ -1,7 +1,7 @@
 use Rattle.std.proofs.Common.{◌≡◌, true, ◌++◌, refl, sym, ap, ◌∙◌}
 use Rattle.sequent.specs.Closed.{closed_view}
 use Rattle.holide_sig.specs.Modules.{declaration_in, declarations_of}
-use Rattle.module_spec.specs.Stands.{is_export_name}
+use Rattle.translate_spec.specs.Stands.{is_export_name}
 use Rattle.bridge_spec.specs.Texts.{export_line}
 use Rattle.bridge_decode.specs.Saying.{AddsLine}
 use Rattle.bridge_decode.proofs.Lines.{declared, named, decoded-Some, decoded-None}

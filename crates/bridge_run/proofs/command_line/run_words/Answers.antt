@@ -1,5 +1,5 @@
 use Rattle.std.proofs.Common.{◌∙◌, refl, subst, arith}
-use Rattle.headline_laws.specs.FormPromises.{Performs-Promise}
+use Rattle.bridge_laws.specs.FormPromises.{Performs-Promise}
 use Rattle.bridge_answer.specs.Performed.{memory-Performs}
 use Rattle.bridge_spec.specs.Calls.{call, shelved, sunk, form_in}
 use Rattle.bridge_spec.specs.Promises.{Promise}

@@ -1,7 +1,7 @@
 use Rattle.std.proofs.Common.{option_map, ◌∙◌, refl, sym, ap, subst, arith}
 use Rattle.bridge_spec.specs.Calls.{call, shelved, sunk, form_in, names_in}
 use Rattle.bridge_spec.specs.Promises.{Performs}
-use Rattle.headline_laws.specs.FormPromises.{Performs-Promise}
+use Rattle.bridge_laws.specs.FormPromises.{Performs-Promise}
 use Rattle.bridge_answer.specs.Performed.{usage-Performs, memory-Performs}
 use Rattle.bridge_words.specs.Asked.{asked}
 use Rattle.bridge_run.specs.Blocks.{HasBlocks}

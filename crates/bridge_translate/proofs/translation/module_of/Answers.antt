@@ -5,10 +5,10 @@ use Rattle.article_spec.specs.Run.{accepted_state}
 use Rattle.article_spec.specs.SoundRuns.{IsSoundRun}
 use Rattle.lp_spec.specs.ModuleOrder.{IsModule}
 use Rattle.lp_spec.specs.ShortNames.{NoneShort}
-use Rattle.lp_shape.specs.ShapedPasses.{AreShaped}
+use Rattle.lp_check_laws.specs.ShapedPasses.{AreShaped}
 use Rattle.holide_sig.specs.Modules.{declarations_of}
-use Rattle.module_spec.specs.Image.{image}
-use Rattle.run_laws.specs.Named.{HasNames}
+use Rattle.translate_spec.specs.Image.{image}
+use Rattle.image_laws.specs.Named.{HasNames}
 use Rattle.share_spec.specs.Folded.{folded}
 use Rattle.bridge_spec.specs.Texts.{module_of}
 use Rattle.translate_rule.specs.ItemViews.{run_of}

@@ -1,6 +1,6 @@
 use Rattle.std.proofs.Common.{subst, length, true, false}
 use Rattle.lp_kernel.specs.Checks.{PassBelow}
-use Rattle.headline_laws.specs.FormPromises.{trial-headline}
+use Rattle.bridge_laws.specs.FormPromises.{trial-headline}
 use Rattle.bridge_trial.proofs.verification.verified.Goals as goal
 
 pub check_back-checked-requires : goal.check_back-checked-requires

@@ -2,7 +2,7 @@ use Rattle.std.specs.Prelude.{not}
 use Rattle.std.proofs.Common.{◌++◌, codes, length, Some, sym, ap, subst, refl, ⊎_elim}
 use Rattle.lp_spec.specs.Text.{written}
 use Rattle.holide_sig.specs.Modules.{declarations_of}
-use Rattle.headline_laws.specs.Headlines.{each_run_carries}
+use Rattle.bridge_laws.specs.Headlines.{each_run_carries}
 use Rattle.bridge_spec.specs.Answers.{AnswersVerify}
 use Rattle.bridge_spec.specs.Begun.{BeginsFiles}
 use Rattle.bridge_spec.specs.Forms.{verify}

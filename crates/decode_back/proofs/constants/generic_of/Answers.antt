@@ -6,7 +6,7 @@ use Rattle.hol_term.specs.TableLaws.{Keeps-refl}
 use Rattle.lp_spec.specs.Trees.{Tree}
 use Rattle.lp_term.specs.Tables.{tree_at}
 use Rattle.holide_sig.specs.Modules.{declarations_of}
-use Rattle.module_spec.specs.TypeEnc.{place}
+use Rattle.translate_spec.specs.TypeEnc.{place}
 use Rattle.decode_spec.specs.Decode.{peel_types, term_part, type_of_tree, generic_of as generic_told}
 use Rattle.decode_back.specs.Walks.{IsTypeFound, IsGenericFound}
 use Rattle.decode_back.proofs.GenericLemmas.{same-told, too_many, too_large, out_of_order, generic-found}

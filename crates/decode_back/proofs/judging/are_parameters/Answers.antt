@@ -3,7 +3,7 @@ use Rattle.std.specs.Bool.{Decides}
 use Rattle.hol_spec.specs.Names.{Name}
 use Rattle.hol_spec.specs.Terms.{Variable}
 use Rattle.hol_term.specs.Tables.{terms_at}
-use Rattle.module_spec.specs.ConstantMeaning.{numbers}
+use Rattle.translate_spec.specs.ConstantMeaning.{numbers}
 use Rattle.decode_back.specs.Walks.{parameter_name}
 use Rattle.decode_back.specs.TermWalks.{free_of}
 use Rattle.decode_back.proofs.TypeWalk.{IfOk-weaker}

@@ -7,7 +7,7 @@ use Rattle.hol_term.specs.Tables.{AreKnown}
 use Rattle.hol_term.specs.TableLaws.{Keeps-refl, Keeps-trans, AreKnown-Keeps}
 use Rattle.lp_term.specs.Tables.{tree_at, trees_at}
 use Rattle.holide_sig.specs.Modules.{declarations_of}
-use Rattle.module_spec.specs.TypeEnc.{place}
+use Rattle.translate_spec.specs.TypeEnc.{place}
 use Rattle.decode_spec.specs.Decode.{term_from}
 use Rattle.decode_back.specs.TermWalks.{IsTermFound}
 use Rattle.decode_back.proofs.TermLemmas.{AreVariables-Keeps}

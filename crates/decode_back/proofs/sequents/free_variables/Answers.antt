@@ -8,7 +8,7 @@ use Rattle.hol_term.specs.TableLaws.{Keeps-refl, Keeps-trans, AreKnown-Keeps}
 use Rattle.hol_term.specs.Refusals.{RefusesTerm}
 use Rattle.lp_term.specs.Tables.{tree_at, trees_at}
 use Rattle.holide_sig.specs.Modules.{declarations_of}
-use Rattle.module_spec.specs.TypeEnc.{place}
+use Rattle.translate_spec.specs.TypeEnc.{place}
 use Rattle.decode_spec.specs.Decode.{type_of_tree}
 use Rattle.decode_back.specs.Walks.{IsTypeFound}
 use Rattle.decode_back.proofs.SequentLemmas.{VariablesSoFar, next-tree, tree-known-at, no_tree, no_id, terms-known, variables-none, variables-all, variable-none, variable-refused, variable-more}

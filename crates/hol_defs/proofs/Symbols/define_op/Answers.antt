@@ -4,7 +4,7 @@ use Rattle.hol_spec.specs.Definitions.{Definition}
 use Rattle.hol_spec.specs.NameEquality.{name_eq}
 use Rattle.hol_laws.specs.NameEqualityLaws.{name_eq-Decides}
 use Rattle.hol_spec.specs.Symbols.{Symbol}
-use Rattle.proof_laws.specs.SymbolGrowth.{symmetric}
+use Rattle.hol_proof_laws.specs.SymbolGrowth.{symmetric}
 use Rattle.hol_type.specs.Tables.{tree_at}
 use Rattle.hol_term.specs.Tables.{term_at, type_at}
 use Rattle.hol_term.specs.TableLaws.{Keeps-refl}

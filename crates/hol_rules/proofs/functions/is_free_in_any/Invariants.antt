@@ -1,5 +1,5 @@
 use Rattle.std.specs.Prelude.{drop}
-use Rattle.hol_params.specs.Noted.{AreNoted}
+use Rattle.hol_variables.specs.Noted.{AreNoted}
 use Rattle.hol_rules.specs.Views.{variable_view}
 use Rattle.hol_rules.proofs.FreeIn.{AreSearched}
 use Rattle.hol_rules.proofs.functions.is_free_in_any.Given as goal

@@ -1,6 +1,6 @@
 use Rattle.std.proofs.Common.{◌≡◌, arith, sym, ap, ◌∙◌}
 use Rattle.lp_spec.specs.Trees.{lift}
-use Rattle.lp_binding.specs.Composition.{lift_zero}
+use Rattle.lp_binding_laws.specs.Composition.{lift_zero}
 use Rattle.lp_term.specs.Tables.{tree_at}
 use Rattle.lp_term.specs.TableLaws.{Holds-tree_at}
 use Rattle.lp_kernel.specs.Pending.{spine_args}

@@ -1,6 +1,6 @@
 use Rattle.std.proofs.Common.{subst}
 use Rattle.std.specs.Prelude.{IfOk}
-use Rattle.lp_binding.specs.Composition.{put_all_at-one}
+use Rattle.lp_binding_laws.specs.Composition.{put_all_at-one}
 use Rattle.lp_term.specs.Tables.{tree_at, Holds}
 use Rattle.lp_term.proofs.LpTable.put.Goals as goal
 

@@ -2,7 +2,7 @@ use Rattle.std.proofs.Common.{◌≡◌, subst, sym, []}
 use Rattle.std.specs.Prelude.{IfOk}
 use Rattle.lp_spec.specs.ModuleOrder.{IsModule}
 use Rattle.lp_spec.specs.ShortNames.{NoneShort}
-use Rattle.lp_shape.specs.ShapedPasses.{AreShaped}
+use Rattle.lp_check_laws.specs.ShapedPasses.{AreShaped}
 use Rattle.holide_sig.specs.Modules.{declarations_of}
 use Rattle.share_spec.specs.Folded.{entries_of, folded}
 use Rattle.share.specs.Listings.{entries_in}

@@ -1,6 +1,6 @@
 use Rattle.std.proofs.Common.{◌∙◌, ◌++◌, ap, arith}
 use Rattle.std.specs.Prelude.{decimal}
-use Rattle.module_laws.specs.NumeralLaws.{numeral-decimal}
+use Rattle.translate_laws.specs.NumeralLaws.{numeral-decimal}
 use Rattle.share.proofs.naming.short_name.Goals as goal
 
 pub returns : goal.returns

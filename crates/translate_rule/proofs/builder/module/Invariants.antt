@@ -1,5 +1,5 @@
 use Rattle.std.specs.Prelude.{take}
-use Rattle.rule_proofs.specs.Keeping.{AreKept}
+use Rattle.translate_proof.specs.Keeping.{AreKept}
 use Rattle.translate_rule.specs.ItemViews.{run_of}
 use Rattle.translate_rule.specs.Building.{IsBuilt}
 use Rattle.translate_rule.proofs.builder.module.Given as goal

@@ -1,5 +1,5 @@
 use Rattle.std.proofs.Common.{◌∙◌, ap, sym}
-use Rattle.module_spec.specs.Rows.{has_row}
+use Rattle.translate_spec.specs.Rows.{has_row}
 use Rattle.translate_rule.proofs.StepRules.{row-other}
 use Rattle.translate_rule.proofs.declaration.has_proof.Goals as goal
 

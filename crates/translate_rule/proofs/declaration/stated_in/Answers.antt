@@ -3,8 +3,8 @@ use Rattle.holide_sig.specs.Modules.{declarations_of}
 use Rattle.lp_spec.specs.Modules.{abstractions}
 use Rattle.lp_spec.specs.declared.form.Form.TheVariants as form
 use Rattle.lp_term.specs.TableLaws.{Holds-tree_at, Holds-within}
-use Rattle.module_spec.specs.Rows.{has_row}
-use Rattle.module_spec.specs.Scopes.{conclusion_tree, domains_of}
+use Rattle.translate_spec.specs.Rows.{has_row}
+use Rattle.translate_spec.specs.Scopes.{conclusion_tree, domains_of}
 use Rattle.translate_term.specs.GrowLaws.{Grows-trans, Grows-table}
 use Rattle.translate_rule.specs.OwnSteps.{needed_step, own_sequent, proof_in}
 use Rattle.translate_rule.specs.Steps.{TellsProof}

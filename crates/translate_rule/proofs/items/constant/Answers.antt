@@ -3,7 +3,7 @@ use Rattle.holide_sig.specs.Modules.{declarations_of}
 use Rattle.hol_term.specs.Tables.{term_at}
 use Rattle.hol_type.specs.Tables as type
 use Rattle.lp_term.specs.Tables.{Holds}
-use Rattle.module_spec.specs.Scopes.{SymbolMap, generic_tree}
+use Rattle.translate_spec.specs.Scopes.{SymbolMap, generic_tree}
 use Rattle.translate_term.specs.Told.{TellsTerm, TellsType}
 use Rattle.translate_term.specs.GrowLaws.{IsHeld-Grows, declarations_of-Grows}
 use Rattle.translate_rule.proofs.ItemLaws.{defined-declared}

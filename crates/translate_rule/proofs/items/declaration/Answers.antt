@@ -5,8 +5,8 @@ use Rattle.hol_spec.specs.TypeDefinitions.{IsTypeDefinition}
 use Rattle.hol_term.specs.Tables.{term_at, type_at}
 use Rattle.hol_rules.specs.Kept.{step_count}
 use Rattle.holide_sig.specs.Modules.{declarations_of}
-use Rattle.module_spec.specs.Items.{declaration_of}
-use Rattle.telling_laws.specs.Told.{TellsContent}
+use Rattle.translate_spec.specs.Items.{declaration_of}
+use Rattle.image_items_laws.specs.Told.{TellsContent}
 use Rattle.translate_rule.specs.ItemViews.{item_content, names_of, names_of_view, part_name, IsItemKnown}
 use Rattle.translate_rule.specs.Steps.{content_at}
 use Rattle.translate_rule.proofs.ItemLaws.{operator-named}

@@ -2,7 +2,7 @@ use Rattle.std.proofs.Common.{◌∙◌, sym, ap, subst, arith, length}
 use Rattle.std.proofs.lemmas.Result.{IfOk-weaker}
 use Rattle.hol_spec.specs.Proofs.{sequent_at}
 use Rattle.hol_term.specs.Tables.{terms_at, AreKnown}
-use Rattle.rule_proofs.specs.Rescoped.{over_types}
+use Rattle.translate_proof.specs.Rescoped.{over_types}
 use Rattle.translate_rule.specs.Steps.{given_at}
 use Rattle.translate_rule.proofs.OwnLaws.{placed-outer}
 use Rattle.translate_rule.proofs.own.outer_environment.Goals as goal

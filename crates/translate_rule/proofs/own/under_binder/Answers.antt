@@ -2,8 +2,8 @@ use Rattle.std.proofs.Common.{◌∙◌, ap, subst, sym}
 use Rattle.std.proofs.lemmas.Result.{IfOk-weaker}
 use Rattle.hol_spec.specs.Proofs.{sequent_at}
 use Rattle.hol_term.specs.Tables.{terms_at, AreKnown}
-use Rattle.module_spec.specs.Scopes.{lifted, scope_of}
-use Rattle.rule_proofs.specs.Rescoped.{with_scope}
+use Rattle.translate_spec.specs.Scopes.{lifted, scope_of}
+use Rattle.translate_proof.specs.Rescoped.{with_scope}
 use Rattle.translate_rule.specs.Steps.{given_at}
 use Rattle.translate_rule.proofs.OwnLaws.{placed-under}
 use Rattle.translate_rule.proofs.own.under_binder.Goals as goal

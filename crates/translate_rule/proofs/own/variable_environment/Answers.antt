@@ -1,7 +1,7 @@
 use Rattle.std.proofs.lemmas.Result.{IfOk-weaker}
 use Rattle.hol_spec.specs.Proofs.{sequent_at}
-use Rattle.module_spec.specs.Scopes.{scope_of_terms}
-use Rattle.rule_proofs.specs.Rescoped.{with_scope}
+use Rattle.translate_spec.specs.Scopes.{scope_of_terms}
+use Rattle.translate_proof.specs.Rescoped.{with_scope}
 use Rattle.translate_rule.specs.Steps.{given_at}
 use Rattle.translate_rule.proofs.OwnLaws.{placed-variables}
 use Rattle.translate_rule.proofs.own.variable_environment.Goals as goal

@@ -4,8 +4,8 @@ use Rattle.hol_spec.specs.Proofs.{sequent_at}
 use Rattle.hol_spec.specs.Types.{type_variables}
 use Rattle.hol_type.specs.Tables as type
 use Rattle.lp_term.specs.Tables.{Holds}
-use Rattle.module_spec.specs.Items.{part_definition_tree}
-use Rattle.rule_proofs.specs.Parts.{part_symbol, whole_type}
+use Rattle.translate_spec.specs.Items.{part_definition_tree}
+use Rattle.translate_proof.specs.Parts.{part_symbol, whole_type}
 use Rattle.translate_rule.proofs.parts.over_type.Goals as goal
 
 pub vars-requires : goal.vars-requires

@@ -2,7 +2,7 @@ use Rattle.std.proofs.Common.{◌∙◌, ap, refl, Some}
 use Rattle.std.proofs.lemmas.Result.{IfOk-weaker}
 use Rattle.hol_spec.specs.Proofs.{sequent_at}
 use Rattle.holide_sig.specs.Modules.{declarations_of}
-use Rattle.rule_proofs.specs.Parts.{whole_type}
+use Rattle.translate_proof.specs.Parts.{whole_type}
 use Rattle.translate_term.specs.GrowLaws.{Grows-trans}
 use Rattle.translate_rule.specs.Steps.{given_over}
 use Rattle.translate_rule.proofs.PartLaws.{part-definition}

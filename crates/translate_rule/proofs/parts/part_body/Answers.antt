@@ -5,8 +5,8 @@ use Rattle.hol_spec.specs.Types.{type_variables}
 use Rattle.hol_term.specs.Tables.{term_at, type_at}
 use Rattle.holide_sig.specs.Modules.{declarations_of}
 use Rattle.lp_term.specs.Tables.{Holds}
-use Rattle.module_spec.specs.Items.{part_definition_tree}
-use Rattle.rule_proofs.specs.Parts.{part_symbol}
+use Rattle.translate_spec.specs.Items.{part_definition_tree}
+use Rattle.translate_proof.specs.Parts.{part_symbol}
 use Rattle.translate_term.specs.Told.{TellsType}
 use Rattle.translate_rule.specs.ItemViews.{names_of_view}
 use Rattle.translate_rule.specs.Parts.{part_variables}

@@ -1,7 +1,7 @@
 use Rattle.std.proofs.Common.{◌∙◌, arith, sym, subst}
 use Rattle.hol_spec.specs.Proofs.{sequent_at}
 use Rattle.hol_term.specs.Tables.{term_at, type_at}
-use Rattle.telling_laws.specs.Told.{TellsContent}
+use Rattle.image_items_laws.specs.Told.{TellsContent}
 use Rattle.translate_rule.specs.ItemViews.{names_of_view}
 use Rattle.translate_rule.specs.Parts.{part_at}
 use Rattle.translate_term.specs.GrowLaws.{Grows-trans, IsHeld-Grows, declarations_of-Grows}

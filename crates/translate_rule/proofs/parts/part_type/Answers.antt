@@ -5,7 +5,7 @@ use Rattle.hol_term.specs.Tables.{term_at, type_at}
 use Rattle.hol_type.specs.Tables as type
 use Rattle.holide_sig.specs.Modules.{declarations_of}
 use Rattle.lp_term.specs.Tables.{Holds}
-use Rattle.module_spec.specs.Scopes.{generic_tree}
+use Rattle.translate_spec.specs.Scopes.{generic_tree}
 use Rattle.translate_term.specs.Told.{TellsType}
 use Rattle.translate_rule.specs.ItemViews.{names_of_view}
 use Rattle.translate_rule.specs.Parts.{part_type}

@@ -2,7 +2,7 @@ use Rattle.std.proofs.Common.{◌∙◌, ap}
 use Rattle.std.specs.Prelude.{not}
 use Rattle.hol_spec.specs.Lists.{is_in}
 use Rattle.hol_spec.specs.Terms.{term_eq}
-use Rattle.rule_proofs.specs.FormulaLaws.{is_in-terms}
+use Rattle.translate_proof.specs.FormulaLaws.{is_in-terms}
 use Rattle.translate_rule.proofs.premises.lacks.Goals as goal
 
 pub returns : goal.returns

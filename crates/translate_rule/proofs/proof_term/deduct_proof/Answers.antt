@@ -4,10 +4,10 @@ use Rattle.hol_spec.specs.Proofs.{sequent_at}
 use Rattle.hol_spec.specs.Sequents.{Sequent}
 use Rattle.hol_spec.specs.declared.StepKind.TheVariants as kinds
 use Rattle.holide_sig.specs.Modules.{declarations_of}
-use Rattle.module_spec.specs.Scopes.{under_proof}
-use Rattle.rule_proofs.specs.Environments.{Represents}
-use Rattle.rule_proofs.specs.EnvironmentLaws.{Represents-Grows}
-use Rattle.rule_proofs.specs.Rescoped.{with_scope}
+use Rattle.translate_spec.specs.Scopes.{under_proof}
+use Rattle.translate_proof.specs.Environments.{Represents}
+use Rattle.translate_proof.specs.EnvironmentLaws.{Represents-Grows}
+use Rattle.translate_proof.specs.Rescoped.{with_scope}
 use Rattle.translate_rule.specs.OwnSteps.{own_scope, own_sequent, proof_in}
 use Rattle.translate_rule.specs.Steps.{given_at}
 use Rattle.translate_term.specs.GrowLaws.{Grows-trans, declarations_of-Grows}

@@ -3,8 +3,8 @@ use Rattle.std.proofs.lemmas.Result.{IfOk-weaker}
 use Rattle.hol_spec.specs.Proofs.{sequent_at}
 use Rattle.hol_spec.specs.declared.StepKind.TheVariants as kinds
 use Rattle.holide_sig.specs.Modules.{declarations_of}
-use Rattle.module_spec.specs.Rows.{proof_tree}
-use Rattle.rule_proofs.specs.EnvironmentLaws.{Represents-Grows}
+use Rattle.translate_spec.specs.Rows.{proof_tree}
+use Rattle.translate_proof.specs.EnvironmentLaws.{Represents-Grows}
 use Rattle.translate_rule.specs.OwnSteps.{own_scope, own_sequent, proof_in}
 use Rattle.translate_rule.specs.Steps.{given_at}
 use Rattle.translate_term.specs.GrowLaws.{Grows-trans}

@@ -6,7 +6,7 @@ use Rattle.hol_defs.specs.Lists.{pairs_at as pairs_view, ArePairsKnown as AreCon
 use Rattle.hol_rules.specs.Views.{parameters_view, AreParametersKnown}
 use Rattle.hol_spec.specs.Rules.{Parameters}
 use Rattle.holide_sig.specs.Modules.{declarations_of}
-use Rattle.module_spec.specs.Rows.{proof_tree}
+use Rattle.translate_spec.specs.Rows.{proof_tree}
 use Rattle.translate_rule.specs.OwnSteps.{own_scope, own_sequent, proof_in}
 use Rattle.translate_rule.specs.Steps.{given_at}
 use Rattle.translate_rule.proofs.ListRules.{list-defined, list-given, list-told}

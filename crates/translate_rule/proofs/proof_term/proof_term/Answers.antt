@@ -3,7 +3,7 @@ use Rattle.std.proofs.lemmas.Result.{IfOk-weaker}
 use Rattle.hol_spec.specs.Sequents.{Sequent}
 use Rattle.hol_spec.specs.declared.StepKind.TheVariants as kinds
 use Rattle.holide_sig.specs.Modules.{declarations_of}
-use Rattle.module_spec.specs.Rows.{has_row}
+use Rattle.translate_spec.specs.Rows.{has_row}
 use Rattle.translate_rule.specs.OwnSteps.{own_scope, own_sequent, own_step, proof_in}
 use Rattle.translate_rule.specs.Steps.{given_at}
 use Rattle.translate_rule.proofs.RuleLaws.{refl-equation, beta-equation, define-equation, eq_mp-equation, sym-equation, trans-first, trans-second, app_thm-own, app_thm-first, app_thm-second}

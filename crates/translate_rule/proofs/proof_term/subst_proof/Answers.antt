@@ -4,7 +4,7 @@ use Rattle.hol_spec.specs.Proofs.{sequent_at}
 use Rattle.hol_spec.specs.declared.StepKind.TheVariants as kinds
 use Rattle.hol_rules.specs.Views.{parameters_view}
 use Rattle.holide_sig.specs.Modules.{declarations_of}
-use Rattle.module_spec.specs.Rows.{proof_tree}
+use Rattle.translate_spec.specs.Rows.{proof_tree}
 use Rattle.translate_rule.specs.OwnSteps.{own_scope, own_sequent, proof_in}
 use Rattle.translate_rule.specs.Steps.{given_at}
 use Rattle.translate_rule.proofs.StepRules.{rule-one, own-told, tree-kind}

@@ -5,10 +5,10 @@ use Rattle.hol_spec.specs.Sequents.{Sequent}
 use Rattle.holide_sig.specs.Modules.{declarations_of}
 use Rattle.lp_spec.specs.Modules.{proof_of}
 use Rattle.lp_term.specs.TableLaws.{Holds-tree_at, Holds-within}
-use Rattle.module_spec.specs.Scopes.{scope_of, term_tree}
+use Rattle.translate_spec.specs.Scopes.{scope_of, term_tree}
 use Rattle.translate_term.specs.GrowLaws.{Grows-trans, Grows-table}
-use Rattle.rule_proofs.specs.Environments.{IsTold}
-use Rattle.rule_proofs.specs.StepSequents.{step-IsSequent}
+use Rattle.translate_proof.specs.Environments.{IsTold}
+use Rattle.translate_proof.specs.StepSequents.{step-IsSequent}
 use Rattle.translate_rule.specs.Steps.{given_at}
 use Rattle.translate_rule.proofs.StatementLaws.{conclusion-told}
 use Rattle.translate_rule.proofs.statement.conclusion.Goals as goal

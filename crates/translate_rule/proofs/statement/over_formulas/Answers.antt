@@ -4,10 +4,10 @@ use Rattle.hol_term.specs.declared.TermId.{TermId}
 use Rattle.hol_term.specs.Tables.{term_at, terms_at}
 use Rattle.lp_spec.specs.Modules.{proof_symbol}
 use Rattle.lp_term.specs.TableLaws.{Holds-tree_at, tree_at-Holds}
-use Rattle.module_spec.specs.Scopes.{term_tree}
+use Rattle.translate_spec.specs.Scopes.{term_tree}
 use Rattle.translate_term.specs.GrowLaws.{Grows-refl, Grows-trans}
-use Rattle.rule_proofs.specs.EnvironmentLaws.{Represents-Grows}
-use Rattle.rule_proofs.specs.Environments.{IsTold}
+use Rattle.translate_proof.specs.EnvironmentLaws.{Represents-Grows}
+use Rattle.translate_proof.specs.Environments.{IsTold}
 use Rattle.translate_rule.proofs.OwnLaws.{terms-count}
 use Rattle.translate_rule.proofs.StatementLaws.{front-last, no-item, known-split, terms-last, folded-last, folded-more, folded-end}
 use Rattle.translate_rule.proofs.statement.over_formulas.Goals as goal

@@ -3,9 +3,9 @@ use Rattle.std.specs.List.{AllByRecursion}
 use Rattle.hol_term.specs.Tables.{terms_at, AreKnown}
 use Rattle.lp_spec.specs.Modules.{products, proof_symbol}
 use Rattle.lp_term.specs.Tables.{tree_at}
-use Rattle.module_spec.specs.Scopes.{term_tree}
+use Rattle.translate_spec.specs.Scopes.{term_tree}
 use Rattle.translate_term.specs.Walks.{Grows}
-use Rattle.rule_proofs.specs.Environments.{Given, IsTold, Represents}
+use Rattle.translate_proof.specs.Environments.{Given, IsTold, Represents}
 use Rattle.translate_rule.specs.Domains.{lifted_domains}
 use Rattle.translate_rule.proofs.StatementLaws.{IsFolded}
 use Rattle.translate_rule.proofs.statement.over_formulas.Given as goal

@@ -7,11 +7,11 @@ use Rattle.holide_sig.specs.Modules.{declarations_of}
 use Rattle.lp_spec.specs.Modules.{products, proof_symbol}
 use Rattle.lp_term.specs.Tables.{tree_at}
 use Rattle.lp_term.specs.TableLaws.{tree_at-Holds, tree_at-Stays}
-use Rattle.module_spec.specs.Scopes.{proof_domains, scope_of_terms, term_tree}
+use Rattle.translate_spec.specs.Scopes.{proof_domains, scope_of_terms, term_tree}
 use Rattle.translate_term.specs.GrowLaws.{Grows-trans}
-use Rattle.rule_proofs.specs.Environments.{IsTold}
-use Rattle.rule_proofs.specs.Rescoped.{with_scope}
-use Rattle.rule_proofs.specs.StepSequents.{step-IsSequent}
+use Rattle.translate_proof.specs.Environments.{IsTold}
+use Rattle.translate_proof.specs.Rescoped.{with_scope}
+use Rattle.translate_proof.specs.StepSequents.{step-IsSequent}
 use Rattle.translate_rule.specs.Domains.{lifted_domains}
 use Rattle.translate_rule.specs.Steps.{given_at}
 use Rattle.translate_rule.proofs.StatementLaws.{no-item, hypotheses-told, proof_domains-outside}

@@ -5,10 +5,10 @@ use Rattle.hol_term.specs.Subterms.{variables_of}
 use Rattle.hol_term.specs.Tables.{type_at}
 use Rattle.lp_spec.specs.Modules.{term_symbol}
 use Rattle.lp_term.specs.TableLaws.{Holds-tree_at, tree_at-Holds}
-use Rattle.module_spec.specs.Scopes.{type_tree}
+use Rattle.translate_spec.specs.Scopes.{type_tree}
 use Rattle.translate_term.specs.GrowLaws.{Grows-refl, Grows-trans}
 use Rattle.translate_term.specs.Told.{TellsType}
-use Rattle.rule_proofs.specs.EnvironmentLaws.{Represents-Grows}
+use Rattle.translate_proof.specs.EnvironmentLaws.{Represents-Grows}
 use Rattle.translate_rule.proofs.OwnLaws.{variables-count}
 use Rattle.translate_rule.proofs.StatementLaws.{front-item, no-item, types-split, variables-last, folded-last, folded-more, folded-end}
 use Rattle.translate_rule.proofs.statement.over_terms.Goals as goal

@@ -4,10 +4,10 @@ use Rattle.hol_spec.specs.Terms.{Variable}
 use Rattle.hol_term.specs.Subterms.{HaveTypes, variables_of}
 use Rattle.lp_spec.specs.Modules.{products, term_symbol}
 use Rattle.lp_term.specs.Tables.{tree_at}
-use Rattle.module_spec.specs.Scopes.{type_tree}
+use Rattle.translate_spec.specs.Scopes.{type_tree}
 use Rattle.translate_term.specs.Told.{TellsType}
 use Rattle.translate_term.specs.Walks.{Grows}
-use Rattle.rule_proofs.specs.Environments.{Given, Represents}
+use Rattle.translate_proof.specs.Environments.{Given, Represents}
 use Rattle.translate_rule.specs.Domains.{lifted_domains}
 use Rattle.translate_rule.proofs.StatementLaws.{IsFolded}
 use Rattle.translate_rule.proofs.statement.over_terms.Given as goal

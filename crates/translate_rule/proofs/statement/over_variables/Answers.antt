@@ -9,7 +9,7 @@ use Rattle.holide_sig.specs.Modules.{declarations_of}
 use Rattle.lp_spec.specs.Modules.{products, term_symbol}
 use Rattle.lp_term.specs.Tables.{tree_at}
 use Rattle.lp_term.specs.TableLaws.{tree_at-Holds, tree_at-Stays}
-use Rattle.module_spec.specs.Scopes.{scope_of_types, term_domains, type_tree}
+use Rattle.translate_spec.specs.Scopes.{scope_of_types, term_domains, type_tree}
 use Rattle.translate_term.specs.GrowLaws.{Grows-trans}
 use Rattle.translate_term.specs.Told.{TellsType}
 use Rattle.translate_rule.specs.Domains.{lifted_domains}

@@ -4,7 +4,7 @@ use Rattle.std.proofs.lemmas.Result.{IfOk-weaker}
 use Rattle.lp_spec.specs.Modules.{products, types}
 use Rattle.lp_term.specs.TableLaws.{Holds-tree_at}
 use Rattle.translate_term.specs.GrowLaws.{Grows-trans, Grows-table}
-use Rattle.rule_proofs.specs.Told.{TellsSequent}
+use Rattle.translate_proof.specs.Told.{TellsSequent}
 use Rattle.translate_rule.specs.OwnSteps.{hypotheses_product, own_sequent, variables_product}
 use Rattle.translate_rule.proofs.OwnLaws.{told-Grows, IsReady-Grows}
 use Rattle.translate_rule.proofs.StatementLaws.{sequent_tree-products}

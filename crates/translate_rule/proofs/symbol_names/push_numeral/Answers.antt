@@ -1,5 +1,5 @@
 use Rattle.std.proofs.Common.{arith}
-use Rattle.module_laws.specs.NumeralLaws.{numeral-decimal}
+use Rattle.translate_laws.specs.NumeralLaws.{numeral-decimal}
 use Rattle.translate_rule.proofs.symbol_names.push_numeral.Goals as goal
 
 pub returns : goal.returns

@@ -1,5 +1,5 @@
 use Rattle.std.proofs.lemmas.Result.{IfOk-weaker}
-use Rattle.module_spec.specs.Scopes.{term_tree}
+use Rattle.translate_spec.specs.Scopes.{term_tree}
 use Rattle.translate_term.specs.Closed.{scope_under}
 use Rattle.translate_term.proofs.ClosedTurns.{term_begins}
 use Rattle.translate_term.proofs.closed.tree_of_term.Goals as goal

@@ -1,5 +1,5 @@
 use Rattle.std.proofs.lemmas.Result.{IfOk-weaker}
-use Rattle.module_spec.specs.Scopes.{type_tree}
+use Rattle.translate_spec.specs.Scopes.{type_tree}
 use Rattle.translate_term.specs.Closed.{types_under}
 use Rattle.translate_term.proofs.ClosedTurns.{type_begins}
 use Rattle.translate_term.proofs.closed.tree_of_type.Goals as goal

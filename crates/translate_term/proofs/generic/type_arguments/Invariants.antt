@@ -2,7 +2,7 @@ use Rattle.std.specs.Prelude.{◌≡◌, ◌++◌, ◌≤◌, ℕ, map}
 use Rattle.hol_spec.specs.Types.{HolType}
 use Rattle.lp_term.specs.Tables.{trees_at, AreKnown}
 use Rattle.holide_sig.specs.Modules.{declarations_of}
-use Rattle.module_spec.specs.Scopes.{SymbolMap, TypeScope, type_tree}
+use Rattle.translate_spec.specs.Scopes.{SymbolMap, TypeScope, type_tree}
 use Rattle.translate_term.specs.Patterns.{IsGeneric}
 use Rattle.translate_term.proofs.PatternLaws.{below, wants}
 use Rattle.translate_term.proofs.generic.type_arguments.Given as goal

@@ -1,5 +1,5 @@
 use Rattle.std.proofs.Common.{arith}
-use Rattle.module_laws.specs.NumeralLaws.{numeral-decimal, numeral-one}
+use Rattle.translate_laws.specs.NumeralLaws.{numeral-decimal, numeral-one}
 use Rattle.translate_term.proofs.spelling.push_numeral.Goals as goal
 
 pub returns-then-number-lt10 : goal.returns-then-number-lt10

@@ -2,7 +2,7 @@ use Rattle.std.proofs.Common.{arith, ◌∙◌, sym, subst}
 use Rattle.hol_term.specs.Tables.{term_at, type_at}
 use Rattle.lp_spec.specs.Trees.{App, Lam}
 use Rattle.lp_term.specs.declared.LpId.{LpId}
-use Rattle.lp_term.specs.TableLaws as lp_laws
+use Rattle.lp_term.specs.TableLaws as lp_reduction_laws
 use Rattle.translate_term.specs.Tasks.{IsNoted}
 use Rattle.translate_term.specs.Walks.{IsMadeAt}
 use Rattle.translate_term.proofs.EndsLaws.{OnOk-always, OnOk-map, join-less}
@@ -29,8 +29,8 @@ unwrap-argument-requires c =
 pub note_node-requires : goal.note_node-requires
 note_node-requires c =
     let w = c.requires.2 in (
-      lp_laws.Holds-within _ c.unwrap-function.result.0 _ (w.noted _ _ (if_some _ c.find.result c.unwrap-function.result c.unwrap-function.ensures c.find.ensures.noted)),
-      lp_laws.Holds-within _ c.unwrap-argument.result.0 _ (w.noted _ _ (if_some _ c.find-in-App.result c.unwrap-argument.result c.unwrap-argument.ensures c.find-in-App.ensures.noted)),
+      lp_reduction_laws.Holds-within _ c.unwrap-function.result.0 _ (w.noted _ _ (if_some _ c.find.result c.unwrap-function.result c.unwrap-function.ensures c.find.ensures.noted)),
+      lp_reduction_laws.Holds-within _ c.unwrap-argument.result.0 _ (w.noted _ _ (if_some _ c.find-in-App.result c.unwrap-argument.result c.unwrap-argument.ensures c.find-in-App.ensures.noted)),
     )
 
 pub unwrap-inside-requires : goal.unwrap-inside-requires
@@ -44,8 +44,8 @@ pub note_node-requires-in-Lam : goal.note_node-requires-in-Lam
 note_node-requires-in-Lam c =
     let w = c.requires.2 in
     let start = start-of c.requires.0 c.requires.1 _ _ _ c.args.source.scope.now.terms c.args.place c.args.walk.now.tasks c.args.walk.now.made _ w.ends.0 _ c.in-Lam.ensures.is c.in-Lam.ty c.in-Lam.ensures.lower.0 (λ t. t.0) w.reads w.types_noted in (
-      lp_laws.Holds-within _ c.in_ok-domain-in-Lam.domain.0 _ (c.in_ok-domain-in-Lam.ensures.made c.requires.0 start),
-      lp_laws.Holds-within _ c.unwrap-inside.result.0 _
+      lp_reduction_laws.Holds-within _ c.in_ok-domain-in-Lam.domain.0 _ (c.in_ok-domain-in-Lam.ensures.made c.requires.0 start),
+      lp_reduction_laws.Holds-within _ c.unwrap-inside.result.0 _
           (c.in_ok-domain-in-Lam.ensures.grows.table.stays.each _ _ (w.noted _ _ (if_some _ c.find-in-Lam.result c.unwrap-inside.result c.unwrap-inside.ensures c.find-in-Lam.ensures.noted))),
     )
 
@@ -57,7 +57,7 @@ returns-in-App-clause-walk c =
     (λ made given root w.
     term_joined given root _ _ _ _ c.args.place _ _ _ _ c.note_node.ensures.grows _ _ _ c.in-App.ensures.is
     (subst (IsMadeAt c.args.place c.args.walk.now.made c.note_node.new.made c.note_node.new.target.table)
-    (ap₂ App (lp_laws.Holds-tree_at _ c.unwrap-function.result.0 _ (w.noted _ _ nf)) (lp_laws.Holds-tree_at _ c.unwrap-argument.result.0 _ (w.noted _ _ nx))) made)
+    (ap₂ App (lp_reduction_laws.Holds-tree_at _ c.unwrap-function.result.0 _ (w.noted _ _ nf)) (lp_reduction_laws.Holds-tree_at _ c.unwrap-argument.result.0 _ (w.noted _ _ nx))) made)
     (IsTypeMemo-Keeps c.note_node.ensures.grows.table given _ _ w.types_noted) w)
     c.note_node.ensures.made
 
@@ -70,7 +70,7 @@ returns-in_ok-domain-in-Lam-clause-walk c =
     let inside = c.in_ok-domain-in-Lam.ensures.grows.table.stays.each _ _ (w.noted _ _ nb) in
     term_joined given root _ _ _ _ c.args.place _ _ _ _ (Grows-trans c.in_ok-domain-in-Lam.ensures.grows c.note_node-in-Lam.ensures.grows) _ _ _ c.in-Lam.ensures.is
     (subst (IsMadeAt c.args.place c.args.walk.now.made c.note_node-in-Lam.new.made c.note_node-in-Lam.new.target.table)
-    (ap₂ Lam (lp_laws.Holds-tree_at _ c.in_ok-domain-in-Lam.domain.0 _ (c.in_ok-domain-in-Lam.ensures.made given start)) (lp_laws.Holds-tree_at _ c.unwrap-inside.result.0 _ inside)
+    (ap₂ Lam (lp_reduction_laws.Holds-tree_at _ c.in_ok-domain-in-Lam.domain.0 _ (c.in_ok-domain-in-Lam.ensures.made given start)) (lp_reduction_laws.Holds-tree_at _ c.unwrap-inside.result.0 _ inside)
     ∙ sym (lam-wanted given c.args.place.depth (type_at c.args.source.table.now c.in-Lam.ty.0) (term_at c.args.source.table.now c.in-Lam.body.0))) made)
     (IsTypeMemo-Keeps c.note_node-in-Lam.ensures.grows.table given _ _ (c.in_ok-domain-in-Lam.ensures.noted given start)) w)
     c.note_node-in-Lam.ensures.made

@@ -1,7 +1,7 @@
 use Rattle.std.proofs.Common.{◌∙◌, ap, Some}
 use Rattle.std.proofs.lemmas.Result.{IfOk-weaker}
 use Rattle.lp_term.specs.TableLaws.{Holds-tree_at, Holds-within}
-use Rattle.module_spec.specs.Scopes.{filler}
+use Rattle.translate_spec.specs.Scopes.{filler}
 use Rattle.translate_term.specs.GrowLaws.{Grows-table, Grows-trans, IsTypeMemo-Keeps}
 use Rattle.translate_term.proofs.EndsLaws.{OnOk-always}
 use Rattle.translate_term.proofs.terms.some_term.Goals as goal

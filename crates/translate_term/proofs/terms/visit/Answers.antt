@@ -1,7 +1,7 @@
 use Rattle.std.proofs.Common.{◌∙◌, ap, sym, subst}
 use Rattle.hol_term.specs.Tables.{type_at}
 use Rattle.lp_spec.specs.Trees.{lift}
-use Rattle.lp_term.specs.TableLaws as lp_laws
+use Rattle.lp_term.specs.TableLaws as lp_reduction_laws
 use Rattle.translate_term.specs.Walks.{IsMadeAt, IsTermWalk}
 use Rattle.translate_term.proofs.EndsLaws.{OnOk-always, OnOk-map, visit-less}
 use Rattle.translate_term.specs.GrowLaws.{Grows-refl, Grows-trans, IsTypeMemo-Keeps}
@@ -43,7 +43,7 @@ pub note_lifted-requires : goal.note_lifted-requires
 note_lifted-requires c =
     let w = c.requires.2 in
     let start = start-of c.requires.0 c.requires.1 _ _ _ c.args.source.scope.now.terms c.args.place c.args.walk.now.tasks c.args.walk.now.made _ w.ends.0 _ c.in-Free.ensures.is c.in-Free.ty c.in-Free.ensures.lower (λ t. t) w.reads w.types_noted in
-    lp_laws.Holds-within _ c.in_ok-tree-in-Free.tree.0 _ (c.in_ok-tree-in-Free.ensures.made c.requires.0 start w.variables_told)
+    lp_reduction_laws.Holds-within _ c.in_ok-tree-in-Free.tree.0 _ (c.in_ok-tree-in-Free.ensures.made c.requires.0 start w.variables_told)
 
 pub returns-in_ok-tree-in-Free-clause-walk : goal.returns-in_ok-tree-in-Free-clause-walk
 returns-in_ok-tree-in-Free-clause-walk c =
@@ -53,7 +53,7 @@ returns-in_ok-tree-in-Free-clause-walk c =
     let made = c.in_ok-tree-in-Free.ensures.made given start w.variables_told in
     term_leaf given root _ _ _ _ c.args.place _ _ _ _ (Grows-trans c.in_ok-tree-in-Free.ensures.grows c.note_lifted.ensures.grows) _ _ _ c.in-Free.ensures.is
     (subst (IsMadeAt c.args.place c.args.walk.now.made c.note_lifted.new.made c.note_lifted.new.target.table)
-    (ap (lift c.args.place.depth) (lp_laws.Holds-tree_at _ c.in_ok-tree-in-Free.tree.0 _ made) ∙ free-lift given c.args.place.depth c.in-Free.name.now (type_at c.args.source.table.now c.in-Free.ty.0)) lifted)
+    (ap (lift c.args.place.depth) (lp_reduction_laws.Holds-tree_at _ c.in_ok-tree-in-Free.tree.0 _ made) ∙ free-lift given c.args.place.depth c.in-Free.name.now (type_at c.args.source.table.now c.in-Free.ty.0)) lifted)
     (IsTypeMemo-Keeps c.note_lifted.ensures.grows.table given _ _ (c.in_ok-tree-in-Free.ensures.noted given start)) w)
     c.note_lifted.ensures.made
 
@@ -62,7 +62,7 @@ note_lifted-requires-in-Const c =
     let w = c.requires.2 in
     let start = start-of c.requires.0 c.requires.1 _ _ _ c.args.source.scope.now.terms c.args.place c.args.walk.now.tasks c.args.walk.now.made _ w.ends.0 _ c.in-Const.ensures.is c.in-Const.ty c.in-Const.ensures.lower (λ t. t.ty) w.reads w.types_noted in
     let told = told-in c.requires.0 c.requires.1 c.args.target.now c.args.source.table.now c.args.source.scope.now.types c.args.source.scope.now.terms c.args.place c.args.walk.now.tasks c.args.walk.now.made c.args.walk.now.types _ c.in-Const.ensures.is w.ends.0 in
-    lp_laws.Holds-within _ c.in_ok-tree-in-Const.tree.0 _ (c.in_ok-tree-in-Const.ensures.made c.requires.0 start told)
+    lp_reduction_laws.Holds-within _ c.in_ok-tree-in-Const.tree.0 _ (c.in_ok-tree-in-Const.ensures.made c.requires.0 start told)
 
 pub returns-in_ok-tree-in-Const-clause-walk : goal.returns-in_ok-tree-in-Const-clause-walk
 returns-in_ok-tree-in-Const-clause-walk c =
@@ -73,7 +73,7 @@ returns-in_ok-tree-in-Const-clause-walk c =
     let made = c.in_ok-tree-in-Const.ensures.made given start told in
     term_leaf given root _ _ _ _ c.args.place _ _ _ _ (Grows-trans c.in_ok-tree-in-Const.ensures.grows c.note_lifted-in-Const.ensures.grows) _ _ _ c.in-Const.ensures.is
     (subst (IsMadeAt c.args.place c.args.walk.now.made c.note_lifted-in-Const.new.made c.note_lifted-in-Const.new.target.table)
-    (ap (lift c.args.place.depth) (lp_laws.Holds-tree_at _ c.in_ok-tree-in-Const.tree.0 _ made) ∙ constant-lift given c.args.place.depth c.in-Const.name.now (type_at c.args.source.table.now c.in-Const.ty.0)) lifted)
+    (ap (lift c.args.place.depth) (lp_reduction_laws.Holds-tree_at _ c.in_ok-tree-in-Const.tree.0 _ made) ∙ constant-lift given c.args.place.depth c.in-Const.name.now (type_at c.args.source.table.now c.in-Const.ty.0)) lifted)
     (IsTypeMemo-Keeps c.note_lifted-in-Const.ensures.grows.table given _ _ (c.in_ok-tree-in-Const.ensures.noted given start)) w)
     c.note_lifted-in-Const.ensures.made
 

@@ -1,6 +1,6 @@
 use Rattle.std.proofs.Common.{◌∙◌, ap, sym, Some}
 use Rattle.std.proofs.lemmas.Result.{IfOk-weaker}
-use Rattle.module_laws.specs.ListedScopes.{told_types}
+use Rattle.translate_laws.specs.ListedScopes.{told_types}
 use Rattle.translate_term.proofs.ScopeLists.{told-found, told-absent}
 use Rattle.translate_term.proofs.types.variable.Goals as goal
 

@@ -1,7 +1,7 @@
 use Rattle.std.proofs.Common.{ℕ}
 use Rattle.hol_term.specs.Tables.{type_at}
-use Rattle.writing_spec.specs.Lengths.{Tally}
-use Rattle.writing_spec.specs.TermLengths.{count_type}
+use Rattle.article_write_spec.specs.Lengths.{Tally}
+use Rattle.article_write_spec.specs.TermLengths.{count_type}
 use Rattle.article_count.specs.Counts.{IsTally}
 use Rattle.article_count.specs.TypeTasks.{types_work, CanWalkTypes, IsTypeWalk}
 use Rattle.article_count.proofs.tally.Count.count_type.Given as goal

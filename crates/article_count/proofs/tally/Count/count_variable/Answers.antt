@@ -1,5 +1,5 @@
 use Rattle.std.proofs.Common.{refl}
-use Rattle.writing_spec.specs.Lengths.{add}
+use Rattle.article_write_spec.specs.Lengths.{add}
 use Rattle.article_count.proofs.Tallies.{added-IsTally}
 use Rattle.article_count.proofs.tally.Count.count_variable.Goals as goal
 

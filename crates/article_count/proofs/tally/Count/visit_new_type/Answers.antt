@@ -5,7 +5,7 @@ use Rattle.hol_type.specs.Tables.{types_at, Holds}
 use Rattle.hol_type.specs.TableLaws.{Holds-tree_at, AreBelow-known}
 use Rattle.article_count.specs.declared.types.TypeTask.TheVariants as task
 use Rattle.article_spec.specs.declared.commands.Word.TheVariants as word
-use Rattle.writing_spec.specs.Lengths.{word_length}
+use Rattle.article_write_spec.specs.Lengths.{word_length}
 use Rattle.article_count.specs.Counts.{added}
 use Rattle.article_count.specs.TypeTasks.{types_work, with_visits, IsTypeWalk}
 use Rattle.article_count.proofs.TypeWalks.{variable-IsTypeWalk, operator-IsTypeWalk, operator-less}

@@ -1,8 +1,8 @@
 use Rattle.std.proofs.Common.{◌<◌, refl, ap, subst, sym}
 use Rattle.hol_rules.specs.Views.{step_at}
 use Rattle.article_spec.specs.declared.commands.Word.TheVariants as word
-use Rattle.writing_spec.specs.ArticleLength.{count_given}
-use Rattle.writing_spec.specs.Lengths.{capped, word_length}
+use Rattle.article_write_spec.specs.ArticleLength.{count_given}
+use Rattle.article_write_spec.specs.Lengths.{capped, word_length}
 use Rattle.article_lines.specs.Greatest.{greatest_length}
 use Rattle.article_count.proofs.EachCounted.{adds-CountsTerms, theorems-stay}
 use Rattle.article_count.proofs.SparedKeys.{given-spares}

@@ -1,6 +1,6 @@
 use Rattle.std.proofs.Common.{refl, ap}
-use Rattle.writing_spec.specs.ArticleLength.{list_length}
-use Rattle.writing_spec.specs.Lengths.{add, capped, name_length}
+use Rattle.article_write_spec.specs.ArticleLength.{list_length}
+use Rattle.article_write_spec.specs.Lengths.{add, capped, name_length}
 use Rattle.article_lines.specs.Greatest.{greatest_length}
 use Rattle.article_count.proofs.EachCounted.{adds-CountsTerms, can-then}
 use Rattle.article_count.proofs.terms.TermCount.count_constant_pair.Goals as goal

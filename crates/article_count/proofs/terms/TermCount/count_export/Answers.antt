@@ -1,8 +1,8 @@
 use Rattle.std.proofs.Common.{refl, ap}
 use Rattle.hol_rules.specs.Views.{step_at}
 use Rattle.article_spec.specs.declared.commands.Word.TheVariants as word
-use Rattle.writing_spec.specs.ArticleLength.{count_premise}
-use Rattle.writing_spec.specs.Lengths.{capped, count_each, word_length}
+use Rattle.article_write_spec.specs.ArticleLength.{count_premise}
+use Rattle.article_write_spec.specs.Lengths.{capped, count_each, word_length}
 use Rattle.article_lines.specs.Greatest.{greatest_length}
 use Rattle.article_count.proofs.EachCounted.{adds-CountsTerms, can-then}
 use Rattle.article_count.proofs.terms.TermCount.count_export.Goals as goal

@@ -1,8 +1,8 @@
 use Rattle.std.proofs.Common.{◌∙◌, ap}
 use Rattle.std.proofs.lemmas.Result.{on_ok_weaker}
 use Rattle.hol_term.specs.Tables.{type_at}
-use Rattle.writing_spec.specs.Lengths.{capped, name_length}
-use Rattle.writing_spec.specs.TermLengths.{count_variable}
+use Rattle.article_write_spec.specs.Lengths.{capped, name_length}
+use Rattle.article_write_spec.specs.TermLengths.{count_variable}
 use Rattle.article_lines.specs.Greatest.{greatest_length}
 use Rattle.article_count.proofs.GivenWalks.{lifted, variable-Grows}
 use Rattle.article_count.proofs.Tallies.{capped-twice}

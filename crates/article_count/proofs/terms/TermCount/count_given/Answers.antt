@@ -1,8 +1,8 @@
 use Rattle.std.proofs.Common.{◌+◌, subst}
 use Rattle.std.specs.Prelude.{OnOk}
 use Rattle.hol_defs.specs.Lists.{pairs_at}
-use Rattle.writing_spec.specs.ArticleLength.{count_list}
-use Rattle.writing_spec.specs.Lengths.{add, name_length}
+use Rattle.article_write_spec.specs.ArticleLength.{count_list}
+use Rattle.article_write_spec.specs.Lengths.{add, name_length}
 use Rattle.article_count.specs.GivenCounts.{constant_pair}
 use Rattle.article_count.specs.TermTasks.{CountsTerms, IsTermTally}
 use Rattle.article_count.proofs.terms.TermCount.count_given.Goals as goal

@@ -1,8 +1,8 @@
 use Rattle.std.proofs.Common.{◌<◌, ◌∙◌, refl, ap, subst, sym, ℕ}
 use Rattle.hol_rules.specs.Views.{step_at}
-use Rattle.writing_spec.specs.ArticleLength.{count_given, count_made, count_premise}
-use Rattle.writing_spec.specs.Lengths.{add, capped, count_each, word_length}
-use Rattle.writing_spec.specs.WrittenSteps.{word_of}
+use Rattle.article_write_spec.specs.ArticleLength.{count_given, count_made, count_premise}
+use Rattle.article_write_spec.specs.Lengths.{add, capped, count_each, word_length}
+use Rattle.article_write_spec.specs.WrittenSteps.{word_of}
 use Rattle.article_lines.specs.Greatest.{greatest_length}
 use Rattle.article_count.specs.TermTasks.{CountsTerms}
 use Rattle.article_count.proofs.EachCounted.{adds-CountsTerms, theorems-stay, counts-then}

@@ -1,7 +1,7 @@
 use Rattle.std.proofs.lemmas.Result.{on_ok_weaker}
 use Rattle.hol_term.specs.Tables.{term_at}
-use Rattle.writing_spec.specs.Lengths.{add, name_length}
-use Rattle.writing_spec.specs.TermLengths.{count_under}
+use Rattle.article_write_spec.specs.Lengths.{add, name_length}
+use Rattle.article_write_spec.specs.TermLengths.{count_under}
 use Rattle.article_count.proofs.EachCounted.{can-then, counts-then}
 use Rattle.article_count.proofs.terms.TermCount.count_named.Goals as goal
 

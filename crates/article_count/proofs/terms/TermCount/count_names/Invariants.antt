@@ -2,7 +2,7 @@ use Rattle.std.proofs.Common.{List}
 use Rattle.std.specs.Prelude.{drop}
 use Rattle.hol_spec.specs.Names.{Name}
 use Rattle.hol_term.specs.Tables.{Trees}
-use Rattle.writing_spec.specs.Lengths.{add, name_length}
+use Rattle.article_write_spec.specs.Lengths.{add, name_length}
 use Rattle.article_count.proofs.EachCounted.{IsEach}
 use Rattle.article_count.proofs.terms.TermCount.count_names.Given as goal
 

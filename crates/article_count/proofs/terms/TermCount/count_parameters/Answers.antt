@@ -1,7 +1,7 @@
 use Rattle.std.proofs.Common.{subst}
 use Rattle.std.specs.Prelude.{OnOk}
 use Rattle.hol_rules.specs.Views.{parameters_view}
-use Rattle.writing_spec.specs.ArticleLength.{count_given}
+use Rattle.article_write_spec.specs.ArticleLength.{count_given}
 use Rattle.article_count.specs.TermTasks.{CountsTerms}
 use Rattle.article_count.proofs.terms.TermCount.count_parameters.Goals as goal
 

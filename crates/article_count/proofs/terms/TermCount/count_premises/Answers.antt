@@ -1,6 +1,6 @@
 use Rattle.std.proofs.Common.{subst}
-use Rattle.writing_spec.specs.ArticleLength.{count_premise}
-use Rattle.writing_spec.specs.Lengths.{count_each}
+use Rattle.article_write_spec.specs.ArticleLength.{count_premise}
+use Rattle.article_write_spec.specs.Lengths.{count_each}
 use Rattle.article_count.specs.TermTasks.{CountsTerms}
 use Rattle.article_lines.specs.EarlierPremises.{premises-earlier, premises-room}
 use Rattle.article_count.proofs.terms.TermCount.count_premises.Goals as goal

@@ -1,8 +1,8 @@
 use Rattle.std.proofs.Common.{subst}
 use Rattle.std.proofs.lemmas.Result.{on_ok_weaker}
 use Rattle.hol_term.specs.Tables.{term_at, terms_at}
-use Rattle.writing_spec.specs.ArticleLength.{count_list}
-use Rattle.writing_spec.specs.TermLengths.{count_under}
+use Rattle.article_write_spec.specs.ArticleLength.{count_list}
+use Rattle.article_write_spec.specs.TermLengths.{count_under}
 use Rattle.article_count.specs.TermTasks.{CountsTerms}
 use Rattle.article_count.proofs.EachCounted.{counts-then}
 use Rattle.article_count.proofs.terms.TermCount.count_sequent.Goals as goal

@@ -2,7 +2,7 @@ use Rattle.std.proofs.Common.{◌∙◌, subst, sym}
 use Rattle.std.specs.Prelude.{OnOk}
 use Rattle.std.proofs.lemmas.Result.{on_ok_weaker}
 use Rattle.hol_rules.specs.Views.{step_at}
-use Rattle.writing_spec.specs.ArticleLength.{count_by}
+use Rattle.article_write_spec.specs.ArticleLength.{count_by}
 use Rattle.article_count.specs.TermTasks.{CountsTerms, IsTermTally}
 use Rattle.article_count.proofs.StepParts.{by-inferred}
 use Rattle.article_count.proofs.terms.TermCount.count_step.Goals as goal

@@ -1,8 +1,8 @@
 use Rattle.std.proofs.Common.{refl, ap, subst}
 use Rattle.hol_type.specs.Tables as type
 use Rattle.hol_term.specs.Substitutions.{term_pairs_at}
-use Rattle.writing_spec.specs.ArticleLength.{list_length, count_list}
-use Rattle.writing_spec.specs.Lengths.{capped}
+use Rattle.article_write_spec.specs.ArticleLength.{list_length, count_list}
+use Rattle.article_write_spec.specs.Lengths.{capped}
 use Rattle.article_lines.specs.Greatest.{greatest_length}
 use Rattle.article_count.specs.GivenCounts.{term_pair, type_pair}
 use Rattle.article_count.specs.TermTasks.{CountsTerms}

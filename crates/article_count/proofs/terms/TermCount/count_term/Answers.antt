@@ -1,7 +1,7 @@
 use Rattle.std.proofs.Common.{◌≡◌, ◌∷◌, ◌∙◌, ℕ, [], ap, refl, subst, sym, arith}
 use Rattle.hol_term.specs.Tables.{term_at}
-use Rattle.writing_spec.specs.Lengths.{Tally}
-use Rattle.writing_spec.specs.TermLengths.{count_under}
+use Rattle.article_write_spec.specs.Lengths.{Tally}
+use Rattle.article_write_spec.specs.TermLengths.{count_under}
 use Rattle.article_count.specs.declared.terms.TermTask.TheVariants as task
 use Rattle.article_count.specs.TermTasks.{IsTermTally, IsTermWalk}
 use Rattle.article_count.proofs.terms.TermCount.count_term.Goals as goal

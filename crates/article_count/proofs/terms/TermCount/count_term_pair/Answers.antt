@@ -1,8 +1,8 @@
 use Rattle.std.proofs.Common.{refl, ap}
 use Rattle.hol_term.specs.Tables.{type_at}
-use Rattle.writing_spec.specs.ArticleLength.{list_length}
-use Rattle.writing_spec.specs.Lengths.{capped}
-use Rattle.writing_spec.specs.TermLengths.{count_variable}
+use Rattle.article_write_spec.specs.ArticleLength.{list_length}
+use Rattle.article_write_spec.specs.Lengths.{capped}
+use Rattle.article_write_spec.specs.TermLengths.{count_variable}
 use Rattle.article_lines.specs.Greatest.{greatest_length}
 use Rattle.article_count.proofs.EachCounted.{adds-CountsTerms, can-then}
 use Rattle.article_count.proofs.terms.TermCount.count_term_pair.Goals as goal

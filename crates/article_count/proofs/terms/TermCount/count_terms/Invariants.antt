@@ -1,6 +1,6 @@
 use Rattle.std.specs.Prelude.{drop}
 use Rattle.hol_term.specs.Tables.{terms_at, AreKnown}
-use Rattle.writing_spec.specs.TermLengths.{count_under}
+use Rattle.article_write_spec.specs.TermLengths.{count_under}
 use Rattle.article_count.proofs.EachCounted.{IsEach}
 use Rattle.article_count.proofs.terms.TermCount.count_terms.Given as goal
 

@@ -2,7 +2,7 @@ use Rattle.std.proofs.Common.{◌≡◌, ◌<◌, ℕ, List}
 use Rattle.std.specs.Prelude.{drop}
 use Rattle.std.specs.List.{AllByRecursion}
 use Rattle.hol_term.specs.Tables.{Trees}
-use Rattle.writing_spec.specs.ArticleLength.{count_premise}
+use Rattle.article_write_spec.specs.ArticleLength.{count_premise}
 use Rattle.article_count.proofs.EachCounted.{IsEach}
 use Rattle.article_count.proofs.terms.TermCount.count_theorems.Given as goal
 

@@ -1,5 +1,5 @@
 use Rattle.std.proofs.Common.{◌≡◌, ◌+◌, ℕ, subst, arith}
-use Rattle.writing_spec.specs.Lengths.{add, name_length}
+use Rattle.article_write_spec.specs.Lengths.{add, name_length}
 use Rattle.article_count.specs.TermTasks.{IsTermTally}
 use Rattle.article_count.proofs.terms.TermCount.count_three.Goals as goal
 

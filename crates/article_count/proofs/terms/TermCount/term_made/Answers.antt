@@ -4,8 +4,8 @@ use Rattle.std.proofs.lemmas.Result.{on_ok_weaker}
 use Rattle.hol_term.specs.TableLaws.{Some-term_in}
 use Rattle.hol_term.specs.Tables.{term_at}
 use Rattle.article_spec.specs.declared.commands.Word.TheVariants as word
-use Rattle.writing_spec.specs.BinderNames.{binder_name}
-use Rattle.writing_spec.specs.Lengths.{capped, name_length, told_length, word_length}
+use Rattle.article_write_spec.specs.BinderNames.{binder_name}
+use Rattle.article_write_spec.specs.Lengths.{capped, name_length, told_length, word_length}
 use Rattle.article_lines.specs.declared.keys.Thing.TheVariants as thing
 use Rattle.article_lines.specs.Greatest.{greatest_length}
 use Rattle.article_lines.specs.Things.{thing_key}

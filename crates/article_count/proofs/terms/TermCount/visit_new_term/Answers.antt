@@ -3,9 +3,9 @@ use Rattle.std.proofs.lemmas.Result.{on_ok_weaker}
 use Rattle.hol_term.specs.TableLaws.{Some-term_in}
 use Rattle.hol_term.specs.Tables.{term_at, type_at}
 use Rattle.article_spec.specs.declared.commands.Word.TheVariants as word
-use Rattle.writing_spec.specs.BinderNames.{binder_name}
-use Rattle.writing_spec.specs.Lengths.{add, capped, name_length, word_length}
-use Rattle.writing_spec.specs.TermLengths.{count_type, count_variable}
+use Rattle.article_write_spec.specs.BinderNames.{binder_name}
+use Rattle.article_write_spec.specs.Lengths.{add, capped, name_length, word_length}
+use Rattle.article_write_spec.specs.TermLengths.{count_type, count_variable}
 use Rattle.article_lines.specs.Greatest.{greatest_length}
 use Rattle.article_count.specs.declared.terms.TermTask.TheVariants as task
 use Rattle.article_count.specs.TermTasks.{IsTermWalk}

@@ -1,6 +1,6 @@
 use Rattle.std.proofs.Common.{ap, refl, sym}
 use Rattle.std.proofs.lemmas.Result.{on_ok_weaker}
-use Rattle.writing_spec.specs.Lengths.{capped}
+use Rattle.article_write_spec.specs.Lengths.{capped}
 use Rattle.article_lines.specs.Greatest.{greatest_length}
 use Rattle.article_count.proofs.UsesWalks.{made-IsUsesWalk, uses_at-none, visit-uses-less}
 use Rattle.article_count.proofs.uses.UsesWalk.visit.Goals as goal

@@ -2,7 +2,7 @@ use Rattle.std.proofs.Common.{◌∙◌, ap, subst}
 use Rattle.lp_spec.specs.Trees.{SortType}
 use Rattle.lp_term.specs.Tables.{tree_at}
 use Rattle.lp_spec.specs.ReadingFaults as reading
-use Rattle.text_laws.specs.ReadingOrder.{IsState}
+use Rattle.dk_laws.specs.ReadingOrder.{IsState}
 use Rattle.dk_read.specs.declared.terms.State.TheVariants as state
 use Rattle.dk_read.specs.States.{before, frames_of, head_of, state_in, token_in, tree_in, IsIdKnown}
 use Rattle.dk_read.proofs.Declared.{becomes_as, grown_atom, name_applies, type_applies, held_is, sign_after, nothing_applies}

@@ -3,7 +3,7 @@ use Rattle.dk_read.specs.declared.terms.State.TheVariants as state
 use Rattle.dk_read.specs.declared.terms.Token.TheVariants as token
 use Rattle.dk_read.specs.Names.{name_at}
 use Rattle.dk_read.specs.States.{before, frames_of, head_of, state_in, IsStateKnown, IsTokenKnown}
-use Rattle.text_laws.specs.ReadingOrder.{IsState}
+use Rattle.dk_laws.specs.ReadingOrder.{IsState}
 use Rattle.dk_read.proofs.Declared.{becomes_as, first_becomes, no_colon, at_state, at_token, term_begins, name_wanted, colon_wanted}
 use Rattle.dk_read.proofs.parser.Parser.next_state.Goals as goal
 

@@ -1,4 +1,4 @@
-use Rattle.proof_laws.specs.StepsDerive.{proof-derives}
+use Rattle.hol_proof_laws.specs.StepsDerive.{proof-derives}
 use Rattle.hol_rules.proofs.proof.Proof.derives.Goals as goal
 
 pub returns : goal.returns

@@ -2,7 +2,7 @@ use Rattle.std.proofs.Common.{◌≡◌, ◌+◌, ◌-◌, ◌*◌, arith, refl,
 use Rattle.lp_spec.specs.Trees.{Pi}
 use Rattle.lp_term.specs.Tables.{tree_at, tree_of_node}
 use Rattle.lp_term.specs.TableLaws.{Holds-tree_at}
-use Rattle.lp_binding.specs.Binding.{size-positive}
+use Rattle.lp_binding_laws.specs.Binding.{size-positive}
 use Rattle.lp_weight.specs.Saturation.{saturated}
 use Rattle.lp_weight.specs.Occurrences.{occurrences}
 use Rattle.lp_weight.specs.Spreads.{IsFront}

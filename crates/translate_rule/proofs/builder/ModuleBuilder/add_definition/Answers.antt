@@ -1,6 +1,6 @@
 use Rattle.std.proofs.Common.{◌∙◌, ◌++◌, ◌∷◌, [], ap, refl, subst, sym}
 use Rattle.std.proofs.lemmas.Result.{on_ok_weaker}
-use Rattle.telling_laws.specs.Making.{items_made}
+use Rattle.image_items_laws.specs.Making.{items_made}
 use Rattle.translate_rule.specs.ItemViews.{accepted}
 use Rattle.translate_rule.specs.Building.{AreCounted}
 use Rattle.translate_rule.proofs.DefinitionItems.{up_to_operator, up_to_abstraction, next-operator, next-abstraction, next-representation, operator-counted, abstraction-counted, definition-counted}

@@ -2,7 +2,7 @@ use Rattle.std.proofs.Common.{◌∙◌, ◌++◌, ◌∷◌, [], Some, ap, refl
 use Rattle.std.proofs.lemmas.Result.{on_ok_weaker}
 use Rattle.hol_defs.specs.Symbols.{symbol_at, IsKnownSymbol}
 use Rattle.hol_defs.specs.Views.{taken_of_view}
-use Rattle.telling_laws.specs.Making.{items_made}
+use Rattle.image_items_laws.specs.Making.{items_made}
 use Rattle.translate_rule.specs.ItemViews.{accepted}
 use Rattle.translate_rule.specs.Building.{AreCounted}
 use Rattle.translate_rule.proofs.TakenLaws.{definition-is, definition-told, next-input-constant, next-input-operator, next-constant}

@@ -1,6 +1,6 @@
 use Rattle.std.proofs.Common.{◌∙◌, ◌++◌, ◌∷◌, [], length, ap, arith, refl, ◌+◌}
 use Rattle.lp_spec.specs.Modules.{signature}
-use Rattle.telling_laws.specs.Making.{items_made}
+use Rattle.image_items_laws.specs.Making.{items_made}
 use Rattle.translate_rule.specs.ItemViews.{accepted}
 use Rattle.translate_rule.proofs.TurnLaws.{step-next, step-made, counted-with}
 use Rattle.translate_rule.proofs.builder.ModuleBuilder.add_step.Goals as goal

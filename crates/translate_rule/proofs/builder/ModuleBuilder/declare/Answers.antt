@@ -1,8 +1,8 @@
 use Rattle.std.proofs.Common.{sym, subst}
 use Rattle.std.proofs.lemmas.Result.{on_ok_weaker}
 use Rattle.holide_sig.specs.Modules.{declarations_of}
-use Rattle.telling_laws.specs.Making.{kept_symbols}
-use Rattle.telling_laws.specs.Told.{TellsContent}
+use Rattle.image_items_laws.specs.Making.{kept_symbols}
+use Rattle.image_items_laws.specs.Told.{TellsContent}
 use Rattle.translate_rule.specs.ItemViews.{accepted, item_content, IsItemKnown}
 use Rattle.translate_term.specs.GrowLaws.{IsHeld-Grows, declarations_of-Grows}
 use Rattle.translate_rule.proofs.PushLaws.{next-told, next-may-follow, next-declared, made-with}

@@ -1,0 +1,55 @@
+//! The sequents for which types of declarations stand.
+ghost use Rattle.std.specs.Prelude.{◌<◌, length};
+ghost use Rattle.holide_sig.specs.Modules.{IsHeld};
+
+use case_files::Wrong;
+use hol_text::append_closed;
+use common::Memory;
+use decode_back::decode;
+use holide_sig::Module;
+use std::alloc::Global;
+
+/// Adds the closed sequent for which the type of the last declaration stands, or that it stands for none.
+pub(crate) fn add_sequent(alloc: Global, module: &Module, came: &mut Vec<u8>) -> Result<(), Wrong>
+    requires { IsHeld module.now }
+{
+    match module.decls.len().checked_sub(1) {
+        Some(last) => match decode(alloc, module, last) {
+            Ok(Some(closed)) => {
+                let added = append_closed(alloc, came, &closed);
+                drop(closed);
+                added.map_err(|_| Wrong("out of memory"))
+            }
+            Ok(None) => {
+                came.extend_from_slice(b"none")?;
+                Ok(())
+            }
+            Err(Memory) => Err(Wrong("out of memory")),
+        },
+        None => Err(Wrong("text")),
+    }
+}
+
+/// Adds whether the type of the last declaration stands for a closed sequent.
+pub(crate) fn add_whether(alloc: Global, module: &Module, came: &mut Vec<u8>) -> Result<(), Wrong>
+    requires { IsHeld module.now }
+{
+    match module.decls.len().checked_sub(1) {
+        Some(last) => {
+            came.extend_from_slice(whether(alloc, module, last)?)?;
+            Ok(())
+        }
+        None => Err(Wrong("text")),
+    }
+}
+
+// Whether the type of this declaration stands for one, as a word.
+fn whether(alloc: Global, module: &Module, last: usize) -> Result<&'static [u8], Wrong>
+    requires held { IsHeld module.now }
+    requires last { last < length module.now.decls }
+{
+    match decode(alloc, module, last) {
+        Ok(closed) => Ok(if closed.is_some() { b"some" } else { b"none" }),
+        Err(Memory) => Err(Wrong("out of memory")),
+    }
+}

@@ -1,5 +1,0 @@
-use Rattle.fitting_laws.specs.SmallRuns as law
-use Rattle.fitting_laws.proofs.runs_are_bounded.Goals as goal
-
-pub returns : goal.returns
-returns c = law.runs_are_bounded

@@ -1,7 +1,0 @@
-use Rattle.std.specs.Prelude.{drop}
-use Rattle.hol_params.specs.Variables.{variable_view}
-use Rattle.hol_params.proofs.Walked.{AreLooked}
-use Rattle.hol_params.proofs.walking.is_walked.Given as goal
-
-abbrev pub invariant-loop-own : goal.invariant-loop-own
-invariant-loop-own l = AreLooked l.terms (variable_view l.terms l.variable) l.own-items (drop l.own-index l.own-items)

@@ -1,0 +1,5 @@
+use Rattle.image_bound_laws.specs.SmallRuns as law
+use Rattle.image_bound_laws.proofs.runs_are_within_bounds.Goals as goal
+
+pub returns : goal.returns
+returns c = law.runs_are_within_bounds

@@ -1,0 +1,5 @@
+use Rattle.image_items_laws.specs.MadeInOrder as law
+use Rattle.image_items_laws.proofs.items_stay.Goals as goal
+
+pub returns : goal.returns
+returns c = law.items-stay

@@ -1,0 +1,5 @@
+use Rattle.image_items_laws.specs.NextDefinitions as law
+use Rattle.image_items_laws.proofs.next_definition_gone.Goals as goal
+
+pub returns : goal.returns
+returns c = law.next-definition-gone

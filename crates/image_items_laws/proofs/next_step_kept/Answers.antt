@@ -1,0 +1,5 @@
+use Rattle.image_items_laws.specs.NextItems as law
+use Rattle.image_items_laws.proofs.next_step_kept.Goals as goal
+
+pub returns : goal.returns
+returns c = law.next-step-kept

@@ -1,5 +1,0 @@
-use Rattle.lp_laws.proofs.Confluence as law
-use Rattle.lp_laws.proofs.confluent.Goals as goal
-
-pub returns : goal.returns
-returns c = law.confluent

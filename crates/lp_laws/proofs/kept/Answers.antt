@@ -1,5 +1,0 @@
-use Rattle.lp_laws.proofs.SubjectReduction as law
-use Rattle.lp_laws.proofs.kept.Goals as goal
-
-pub returns : goal.returns
-returns c = law.kept

@@ -1,5 +1,0 @@
-use Rattle.lp_laws.proofs.InjectiveProducts as law
-use Rattle.lp_laws.proofs.products.Goals as goal
-
-pub returns : goal.returns
-returns c = law.products

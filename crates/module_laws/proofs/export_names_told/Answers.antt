@@ -1,5 +1,0 @@
-use Rattle.module_laws.specs.ExportNames as law
-use Rattle.module_laws.proofs.export_names_told.Goals as goal
-
-pub returns : goal.returns
-returns c = law.is_export_name-Decides

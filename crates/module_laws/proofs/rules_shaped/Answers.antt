@@ -1,5 +1,0 @@
-use Rattle.module_laws.specs.ShapeStatements as law
-use Rattle.module_laws.proofs.rules_shaped.Goals as goal
-
-pub returns : goal.returns
-returns c = law.rules_shaped

@@ -1,5 +1,0 @@
-use Rattle.module_laws.specs.ExportNames as law
-use Rattle.module_laws.proofs.short_names_told.Goals as goal
-
-pub returns : goal.returns
-returns c = law.is_short_name-Decides

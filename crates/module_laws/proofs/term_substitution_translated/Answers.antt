@@ -1,5 +1,0 @@
-use Rattle.module_laws.specs.TranslationShown as law
-use Rattle.module_laws.proofs.term_substitution_translated.Goals as goal
-
-pub returns : goal.returns
-returns c = law.term_substitution_translated

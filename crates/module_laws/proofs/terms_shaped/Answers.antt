@@ -1,5 +1,0 @@
-use Rattle.module_laws.specs.ShapeStatements as law
-use Rattle.module_laws.proofs.terms_shaped.Goals as goal
-
-pub returns : goal.returns
-returns c = law.terms_shaped

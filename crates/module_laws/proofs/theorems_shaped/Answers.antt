@@ -1,5 +1,0 @@
-use Rattle.module_laws.specs.ShapeStatements as law
-use Rattle.module_laws.proofs.theorems_shaped.Goals as goal
-
-pub returns : goal.returns
-returns c = law.theorems_shaped

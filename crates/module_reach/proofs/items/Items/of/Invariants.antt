@@ -1,6 +1,0 @@
-use Rattle.std.proofs.Common.{drop}
-use Rattle.module_reach.specs.MadeItems.{AreTaken}
-use Rattle.module_reach.proofs.items.Items.of.Given as goal
-
-abbrev pub invariant-loop-one : goal.invariant-loop-one
-invariant-loop-one l = AreTaken l.proof (drop l.one-index l.one-items) l.items l.symbol

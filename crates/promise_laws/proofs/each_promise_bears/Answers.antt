@@ -1,5 +1,0 @@
-use Rattle.promise_laws.specs.Consequent as law
-use Rattle.promise_laws.proofs.each_promise_bears.Goals as goal
-
-pub returns : goal.returns
-returns c = law.each_promise_bears

@@ -1,5 +1,0 @@
-use Rattle.proof_laws.specs.StepsDerive.{proof-derives}
-use Rattle.proof_laws.proofs.proofs_derive.Goals as goal
-
-pub returns : goal.returns
-returns c = proof-derives

@@ -1,5 +1,0 @@
-use Rattle.proof_laws.specs.RuleSequents.{rule-IsSequent}
-use Rattle.proof_laws.proofs.rules_give_sequents.Goals as goal
-
-pub returns : goal.returns
-returns c = rule-IsSequent

@@ -1,5 +1,0 @@
-use Rattle.rule_proofs.proofs.StandTrees.{Ready-more}
-use Rattle.rule_proofs.proofs.ground.Ground.add_theorem.Goals as goal
-
-pub returns-clause-ready : goal.returns-clause-ready
-returns-clause-ready c = λ given made h told. Ready-more c.theorem.ensures.grows given c.args.self.proof.now.trees c.args.self.env.now c.args.args.now.items _ made c.in_ok-tree.tree _ (c.in_ok-tree.ensures.made given h.stands told) c.in_ok-push.ensures.items h

@@ -1,5 +1,0 @@
-use Rattle.standing_laws.specs.NamedRuns as law
-use Rattle.standing_laws.proofs.runs_of_bytes_stand.Goals as goal
-
-pub returns : goal.returns
-returns c = law.runs_of_bytes_stand

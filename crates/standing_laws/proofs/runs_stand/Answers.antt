@@ -1,5 +1,0 @@
-use Rattle.standing_laws.specs.StandingRuns as law
-use Rattle.standing_laws.proofs.runs_stand.Goals as goal
-
-pub returns : goal.returns
-returns c = law.runs_stand

@@ -1,5 +1,0 @@
-use Rattle.telling_laws.specs.NextSteps as law
-use Rattle.telling_laws.proofs.next_premises.Goals as goal
-
-pub returns : goal.returns
-returns c = law.next-premises

@@ -1,5 +1,0 @@
-use Rattle.telling_laws.specs.NextItems as law
-use Rattle.telling_laws.proofs.next_step_kept.Goals as goal
-
-pub returns : goal.returns
-returns c = law.next-step-kept

@@ -1,5 +1,0 @@
-use Rattle.telling_laws.specs.NextTells as law
-use Rattle.telling_laws.proofs.next_tells.Goals as goal
-
-pub returns : goal.returns
-returns c = law.next-tells

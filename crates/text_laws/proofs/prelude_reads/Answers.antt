@@ -1,5 +1,0 @@
-use Rattle.text_laws.specs.PreludeLaws as law
-use Rattle.text_laws.proofs.prelude_reads.Goals as goal
-
-pub returns : goal.returns
-returns c = law.prelude_reads

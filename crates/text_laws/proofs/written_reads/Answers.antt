@@ -1,5 +1,0 @@
-use Rattle.text_laws.specs.WrittenModules as law
-use Rattle.text_laws.proofs.written_reads.Goals as goal
-
-pub returns : goal.returns
-returns c = law.written_reads

@@ -1,0 +1,5 @@
+use Rattle.translate_laws.specs.ShapeStatements as law
+use Rattle.translate_laws.proofs.modules_typed.Goals as goal
+
+pub returns : goal.returns
+returns c = law.modules_typed

@@ -1,0 +1,5 @@
+use Rattle.translate_laws.specs.TranslationShown as law
+use Rattle.translate_laws.proofs.type_substitution_translated.Goals as goal
+
+pub returns : goal.returns
+returns c = law.type_substitution_translated

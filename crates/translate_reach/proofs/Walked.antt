@@ -1,0 +1,273 @@
+-- What a walk reaches stays while it comes to types and terms.
+use Rattle.std.proofs.Common.{◌≡◌, ◌⊎◌, ℕ, zero, suc, ◌+◌, ◌<◌, List, [], ◌∷◌, ◌++◌, length, Bool, true, false, ◌||◌, Option, Some, None, inl, inr, refl, sym, ap, subst, ◌∙◌, append_assoc, arith}
+use Rattle.std.specs.Prelude.{◌==◌, slice_set, slice_index_or, IfSome}
+use Rattle.std.specs.Bool.{Decides}
+use Rattle.std.specs.Cmp.{unsigned_Decides}
+use Rattle.std.specs.List.{AllByRecursion}
+use Rattle.std.proofs.Math.Path.{ap₂}
+use Rattle.std.proofs.lemmas.List.{length-set, get_or-set_same, get_or-set_other}
+use Rattle.std.proofs.lemmas.List.Folds.{list_any-append}
+use Rattle.std.proofs.lemmas.Bool.{or_right, or_left, or_cases}
+use Rattle.hol_spec.specs.Lists.{IsIn}
+use Rattle.hol_laws.specs.Members.{All-append, IsIn-left, IsIn-right}
+use Rattle.hol_term.specs.Tables.{Trees}
+use Rattle.translate_spec.specs.Items.{Item}
+use Rattle.translate_spec.specs.Reach.{Key, gives, key_eq, is_wanted}
+use Rattle.translate_reach.specs.declared.walk.Task.{Task}
+use Rattle.translate_reach.specs.declared.walk.Walk.{Walk}
+use Rattle.translate_reach.specs.Indexes.{is_at}
+use Rattle.translate_reach.specs.Reached.{flag}
+use Rattle.translate_reach.specs.Walks.{task_keys, keys_in, IsTaskKnown, task_size, work, rank, is_seen, is_reached, IsOpened, IsWalk, Wants, with_task, marked}
+
+pub or-false : (a : Bool) → (a || false) ≡ a
+or-false true = refl
+or-false false = refl
+
+pub or-assoc : (a b c : Bool) → ((a || b) || c) ≡ (a || (b || c))
+or-assoc true b c = refl
+or-assoc false b c = refl
+
+or-swap : (a b c : Bool) → (a || (b || c)) ≡ ((a || c) || b)
+or-swap true b c = refl
+or-swap false true true = refl
+or-swap false true false = refl
+or-swap false false true = refl
+or-swap false false false = refl
+
+or-four : (a b c d : Bool) → ((a || b) || (c || d)) ≡ ((a || d) || (b || c))
+or-four true b c d = refl
+or-four false true c true = refl
+or-four false true c false = refl
+or-four false false c d = or-swap false c d ∙ or-swap false d c ∙ or-swap false c d
+
+or-absorbed : (a b : Bool) → (b ≡ true → a ≡ true) → a ≡ ((a || b) || false)
+or-absorbed true b f = refl
+or-absorbed false true f = f refl
+or-absorbed false false f = refl
+
+-- flags with one more
+pub flag-marked : (flags : List Bool) (j i : ℕ) → j < length flags → flag (marked flags (Some j)) i ≡ (flag flags i || (i == j))
+flag-marked flags j i l = go (i == j) (unsigned_Decides i j)
+  where
+    go : (b : Bool) → Decides b (i ≡ j) → slice_index_or (slice_set flags j true) i false ≡ (slice_index_or flags i false || b)
+    go true d =
+        ap (λ k. slice_index_or (slice_set flags j true) k false) (d.0 refl) ∙ get_or-set_same flags j true false l ∙ sym (or_right (slice_index_or flags i false) true refl)
+    go false d = get_or-set_other flags j i true false (λ e. let f : false ≡ true = d.1 e in absurd (cc)) ∙ sym (or-false (slice_index_or flags i false))
+
+pub length-marked : (flags : List Bool) (o : Option ℕ) → length (marked flags o) ≡ length flags
+length-marked flags None = refl
+length-marked flags (Some j) = length-set flags j true
+
+-- the number is one of the flags, if there is one
+abbrev pub IsBelow : ℕ → Option ℕ → Type 0
+IsBelow n o = IfSome o (λ j. j < n)
+
+pub flag-marked_at : (flags : List Bool) (o : Option ℕ) (i : ℕ) → IsBelow (length flags) o → flag (marked flags o) i ≡ (flag flags i || is_at i o)
+flag-marked_at flags None i h = sym (or-false (flag flags i))
+flag-marked_at flags (Some j) i h = flag-marked flags j i h
+
+-- the keys of tasks
+keys_in-append : (trees : Trees) (ts us : List Task) → keys_in trees (ts ++ us) ≡ keys_in trees ts ++ keys_in trees us
+keys_in-append trees [] us = refl
+keys_in-append trees (t ∷ ts) us = ap (λ l. task_keys trees t ++ l) (keys_in-append trees ts us) ∙ sym (append_assoc (task_keys trees t) (keys_in trees ts) (keys_in trees us))
+
+pub wanted-append : (ks ls : List Key) (x : Item) → is_wanted (ks ++ ls) x ≡ (is_wanted ks x || is_wanted ls x)
+wanted-append ks ls x = list_any-append (key_eq (gives x)) ks ls
+
+wanted-tasks : (trees : Trees) (ts us : List Task) (x : Item) → is_wanted (keys_in trees (ts ++ us)) x ≡ (is_wanted (keys_in trees ts) x || is_wanted (keys_in trees us) x)
+wanted-tasks trees ts us x = ap (λ ks. is_wanted ks x) (keys_in-append trees ts us) ∙ wanted-append (keys_in trees ts) (keys_in trees us) x
+
+wanted-in : (trees : Trees) (tasks : List Task) (u : Task) (x : Item) → IsIn tasks u → is_wanted (task_keys trees u) x ≡ true → is_wanted (keys_in trees tasks) x ≡ true
+wanted-in trees [] u x h e = absurd h
+wanted-in trees (t ∷ ts) u x (inl same) e = wanted-append (task_keys trees t) (keys_in trees ts) x ∙ or_left (is_wanted (task_keys trees t) x) (is_wanted (keys_in trees ts) x) (subst (λ v. is_wanted (task_keys trees v) x ≡ true) same e)
+wanted-in trees (t ∷ ts) u x (inr h) e =
+    wanted-append (task_keys trees t) (keys_in trees ts) x ∙ or_right (is_wanted (task_keys trees t) x) (is_wanted (keys_in trees ts) x) (wanted-in trees ts u x h e)
+
+-- what some tasks need, one of them needs
+wanted-by : (trees : Trees) (tasks : List Task) (x : Item) → is_wanted (keys_in trees tasks) x ≡ true → (u : Task) × IsIn tasks u × (is_wanted (task_keys trees u) x ≡ true)
+wanted-by trees [] x e = absurd (cc)
+wanted-by trees (t ∷ ts) x e =
+    elim (or_cases (is_wanted (task_keys trees t) x) (is_wanted (keys_in trees ts) x) (sym (wanted-append (task_keys trees t) (keys_in trees ts) x) ∙ e)) [
+      | inl f ↦ (t, inl refl, f)
+      | inr f ↦ let r = wanted-by trees ts x f in (r.0, inr r.1, r.2)
+    ]
+
+pub work-append : (trees : Trees) (ts us : List Task) → work trees (ts ++ us) ≡ work trees ts + work trees us
+work-append trees [] us = let z : work trees us ≡ 0 + work trees us = omega arith in z
+work-append trees (t ∷ ts) us = let e = work-append trees ts us in omega (arith, e)
+
+module _ (trees : Trees) (items : List Item) where
+  -- with a task more
+  reached-task : (t : Task) (w : Walk) (x : Item) → is_reached trees (with_task t w) x ≡ (is_reached trees w x || is_wanted (task_keys trees t) x)
+  reached-task t w x =
+      ap (λ b. flag w.marks.items x.symbol || b) (wanted-append (task_keys trees t) (keys_in trees w.tasks) x)
+      ∙ or-swap (flag w.marks.items x.symbol) (is_wanted (task_keys trees t) x) (is_wanted (keys_in trees w.tasks) x)
+
+  -- what the walk came to reaches what it needs
+  module _ (w : Walk) (opened : (t : Task) → is_seen w t ≡ true → IsOpened trees items w t) where
+    covered : (n : ℕ) (t : Task) → rank trees t < n → is_seen w t ≡ true → (x : Item) → IsIn items x → is_wanted (task_keys trees t) x ≡ true → is_reached trees w x ≡ true
+    covered zero t l s x i e = absurd (omega (arith, l))
+    covered (suc n) t l s x i e =
+        let o = opened t s in
+        elim (or_cases (is_wanted o.own x) (is_wanted (keys_in trees o.parts) x) (sym (ap (λ ks. is_wanted ks x) o.keys ∙ wanted-append o.own (keys_in trees o.parts) x) ∙ e)) [
+          | inl f ↦ or_left (flag w.marks.items x.symbol) (is_wanted (keys_in trees w.tasks) x) (o.marked x i f)
+          | inr f ↦
+              let r = wanted-by trees o.parts x f in
+              let low = below o.parts o.lower r.0 r.1 in
+              elim (o.come r.0 r.1) [
+                | inl seen ↦ covered n r.0 (omega (arith, l, low)) seen x i r.2
+                | inr task ↦ or_right (flag w.marks.items x.symbol) (is_wanted (keys_in trees w.tasks) x) (wanted-in trees w.tasks r.0 x task r.2)
+              ]
+        ]
+      where
+        below : (parts : List Task) → AllByRecursion (λ u. rank trees u < rank trees t) parts → (u : Task) → IsIn parts u → rank trees u < rank trees t
+        below [] h u i = absurd i
+        below (p ∷ ps) h u (inl same) = subst (λ v. rank trees v < rank trees t) (sym same) h.0
+        below (p ∷ ps) h u (inr i) = below ps h.1 u i
+
+  -- what was come to before is passed
+  pub passed-IsWalk : (t : Task) (w : Walk) → IsWalk trees items (with_task t w) → is_seen w t ≡ true → IsWalk trees items w
+  passed-IsWalk t w h s = record {
+    marks = h.marks;
+    types = h.types;
+    terms = h.terms;
+    tasks = h.tasks.1;
+    opened = λ u seen. let o = h.opened u seen in record {
+      own = o.own;
+      parts = o.parts;
+      keys = o.keys;
+      marked = o.marked;
+      lower = o.lower;
+      come = λ v i. elim (o.come v i) [
+        | inl f ↦ inl f
+        | inr (inl same) ↦ inl (subst (λ z. is_seen w z ≡ true) (sym same) s)
+        | inr (inr j) ↦ inr j
+      ];
+    };
+  }
+
+  pub passed-Wants : (t : Task) (w : Walk) → IsWalk trees items (with_task t w) → is_seen w t ≡ true → Wants trees items [] (with_task t w) w
+  passed-Wants t w h s x i =
+      let k = passed-IsWalk t w h s in
+      or-absorbed (is_reached trees w x) (is_wanted (task_keys trees t) x) (λ e. covered w k.opened (suc (rank trees t)) t (omega arith) s x i e)
+      ∙ ap (λ b. b || false) (sym (reached-task t w x))
+
+  -- the walk v comes to this task: what it names is marked, and its parts are put on the tasks
+  pub record Comes (t : Task) (w v : Walk) (own : List Key) (parts : List Task) : Type 0 where
+    pub keys : task_keys trees t ≡ own ++ keys_in trees parts
+    pub known : AllByRecursion (IsTaskKnown trees) parts
+    pub lower : AllByRecursion (λ u. rank trees u < rank trees t) parts
+    pub marks : (x : Item) → IsIn items x → flag v.marks.items x.symbol ≡ (flag w.marks.items x.symbol || is_wanted own x)
+    pub marks_count : length v.marks.items ≡ length w.marks.items
+    pub types_count : length v.types.items ≡ length w.types.items
+    pub terms_count : length v.terms.items ≡ length w.terms.items
+    pub tasks : v.tasks ≡ parts ++ w.tasks
+    pub seen : (u : Task) → is_seen v u ≡ true → (u ≡ t) ⊎ (is_seen w u ≡ true)
+    pub still : (u : Task) → is_seen w u ≡ true → is_seen v u ≡ true
+    pub now : is_seen v t ≡ true
+
+  module _ (t : Task) (w v : Walk) (own : List Key) (parts : List Task) (h : IsWalk trees items (with_task t w)) (c : Comes t w v own parts) where
+    task-among : (u : Task) → IsIn parts u ⊎ IsIn w.tasks u → IsIn v.tasks u
+    task-among u (inl i) = subst (λ l. IsIn l u) (sym c.tasks) (IsIn-left parts w.tasks u i)
+    task-among u (inr i) = subst (λ l. IsIn l u) (sym c.tasks) (IsIn-right parts w.tasks u i)
+
+    opened-now : IsOpened trees items v t
+    opened-now = record {
+      own = own;
+      parts = parts;
+      keys = c.keys;
+      marked = λ x i e. c.marks x i ∙ or_right (flag w.marks.items x.symbol) (is_wanted own x) e;
+      lower = c.lower;
+      come = λ u i. inr (task-among u (inl i));
+    }
+
+    opened-still : (u : Task) → is_seen w u ≡ true → IsOpened trees items v u
+    opened-still u s = let o = h.opened u s in record {
+      own = o.own;
+      parts = o.parts;
+      keys = o.keys;
+      marked = λ x i e. c.marks x i ∙ or_left (flag w.marks.items x.symbol) (is_wanted own x) (o.marked x i e);
+      lower = o.lower;
+      come = λ z i. elim (o.come z i) [
+        | inl f ↦ inl (c.still z f)
+        | inr (inl same) ↦ inl (subst (λ y. is_seen v y ≡ true) (sym same) c.now)
+        | inr (inr j) ↦ inr (task-among z (inr j))
+      ];
+    }
+
+    pub comes-IsWalk : IsWalk trees items v
+    comes-IsWalk = record {
+      marks = c.marks_count ∙ h.marks;
+      types = c.types_count ∙ h.types;
+      terms = c.terms_count ∙ h.terms;
+      tasks = subst (AllByRecursion (IsTaskKnown trees)) (sym c.tasks) (All-append (IsTaskKnown trees) parts w.tasks c.known h.tasks.1);
+      opened = λ u s. elim (c.seen u s) [
+        | inl same ↦ subst (IsOpened trees items v) (sym same) opened-now
+        | inr old ↦ opened-still u old
+      ];
+    }
+
+    pub comes-Wants : Wants trees items [] (with_task t w) v
+    comes-Wants x i =
+        let f = flag w.marks.items x.symbol in
+        let a = is_wanted own x in
+        let p = is_wanted (keys_in trees parts) x in
+        let r = is_wanted (keys_in trees w.tasks) x in
+        ap₂ (λ b d. b || d) (c.marks x i) (ap (λ l. is_wanted (keys_in trees l) x) c.tasks ∙ wanted-tasks trees parts w.tasks x)
+        ∙ or-four f a p r
+        ∙ ap (λ b. (f || r) || b) (sym (ap (λ ks. is_wanted ks x) c.keys ∙ wanted-append own (keys_in trees parts) x))
+        ∙ sym (reached-task t w x) ∙ sym (or-false (is_reached trees (with_task t w) x))
+
+    pub comes-less : work trees parts < task_size trees t → work trees v.tasks < work trees (t ∷ w.tasks)
+    comes-less l = let e = ap (work trees) c.tasks ∙ work-append trees parts w.tasks in omega (arith, l, e)
+
+  -- the walk v has more marks and more tasks
+  pub record Gains (w v : Walk) (own : List Key) (more : List Task) : Type 0 where
+    pub known : AllByRecursion (IsTaskKnown trees) more
+    pub marks : (x : Item) → IsIn items x → flag v.marks.items x.symbol ≡ (flag w.marks.items x.symbol || is_wanted own x)
+    pub marks_count : length v.marks.items ≡ length w.marks.items
+    pub types : v.types.items ≡ w.types.items
+    pub terms : v.terms.items ≡ w.terms.items
+    pub tasks : v.tasks ≡ more ++ w.tasks
+
+  module _ (w v : Walk) (own : List Key) (more : List Task) (h : IsWalk trees items w) (g : Gains w v own more) where
+    same_seen : (u : Task) → is_seen v u ≡ is_seen w u
+    same_seen (Task.Type id) = ap (λ l. flag l id.0) g.types
+    same_seen (Task.Term id) = ap (λ l. flag l id.0) g.terms
+
+    pub gains-IsWalk : IsWalk trees items v
+    gains-IsWalk = record {
+      marks = g.marks_count ∙ h.marks;
+      types = ap length g.types ∙ h.types;
+      terms = ap length g.terms ∙ h.terms;
+      tasks = subst (AllByRecursion (IsTaskKnown trees)) (sym g.tasks) (All-append (IsTaskKnown trees) more w.tasks g.known h.tasks);
+      opened = λ u s. let o = h.opened u (sym (same_seen u) ∙ s) in record {
+        own = o.own;
+        parts = o.parts;
+        keys = o.keys;
+        marked = λ x i e. g.marks x i ∙ or_left (flag w.marks.items x.symbol) (is_wanted own x) (o.marked x i e);
+        lower = o.lower;
+        come = λ z i. elim (o.come z i) [
+          | inl f ↦ inl (same_seen z ∙ f)
+          | inr j ↦ inr (subst (λ l. IsIn l z) (sym g.tasks) (IsIn-right more w.tasks z j))
+        ];
+      };
+    }
+
+    pub gains-Wants : Wants trees items (own ++ keys_in trees more) w v
+    gains-Wants x i =
+        let f = flag w.marks.items x.symbol in
+        let a = is_wanted own x in
+        let p = is_wanted (keys_in trees more) x in
+        let r = is_wanted (keys_in trees w.tasks) x in
+        ap₂ (λ b d. b || d) (g.marks x i) (ap (λ l. is_wanted (keys_in trees l) x) g.tasks ∙ wanted-tasks trees more w.tasks x)
+        ∙ or-four f a p r
+        ∙ ap (λ b. (f || r) || b) (sym (wanted-append own (keys_in trees more) x))
+
+  -- one after another
+  pub Wants-trans : (ks ls : List Key) (a b c : Walk) → Wants trees items ks a b → Wants trees items ls b c → Wants trees items (ks ++ ls) a c
+  Wants-trans ks ls a b c h k x i =
+      k x i ∙ ap (λ y. y || is_wanted ls x) (h x i) ∙ or-assoc (is_reached trees a x) (is_wanted ks x) (is_wanted ls x) ∙ ap (λ y. is_reached trees a x || y) (sym (wanted-append ks ls x))
+
+  pub Wants-refl : (a : Walk) → Wants trees items [] a a
+  Wants-refl a x i = sym (or-false (is_reached trees a x))

@@ -1,5 +1,0 @@
-use Rattle.writing_laws.specs.CountedArticles.{lengths_are_counted}
-use Rattle.writing_laws.proofs.lengths_are_counted.Goals as goal
-
-pub returns : goal.returns
-returns c = lengths_are_counted
