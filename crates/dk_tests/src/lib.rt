@@ -6,7 +6,7 @@
 //! answer means, is proved of every text in `dk_read`, `lp_conv`, `lp_kernel`, `lp_weight`, `decode_back` and `dk_write`; the tests show that with
 //! ample memory each answer is given, and none is want of memory in its place.
 //!
-//! What no text says is tested in `lp_weight_tests`.
+//! What no text says is tested in `lp_tests`.
 #![tactic(auto)]
 
 #[cfg(test)]
