@@ -22,8 +22,10 @@ use Rattle.article_count.proofs.TermWalks.{grown-IsTermTally}
 abbrev pub Grows : (Tally → Tally) → Type 0
 Grows f = (m : Tally) → (new : List Kept) × ((f m).kept ≡ m.kept ++ new)
 
-pub lifted : {trees : Trees} {c : TermCount} (e : Count) (f : Tally → Tally) → Grows f → Counts trees c.count e f → CountsTerms trees c (record c { count = e }) (λ q. f)
-lifted {c = c} e f grows counts steps q m h = let g = grows m in grown-IsTermTally (record c { count = e }) (f m) g.0 refl refl refl (counts steps m h.tally) g.1 h
+pub lifted : {trees : Trees} {c : TermCount} (e : Count) (f : Tally → Tally) → Grows f → Counts trees c.count e f
+    → CountsTerms trees c (record c { count = e }) (λ q. f)
+lifted {c = c} e f grows counts steps q m h = let g =
+    grows m in grown-IsTermTally (record c { count = e }) (f m) g.0 refl refl refl (counts steps m h.tally) g.1 h
 
 pub type-Grows : (a : HolType) → Grows (count_type a)
 type-Grows a m = let notes = type-notes a m in (notes.new, notes.is)

@@ -11,10 +11,12 @@ use Rattle.article_count.specs.Noted.{key_cmp, noted_at, IsNoted}
 -- keys that are equal in their order are of one place
 key-place : (p q : Place) → is_eq (key_cmp (p.id.0, p.depth) (q.id.0, q.depth)) ≡ true → p ≡ q
 key-place p q e =
-    let same = exact_pairs nat_cmp nat_cmp exact_unsigned exact_unsigned (p.id.0, p.depth) (q.id.0, q.depth) ((Equal-is (key_cmp (p.id.0, p.depth) (q.id.0, q.depth))).0 e) in
+    let same = exact_pairs nat_cmp nat_cmp exact_unsigned exact_unsigned (p.id.0, p.depth) (q.id.0, q.depth)
+    ((Equal-is (key_cmp (p.id.0, p.depth) (q.id.0, q.depth))).0 e) in
     λ i. record { id = record { 0 = (same i).0 }; depth = (same i).1 }
 
-pub place-noted : (old new : Memo) (place : Place) (number : ℕ) → ((key : ℕ × ℕ) → noted_at new key ≡ cond (is_eq (key_cmp (place.id.0, place.depth) key)) (Some number) (noted_at old key))
+pub place-noted : (old new : Memo) (place : Place) (number : ℕ)
+    → ((key : ℕ × ℕ) → noted_at new key ≡ cond (is_eq (key_cmp (place.id.0, place.depth) key)) (Some number) (noted_at old key))
     → (p : Place) (n : ℕ) → IsNoted new p n → IsNoted old p n ⊎ ((p ≡ place) × (n ≡ number))
 place-noted old new place number updates p n at = go (is_eq (key_cmp (place.id.0, place.depth) (p.id.0, p.depth))) refl
   where

@@ -37,13 +37,15 @@ module _ (j : ℕ) where
   type-spares a m none =
       let notes = type-notes a m in
       ap (λ l. key_in l (Kept.theorem j)) notes.is
-      ∙ no-key (Kept.theorem j) 0 m.kept notes.new none (All-weaker (IsTypeUpTo (type_size a)) (λ y. kept_eq (Kept.theorem j) y ≡ false) (no-type (type_size a)) notes.new notes.all)
+      ∙ no-key (Kept.theorem j) 0 m.kept notes.new none
+      (All-weaker (IsTypeUpTo (type_size a)) (λ y. kept_eq (Kept.theorem j) y ≡ false) (no-type (type_size a)) notes.new notes.all)
 
   pub term-spares : (q d : ℕ) (t : Term) → Spares (count_under q d t)
   term-spares q d t m none =
       let notes = term-notes q t d m in
       ap (λ l. key_in l (Kept.theorem j)) notes.is
-      ∙ no-key (Kept.theorem j) 0 m.kept notes.new none (All-weaker (IsTermUpTo (term_size t)) (λ y. kept_eq (Kept.theorem j) y ≡ false) (no-term (term_size t)) notes.new notes.all)
+      ∙ no-key (Kept.theorem j) 0 m.kept notes.new none
+      (All-weaker (IsTermUpTo (term_size t)) (λ y. kept_eq (Kept.theorem j) y ≡ false) (no-term (term_size t)) notes.new notes.all)
 
   variable-spares : (n : Name) (a : HolType) → Spares (count_variable n a)
   variable-spares n a m none = type-spares a (add (name_length n) m) none
@@ -64,16 +66,22 @@ module _ (j : ℕ) where
   given-spares q (Parameters.term t) m none = term-spares q 0 t m none
   given-spares q (Parameters.variable v) m none = variable-spares v.0 v.1 m none
   given-spares q (Parameters.substitution types terms) m none =
-      pair-spares (count_list (λ p. count_pair (add (name_length p.0)) (count_type p.1)) types) (count_list (λ p. count_pair (count_variable p.0.0 p.0.1) (count_under q 0 p.1)) terms)
-      (list-spares (λ (p : Name × HolType). count_pair (add (name_length p.0)) (count_type p.1)) (λ p. pair-spares (add (name_length p.0)) (count_type p.1) (λ n e. e) (type-spares p.1)) types)
-      (list-spares (λ (p : Variable × Term). count_pair (count_variable p.0.0 p.0.1) (count_under q 0 p.1)) (λ p. pair-spares (count_variable p.0.0 p.0.1) (count_under q 0 p.1) (variable-spares p.0.0 p.0.1) (term-spares q 0 p.1)) terms)
+      pair-spares (count_list (λ p. count_pair (add (name_length p.0)) (count_type p.1)) types)
+      (count_list (λ p. count_pair (count_variable p.0.0 p.0.1) (count_under q 0 p.1)) terms)
+      (list-spares (λ (p : Name × HolType). count_pair (add (name_length p.0)) (count_type p.1))
+      (λ p. pair-spares (add (name_length p.0)) (count_type p.1) (λ n e. e) (type-spares p.1)) types)
+      (list-spares (λ (p : Variable × Term). count_pair (count_variable p.0.0 p.0.1) (count_under q 0 p.1))
+      (λ p. pair-spares (count_variable p.0.0 p.0.1) (count_under q 0 p.1) (variable-spares p.0.0 p.0.1) (term-spares q 0 p.1)) terms)
       m none
-  given-spares q (Parameters.sequent s) m none = term-spares q 0 s.conclusion (count_list (count_under q 0) s.hypotheses m) (list-spares (count_under q 0) (term-spares q 0) s.hypotheses m none)
+  given-spares q (Parameters.sequent s) m none = term-spares q 0 s.conclusion (count_list (count_under q 0) s.hypotheses m)
+      (list-spares (count_under q 0) (term-spares q 0) s.hypotheses m none)
   given-spares q (Parameters.constant n t) m none = term-spares q 0 t (add (name_length n) m) none
   given-spares q (Parameters.constants pairs) m none =
-      list-spares (λ (p : Name × Variable). count_pair (add (name_length p.0)) (count_variable p.1.0 p.1.1)) (λ p. pair-spares (add (name_length p.0)) (count_variable p.1.0 p.1.1) (λ n e. e) (variable-spares p.1.0 p.1.1)) pairs m none
+      list-spares (λ (p : Name × Variable). count_pair (add (name_length p.0)) (count_variable p.1.0 p.1.1))
+      (λ p. pair-spares (add (name_length p.0)) (count_variable p.1.0 p.1.1) (λ n e. e) (variable-spares p.1.0 p.1.1)) pairs m none
   given-spares q (Parameters.type_operator names version) m none =
-      list-spares (λ (n : Name). add (name_length n)) (λ n l e. e) names.variables (add (name_length names.operator + name_length names.abstraction + name_length names.representation) m) none
+      list-spares (λ (n : Name). add (name_length n)) (λ n l e. e) names.variables
+      (add (name_length names.operator + name_length names.abstraction + name_length names.representation) m) none
 
   pub premises-spare : (is : List ℕ) → Spares (count_each count_premise is)
   premises-spare is = each-spares count_premise (λ i m none. none) is

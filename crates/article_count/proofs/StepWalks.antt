@@ -29,7 +29,8 @@ step-is : (steps : List Step) (i : ℕ) (x : Step) → slice_get steps i ≡ Som
 step-is steps i x at = get_or_from_slice_get steps i x _ at
 
 -- behind a first law stands a second law
-second-law : (steps : List Step) (i : ℕ) → ArePairs steps → i < length steps → (step_in steps i).kind ≡ FirstLaw → (suc i < length steps) × ((step_in steps (suc i)).kind ≡ SecondLaw)
+second-law : (steps : List Step) (i : ℕ) → ArePairs steps → i < length steps → (step_in steps i).kind ≡ FirstLaw → (suc i < length steps)
+    × ((step_in steps (suc i)).kind ≡ SecondLaw)
 second-law steps i pairs low first =
     let p = pairs i (step_in steps i) (step-there steps i low) first in
     (slice_get_within steps (suc i) p.0 p.1, ap (λ (x : Step). x.kind) (step-is steps (suc i) p.0 p.1) ∙ p.2)
@@ -38,17 +39,22 @@ second-law steps i pairs low first =
 fresh-skipped : (steps : List Step) (i : ℕ) (kept : List Kept) → AreFresh steps i kept → AreFresh steps (suc i) kept
 fresh-skipped steps i kept h = record { later = λ j low. h.later j (omega (arith, low)); next = λ other. h.later (suc i) (omega arith) }
 
-fresh-counted : (q : ℕ) (b : Bool) (steps : List Step) (i : ℕ) (m : Tally) → ArePairs steps → i < length steps → AreFresh steps i m.kept → AreFresh steps (suc i) (count_by q (step_in steps i).kind b i (step_in steps i) m).kept
+fresh-counted : (q : ℕ) (b : Bool) (steps : List Step) (i : ℕ) (m : Tally) → ArePairs steps → i < length steps → AreFresh steps i m.kept
+    → AreFresh steps (suc i) (count_by q (step_in steps i).kind b i (step_in steps i) m).kept
 fresh-counted q b steps i m pairs low h =
     let x = step_in steps i in
     record {
       later = λ j above. by-spares j q x.kind b i x (λ e. omega (arith, above, e)) (λ first e. omega (arith, above, e)) m (h.later j (omega (arith, above)));
-      next = λ other. by-spares (suc i) q x.kind b i x (λ e. omega (arith, e)) (λ first. absurd (other (second-law steps i pairs low first).1)) m (h.later (suc i) (omega arith));
+      next = λ other. by-spares (suc i) q x.kind b i x (λ e. omega (arith, e)) (λ first. absurd (other (second-law steps i pairs low first).1)) m
+          (h.later (suc i) (omega arith));
     }
 
 -- the steps that are left, behind the next one
-left : (steps : List Step) (told is_export : List Bool) (q i : ℕ) → i < length steps → count_each (count_flagged q is_export) (selected (flag told) i (drop i steps))
-    ≡ count_each (count_flagged q is_export) (cond (flag told i) (record { number = i; step = step_in steps i } ∷ selected (flag told) (suc i) (drop (suc i) steps)) (selected (flag told) (suc i) (drop (suc i) steps)))
+left : (steps : List Step) (told is_export : List Bool) (q i : ℕ) → i < length steps
+    → count_each (count_flagged q is_export) (selected (flag told) i (drop i steps))
+    ≡ count_each (count_flagged q is_export)
+    (cond (flag told i) (record { number = i; step = step_in steps i } ∷ selected (flag told) (suc i) (drop (suc i) steps))
+    (selected (flag told) (suc i) (drop (suc i) steps)))
 left steps told is_export q i low =
     let next : i + 1 ≡ suc i = omega arith in
     ap (λ xs. count_each (count_flagged q is_export) (selected (flag told) i xs)) (drop_more steps i _ low ∙ ap (λ k. step_in steps i ∷ drop k steps) next)
@@ -73,50 +79,65 @@ module _ {trees : Trees} {steps : List Step} {told is_export : List Bool} {q i :
       go SecondLaw e = tt
       go kind e = none (λ f. let z = sym e ∙ f in absurd (cc))
 
-  walk-skips : i < length steps → flag told i ≡ false → IsStepWalk trees steps told is_export q i c final → IsStepWalk trees steps told is_export q (suc i) c final
+  walk-skips : i < length steps → flag told i ≡ false → IsStepWalk trees steps told is_export q i c final
+      → IsStepWalk trees steps told is_export q (suc i) c final
   walk-skips low off w = record {
     now = w.now;
     tally = w.tally;
     fresh = fresh-skipped steps i w.now.kept w.fresh;
     ends =
-        ap (λ b. count_each (count_flagged q is_export) (cond b (record { number = i; step = step_in steps i } ∷ selected (flag told) (suc i) (drop (suc i) steps)) (selected (flag told) (suc i) (drop (suc i) steps))) w.now) (sym off)
+        ap (λ b. count_each (count_flagged q is_export)
+        (cond b (record { number = i; step = step_in steps i } ∷ selected (flag told) (suc i) (drop (suc i) steps))
+        (selected (flag told) (suc i) (drop (suc i) steps))) w.now) (sym off)
         ∙ ap (λ f. f w.now) (sym (left steps told is_export q i low)) ∙ w.ends;
   }
 
-  walk-counts : (d : TermCount) → ArePairs steps → i < length steps → flag told i ≡ true → CountsTerms trees c d (λ k. count_by k (step_in steps i).kind (flag is_export i) i (step_in steps i))
+  walk-counts : (d : TermCount) → ArePairs steps → i < length steps → flag told i ≡ true
+      → CountsTerms trees c d (λ k. count_by k (step_in steps i).kind (flag is_export i) i (step_in steps i))
       → IsStepWalk trees steps told is_export q i c final → IsStepWalk trees steps told is_export q (suc i) d final
   walk-counts d pairs low on counts w = record {
     now = count_by q (step_in steps i).kind (flag is_export i) i (step_in steps i) w.now;
     tally = counts (length steps) q w.now w.tally;
     fresh = fresh-counted q (flag is_export i) steps i w.now pairs low w.fresh;
     ends =
-        ap (λ b. count_each (count_flagged q is_export) (cond b (record { number = i; step = step_in steps i } ∷ selected (flag told) (suc i) (drop (suc i) steps)) (selected (flag told) (suc i) (drop (suc i) steps))) w.now) (sym on)
+        ap (λ b. count_each (count_flagged q is_export)
+        (cond b (record { number = i; step = step_in steps i } ∷ selected (flag told) (suc i) (drop (suc i) steps))
+        (selected (flag told) (suc i) (drop (suc i) steps))) w.now) (sym on)
         ∙ ap (λ f. f w.now) (sym (left steps told is_export q i low)) ∙ w.ends;
   }
 
   -- the next step, told or not
-  pub next-skipped : (d : TermCount) → i < length steps → flag told i ≡ false → d ≡ c → IsStepWalk trees steps told is_export q i c final → IsStepWalk trees steps told is_export q (i + 1) d final
+  pub next-skipped : (d : TermCount) → i < length steps → flag told i ≡ false → d ≡ c → IsStepWalk trees steps told is_export q i c final
+      → IsStepWalk trees steps told is_export q (i + 1) d final
   next-skipped d low off is w =
       let next : suc i ≡ i + 1 = omega arith in
-      subst (λ k. IsStepWalk trees steps told is_export q k d final) next (subst (λ e. IsStepWalk trees steps told is_export q (suc i) e final) (sym is) (walk-skips low off w))
+      subst (λ k. IsStepWalk trees steps told is_export q k d final) next
+      (subst (λ e. IsStepWalk trees steps told is_export q (suc i) e final) (sym is) (walk-skips low off w))
 
-  pub next-counted : (d e : TermCount) → ArePairs steps → i < length steps → flag told i ≡ true → d ≡ e → CountsTerms trees c e (λ k. count_by k (step_in steps i).kind (flag is_export i) i (step_in steps i))
+  pub next-counted : (d e : TermCount) → ArePairs steps → i < length steps → flag told i ≡ true → d ≡ e
+      → CountsTerms trees c e (λ k. count_by k (step_in steps i).kind (flag is_export i) i (step_in steps i))
       → IsStepWalk trees steps told is_export q i c final → IsStepWalk trees steps told is_export q (i + 1) d final
   next-counted d e pairs low on is counts w =
       let next : suc i ≡ i + 1 = omega arith in
-      subst (λ k. IsStepWalk trees steps told is_export q k d final) next (subst (λ x. IsStepWalk trees steps told is_export q (suc i) x final) (sym is) (walk-counts e pairs low on counts w))
+      subst (λ k. IsStepWalk trees steps told is_export q k d final) next
+      (subst (λ x. IsStepWalk trees steps told is_export q (suc i) x final) (sym is) (walk-counts e pairs low on counts w))
 
   pub walk-ends : length steps ≤ i → IsStepWalk trees steps told is_export q i c final → IsTermTally trees (length steps) q c final
-  walk-ends all w = subst (IsTermTally trees (length steps) q c) (ap (λ xs. count_each (count_flagged q is_export) (selected (flag told) i xs) w.now) (sym (drop_all i steps all)) ∙ w.ends) w.tally
+  walk-ends all w = subst (IsTermTally trees (length steps) q c)
+      (ap (λ xs. count_each (count_flagged q is_export) (selected (flag told) i xs) w.now) (sym (drop_all i steps all)) ∙ w.ends) w.tally
 
 -- the flags and the list tell the same exports
-pub flagged-exports : (q : ℕ) (told is_export : List Bool) (exports : List ℕ) (i : ℕ) (xs : List Step) (m : Tally) → i + length xs ≤ length is_export → AreExports is_export exports
+pub flagged-exports : (q : ℕ) (told is_export : List Bool) (exports : List ℕ) (i : ℕ) (xs : List Step) (m : Tally) → i + length xs ≤ length is_export
+    → AreExports is_export exports
     → count_each (count_flagged q is_export) (selected (flag told) i xs) m ≡ count_each (count_step q exports) (selected (flag told) i xs) m
 flagged-exports q told is_export exports i [] m low h = refl
-flagged-exports q told is_export exports i (x ∷ xs) m low h = go (flag told i) (λ l. flagged-exports q told is_export exports (suc i) xs l (omega (arith, low)) h)
+flagged-exports q told is_export exports i (x ∷ xs) m low h =
+    go (flag told i) (λ l. flagged-exports q told is_export exports (suc i) xs l (omega (arith, low)) h)
   where
-    go : (b : Bool) → ((l : Tally) → count_each (count_flagged q is_export) (selected (flag told) (suc i) xs) l ≡ count_each (count_step q exports) (selected (flag told) (suc i) xs) l)
-        → count_each (count_flagged q is_export) (cond b (record { number = i; step = x } ∷ selected (flag told) (suc i) xs) (selected (flag told) (suc i) xs)) m
+    go : (b : Bool) → ((l : Tally) → count_each (count_flagged q is_export) (selected (flag told) (suc i) xs) l ≡ count_each (count_step q exports)
+        (selected (flag told) (suc i) xs) l)
+        → count_each (count_flagged q is_export) (cond b (record { number = i; step = x } ∷ selected (flag told) (suc i) xs) (selected (flag told) (suc i) xs))
+        m
         ≡ count_each (count_step q exports) (cond b (record { number = i; step = x } ∷ selected (flag told) (suc i) xs) (selected (flag told) (suc i) xs)) m
     go false rest = rest m
     go true rest =

@@ -22,10 +22,12 @@ capped-twice most n = omega arith
 pub capped-three : (most a b c : ℕ) → capped most (capped most (capped most a + capped most b) + c) ≡ capped most (a + b + c)
 capped-three most a b c = omega arith
 
-pub capped-five : (most a b i j k x v c d : ℕ) → a ≡ x → b ≡ v → j ≡ capped most c → k ≡ capped most d → capped most (a + b + i + j + k) ≡ capped most (x + v + i + c + d)
+pub capped-five : (most a b i j k x v c d : ℕ) → a ≡ x → b ≡ v → j ≡ capped most c → k ≡ capped most d → capped most (a + b + i + j + k)
+    ≡ capped most (x + v + i + c + d)
 capped-five most a b i j k x v c d e f g h = omega (arith, e, f, g, h)
 
-pub added-IsTally : {trees : Trees} {steps : ℕ} {c : Count} {m : Tally} (n k : ℕ) → capped greatest_length n ≡ capped greatest_length k → IsTally trees steps c m → IsTally trees steps (added n c) (add k m)
+pub added-IsTally : {trees : Trees} {steps : ℕ} {c : Count} {m : Tally} (n k : ℕ) → capped greatest_length n ≡ capped greatest_length k
+    → IsTally trees steps c m → IsTally trees steps (added n c) (add k m)
 added-IsTally {c = c} {m = m} n k e h = record {
   kept = h.kept;
   counted = capped-sum greatest_length c.length n m.length k h.counted e;
@@ -37,7 +39,8 @@ added-IsTally {c = c} {m = m} n k e h = record {
 }
 
 -- two at once
-pub two-IsTally : {trees : Trees} {steps : ℕ} {c : Count} {m : Tally} (a b i j : ℕ) → capped greatest_length a ≡ capped greatest_length i → capped greatest_length b ≡ capped greatest_length j → IsTally trees steps c m
+pub two-IsTally : {trees : Trees} {steps : ℕ} {c : Count} {m : Tally} (a b i j : ℕ) → capped greatest_length a ≡ capped greatest_length i
+    → capped greatest_length b ≡ capped greatest_length j → IsTally trees steps c m
     → IsTally trees steps (added b (added a c)) (add (i + j) m)
 two-IsTally {trees = trees} {steps = steps} {c = c} {m = m} a b i j e f h =
     let two = added-IsTally b j f (added-IsTally a i e h) in
@@ -47,18 +50,23 @@ two-IsTally {trees = trees} {steps = steps} {c = c} {m = m} a b i j e f h =
 pub room-IsTally : {trees : Trees} {steps : ℕ} {c : Count} {m : Tally} (x : Thing) → IsTally trees steps c m → IsThing trees steps x → HasRoom c.keys x
 room-IsTally {trees = trees} {steps = steps} {c = c} x h k =
     subst (λ n. IsOneOf n c.keys.terms c.keys.theorems x) (sym h.types)
-    (subst (λ n. IsOneOf (length trees.types) n c.keys.theorems x) (sym h.terms) (subst (λ n. IsOneOf (length trees.types) (length trees.terms) n x) (sym h.theorems) k))
+    (subst (λ n. IsOneOf (length trees.types) n c.keys.theorems x) (sym h.terms)
+    (subst (λ n. IsOneOf (length trees.types) (length trees.terms) n x) (sym h.theorems) k))
 
 -- the key of a thing is that of what it stands for
-pub key-IsTally : {trees : Trees} {steps : ℕ} {c : Count} {m : Tally} (x : Thing) → IsTally trees steps c m → IsThing trees steps x → thing_key c.keys x ≡ key_in m.kept (kept_at trees x)
-key-IsTally {trees = trees} {steps = steps} {c = c} x h k = sym (key_in-thing trees steps c.keys.things x h.distinct h.things k) ∙ ap (λ l. key_in l (kept_at trees x)) h.kept
+pub key-IsTally : {trees : Trees} {steps : ℕ} {c : Count} {m : Tally} (x : Thing) → IsTally trees steps c m → IsThing trees steps x → thing_key c.keys x
+    ≡ key_in m.kept (kept_at trees x)
+key-IsTally {trees = trees} {steps = steps} {c = c} x h k =
+    sym (key_in-thing trees steps c.keys.things x h.distinct h.things k) ∙ ap (λ l. key_in l (kept_at trees x)) h.kept
 
-pub noted-IsTally : {trees : Trees} {steps : ℕ} {c : Count} {m : Tally} (x : Thing) → IsThing trees steps x → IsTally trees steps c m → IsTally trees steps (noted x c) (note (kept_at trees x) m)
+pub noted-IsTally : {trees : Trees} {steps : ℕ} {c : Count} {m : Tally} (x : Thing) → IsThing trees steps x → IsTally trees steps c m
+    → IsTally trees steps (noted x c) (note (kept_at trees x) m)
 noted-IsTally {trees = trees} {steps = steps} {c = c} {m = m} x k h =
     let many : length c.keys.things ≡ length m.kept = sym (length-map c.keys.things (kept_at trees)) ∙ ap length h.kept in
     record {
       kept = all_kept_at-push trees c.keys.things x ∙ ap (λ l. l ++ kept_at trees x ∷ []) h.kept;
-      counted = capped-sum greatest_length c.length (told_length (length c.keys.things)) m.length (told_length (length m.kept)) h.counted (ap (λ n. capped greatest_length (told_length n)) many);
+      counted = capped-sum greatest_length c.length (told_length (length c.keys.things)) m.length (told_length (length m.kept)) h.counted
+          (ap (λ n. capped greatest_length (told_length n)) many);
       things = All-append (IsThing trees steps) c.keys.things (x ∷ []) h.things (k, tt {0});
       types = h.types;
       terms = h.terms;

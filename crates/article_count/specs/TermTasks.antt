@@ -24,7 +24,8 @@ use Rattle.article_count.specs.Used.{IsPlace, all_capped}
 
 -- what a place adds is noted
 abbrev pub ArePlaces : Trees → ℕ → List Kept → Memo → Type 0
-ArePlaces trees q kept memo = (p : Place) (n : ℕ) → IsNoted memo p n → AreKept kept (term_at trees p.id.0) × (n ≡ capped greatest_length (place_length q kept p.depth (term_at trees p.id.0)))
+ArePlaces trees q kept memo = (p : Place) (n : ℕ) → IsNoted memo p n → AreKept kept (term_at trees p.id.0)
+    × (n ≡ capped greatest_length (place_length q kept p.depth (term_at trees p.id.0)))
 
 -- What is counted is this tally, with q for the names of binders.
 pub record IsTermTally (trees : Trees) (steps q : ℕ) (c : TermCount) (m : Tally) : Type 0 where
@@ -116,25 +117,30 @@ CanWalkTerms trees tasks c lengths = (steps : ℕ) × (q : ℕ) × (final : Tall
 
 -- what is left comes to the same
 abbrev pub WalksTerms : Trees → List TermTask → TermCount → List ℕ → List TermTask → TermCount → List ℕ → Type 0
-WalksTerms trees tasks c lengths rest d more = (steps q : ℕ) (final : Tally) → IsTermWalk trees steps q tasks c lengths final → IsTermWalk trees steps q rest d more final
+WalksTerms trees tasks c lengths rest d more = (steps q : ℕ) (final : Tally) → IsTermWalk trees steps q tasks c lengths final → IsTermWalk trees steps q rest d
+    more final
 
 -- What stands behind the parts of a place's term is counted, and what it adds if its numbers are loose is this length.
-pub record IsFinish (trees : Trees) (steps q : ℕ) (tasks : List TermTask) (p : Place) (length : ℕ) (c : TermCount) (lengths : List ℕ) (final : Tally) : Type 0 where
-  pub before : Tally
-  pub tally : IsTermTally trees steps q c (behind (term_at trees p.id.0) before)
-  pub place : IsPlace trees p
-  pub ready : IsFinishing (term_at trees p.id.0) before
-  pub adds : loose (term_at trees p.id.0) ≢ 0 → length ≡ capped greatest_length (place_length q (term_made (term_at trees p.id.0) before).kept p.depth (term_at trees p.id.0))
-  pub numbers : List ℕ
-  pub held : lengths ≡ all_capped numbers
-  pub rest : AreTermsReady trees q tasks (term_made (term_at trees p.id.0) before) (place_length q (term_made (term_at trees p.id.0) before).kept p.depth (term_at trees p.id.0) ∷ numbers)
-  pub ends : term_tasks trees q tasks (term_made (term_at trees p.id.0) before) ≡ final
+pub record IsFinish (trees : Trees) (steps q : ℕ) (tasks : List TermTask) (p : Place) (length : ℕ) (c : TermCount) (lengths : List ℕ) (final : Tally) : Type 0
+  where
+    pub before : Tally
+    pub tally : IsTermTally trees steps q c (behind (term_at trees p.id.0) before)
+    pub place : IsPlace trees p
+    pub ready : IsFinishing (term_at trees p.id.0) before
+    pub adds : loose (term_at trees p.id.0) ≢ 0 → length
+        ≡ capped greatest_length (place_length q (term_made (term_at trees p.id.0) before).kept p.depth (term_at trees p.id.0))
+    pub numbers : List ℕ
+    pub held : lengths ≡ all_capped numbers
+    pub rest : AreTermsReady trees q tasks (term_made (term_at trees p.id.0) before)
+        (place_length q (term_made (term_at trees p.id.0) before).kept p.depth (term_at trees p.id.0) ∷ numbers)
+    pub ends : term_tasks trees q tasks (term_made (term_at trees p.id.0) before) ≡ final
 
 abbrev pub CanFinish : Trees → Place → ℕ → TermCount → List ℕ → Type 0
 CanFinish trees p length c lengths = (tasks : List TermTask) × (steps : ℕ) × (q : ℕ) × (final : Tally) × IsFinish trees steps q tasks p length c lengths final
 
 abbrev pub Finishes : Trees → Place → ℕ → TermCount → List ℕ → TermCount → List ℕ → Type 0
-Finishes trees p length c lengths d more = (tasks : List TermTask) (steps q : ℕ) (final : Tally) → IsFinish trees steps q tasks p length c lengths final → IsTermWalk trees steps q tasks d more final
+Finishes trees p length c lengths d more = (tasks : List TermTask) (steps q : ℕ) (final : Tally) → IsFinish trees steps q tasks p length c lengths final
+    → IsTermWalk trees steps q tasks d more final
 
 -- how many turns it takes at most
 abbrev pub term_turns : Trees → TermTask → ℕ

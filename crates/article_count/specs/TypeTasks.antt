@@ -16,7 +16,8 @@ use Rattle.article_count.specs.Counts.{IsTally}
 -- the arguments of an operator are counted
 abbrev pub type_made : HolType → Tally → Tally
 type_made (HolType.variable n) m = m
-type_made (HolType.operator n ts) m = note (Kept.type (HolType.operator n ts)) (add (word_length word.Nil + count ts * word_length word.Cons + word_length word.OpType) m)
+type_made (HolType.operator n ts) m = note (Kept.type (HolType.operator n ts))
+    (add (word_length word.Nil + count ts * word_length word.Cons + word_length word.OpType) m)
 
 abbrev pub type_task : Trees → TypeTask → Tally → Tally
 type_task trees (task.Visit id) m = count_type (type_at trees id.0) m
@@ -30,7 +31,8 @@ type_tasks trees (t ∷ ts) m = type_tasks trees ts (type_task trees t m)
 abbrev pub AreTypesReady : Trees → List TypeTask → Tally → Type 0
 AreTypesReady trees [] m = Unit {0}
 AreTypesReady trees (task.Visit id ∷ ts) m = (id.0 < length trees.types) × AreTypesReady trees ts (count_type (type_at trees id.0) m)
-AreTypesReady trees (task.Made id ∷ ts) m = (id.0 < length trees.types) × (key_in m.kept (Kept.type (type_at trees id.0)) ≡ None) × AreTypesReady trees ts (type_made (type_at trees id.0) m)
+AreTypesReady trees (task.Made id ∷ ts) m = (id.0 < length trees.types) × (key_in m.kept (Kept.type (type_at trees id.0)) ≡ None) × AreTypesReady trees ts
+    (type_made (type_at trees id.0) m)
 
 -- what is counted, with what is left to do, comes to this tally
 pub record IsTypeWalk (trees : Trees) (steps : ℕ) (tasks : List TypeTask) (c : Count) (final : Tally) : Type 0 where

@@ -56,8 +56,15 @@ in_limits-All ms x e =
     together (m ∷ ms) e f g =
         let a = and_parts _ _ e in
         let b = and_parts _ _ f in
-        let c = and_parts _ _ g in
-        (record { size = at_most m.size greatest_size a.0; depth = at_most m.depth greatest_depth b.0; parameters = at_most m.parameters greatest_parameter_count c.0 }, together ms a.1 b.1 c.1)
+        let c = and_parts _ _ g in (
+          record {
+            size = at_most m.size greatest_size a.0;
+            depth = at_most m.depth greatest_depth b.0;
+            parameters =
+                at_most m.parameters greatest_parameter_count c.0;
+          },
+          together ms a.1 b.1 c.1,
+        )
 
 pub sequent-within : (s : Sequent) → IsWithin (sequent_measure s) → SequentWithin s
 sequent-within s h = record { size = h.size; depth = h.depth; parameters = h.parameters }

@@ -65,7 +65,8 @@ pub record Grows (N : Name → Type 0) (run : Stage → List Made → List ℕ �
   pub define_const_list : (s : State) (pairs : ConstantPairs) (j : ℕ) → RunHas (of_names N run) s → AllByRecursion (λ q. N q.0 × Unit {0}) pairs
       → AllByRecursion Q (map Made.symbol (map defined (definitions_in pairs (sequent_at s.made j).hypotheses)))
   pub define_type_op : (edition : Version) (names : TypeNames) (j : ℕ) (c : HolType) (f : Term)
-      → N names.operator × N names.abstraction × N names.representation → AllByRecursion IsWithin (type_measures edition names c f) → Q (Made.type_definition names c f j)
+      → N names.operator × N names.abstraction × N names.representation → AllByRecursion IsWithin (type_measures edition names c f)
+      → Q (Made.type_definition names c f j)
 
 module _ (N : Name → Type 0) (run : Stage → List Made → List ℕ → List ℕ → Type 0) (Q : Made → Type 0) (grows : Grows N run Q) where
   abbrev Has : State → Type 0

@@ -109,7 +109,8 @@ any_item (item.Word w) = tt
 reads_anything : Reads (λ bytes. Unit {0}) (λ n. Unit {0})
 reads_anything = record { commands = λ bytes cs line l h. All-each _ cs (λ c k. any_item c.item) }
 
-module _ (i : Invariant) (moves : Moves i) (placed : Placed i) (B : List ℕ → Type 0) (N : Name → Type 0) (reads : Reads B N) (names : (m : List Made) (x : Item) → ItemHas N x → ItemHas (i.parts m).name x) where
+module _ (i : Invariant) (moves : Moves i) (placed : Placed i) (B : List ℕ → Type 0) (N : Name → Type 0) (reads : Reads B N)
+    (names : (m : List Made) (x : Item) → ItemHas N x → ItemHas (i.parts m).name x) where
   obey_all-keeps : (cs : List Command) (s t : State) → AreOfItems N cs → Holds i s → obey_all machine s cs ≡ Ok t → Holds i t
   obey_all-keeps [] s t h g e = let f : s ≡ t = cc in subst (Holds i) f g
   obey_all-keeps (c ∷ cs) s t h g e =

@@ -9,7 +9,15 @@ use Rattle.article_spec.specs.Lines.{newline, EndedLine, IsLine, OpenLine, Opens
 -- a text that begins with an ended line still does so with more behind it
 EndedLine-append : {o : ℕ} {text line rest : List ℕ} {says : Content} → EndedLine o text line rest says → (more : List ℕ)
     → EndedLine o (text ++ more) line (rest ++ more) says
-EndedLine-append {line = line} {rest = rest} h more = record { is = ap (λ xs. xs ++ more) h.is ∙ append_assoc line (newline ∷ rest) more; one_line = h.one_line; short = h.short; within = h.within; means = h.means }
+EndedLine-append {line = line} {rest = rest} h more =
+    record {
+      is = ap (λ xs. xs ++ more) h.is ∙ append_assoc line (newline ∷ rest) more;
+      one_line = h.one_line;
+      short = h.short;
+      within = h.within;
+      means =
+          h.means;
+    }
 
 -- the open line and what follows it open a further line
 pub opens_then : {n o m p q r : ℕ} {text line rest : List ℕ} {commands others : List Command} → Opens n o text commands m p line → (more : List ℕ)
@@ -29,8 +37,30 @@ stops_then (gives h on) more k = gives_on (EndedLine-append h more) (stops_then 
 pub Stops-append : {n o m : ℕ} {text : List ℕ} {commands : List Command} {k : Kind} → Stops n o text commands m k → (more : List ℕ)
     → Stops n o (text ++ more) commands m k
 Stops-append (faults h) more = faults (EndedLine-append h more)
-Stops-append (long_line h) more = long_line (record { line = h.line; byte = h.byte; more = h.more ++ more; is = ap (λ xs. xs ++ more) h.is ∙ append_assoc h.line (h.byte ∷ h.more) more; one_line = h.one_line; other = h.other; full = h.full; within = h.within })
-Stops-append (long_article h) more = long_article (record { line = h.line; byte = h.byte; more = h.more ++ more; is = ap (λ xs. xs ++ more) h.is ∙ append_assoc h.line (h.byte ∷ h.more) more; one_line = h.one_line; short = h.short; first = h.first; full = h.full })
+Stops-append (long_line h) more = long_line
+    (record {
+      line = h.line;
+      byte = h.byte;
+      more = h.more ++ more;
+      is = ap (λ xs. xs ++ more) h.is ∙ append_assoc h.line (h.byte ∷ h.more) more;
+      one_line =
+          h.one_line;
+      other = h.other;
+      full = h.full;
+      within = h.within;
+    })
+Stops-append (long_article h) more = long_article
+    (record {
+      line = h.line;
+      byte = h.byte;
+      more = h.more ++ more;
+      is = ap (λ xs. xs ++ more) h.is ∙ append_assoc h.line (h.byte ∷ h.more) more;
+      one_line =
+          h.one_line;
+      short = h.short;
+      first = h.first;
+      full = h.full;
+    })
 Stops-append (skips_on h on) more = skips_on (EndedLine-append h more) (Stops-append on more)
 Stops-append (gives_on h on) more = gives_on (EndedLine-append h more) (Stops-append on more)
 

@@ -108,7 +108,8 @@ module _ (p : Parts) where
       (list_of-gives (pair_of as_variable as_term) IsTermPair (pair_of-gives as_variable as_term p.variable p.term variable-gives term-gives))
 
   pub constant_pairs-gives : Gives as_constant_pairs (AllByRecursion IsConstantPair)
-  constant_pairs-gives = list_of-gives (pair_of as_name as_variable) IsConstantPair (pair_of-gives as_name as_variable p.name p.variable name-gives variable-gives)
+  constant_pairs-gives = list_of-gives (pair_of as_name as_variable) IsConstantPair
+      (pair_of-gives as_name as_variable p.name p.variable name-gives variable-gives)
 
   -- What stands on top has the property, and the rest is of such objects.
   pub pop-gives : {A : Type 0} (as_one : Object → Result A Kind) (P : A → Type 0) → Gives as_one P → (xs : List Object) (r : A × List Object)

@@ -50,7 +50,8 @@ scan-line [] text n o line h s w = rw append-nil refl
 scan-line (b ∷ front) text n o line h s w =
     choose (not (b == newline) && (length line == max_line)) (o + length line == max_article) (b == newline) _ _ _ _ _
     (λ p. absurd (grind (arith, common_steps))) (λ p q. absurd (grind (arith, common_steps))) (λ p q r. absurd (h.0 (eqb-true b newline r)))
-    (λ p q r. scan-line front text n o (line ++ b ∷ []) h.1 (omega (arith, length-append line (b ∷ []))) (omega (arith, length-append line (b ∷ []))) ∙ ap (scan text n o) (append_assoc line (b ∷ []) front))
+    (λ p q r. scan-line front text n o (line ++ b ∷ []) h.1 (omega (arith, length-append line (b ∷ []))) (omega (arith, length-append line (b ∷ [])))
+    ∙ ap (scan text n o) (append_assoc line (b ∷ []) front))
 
 scan-newline_byte : (b : ℕ) (more : List ℕ) (n o : ℕ) (line : List ℕ) → b ≡ newline → o + length line < max_article
     → scan (b ∷ more) n o line ≡ after_line n (content line) (scan more (n + 1) (o + length line + 1) [])
@@ -67,7 +68,8 @@ scan-full : (b : ℕ) (more : List ℕ) (n o : ℕ) (line : List ℕ) → (lengt
     → scan (b ∷ more) n o line ≡ at_fault [] n kind.InputTooLong
 scan-full b more n o line first full =
     choose (not (b == newline) && (length line == max_line)) (o + length line == max_article) (b == newline) _ _ _ _ _
-    (λ p. absurd (grind (arith, common_steps, first))) (λ p q. refl) (λ p q r. absurd (grind (arith, common_steps))) (λ p q r. absurd (grind (arith, common_steps)))
+    (λ p. absurd (grind (arith, common_steps, first))) (λ p q. refl) (λ p q r. absurd (grind (arith, common_steps)))
+    (λ p q r. absurd (grind (arith, common_steps)))
 
 -- an ended line is scanned first
 scan-ended : {o : ℕ} {text line more : List ℕ} {says : Content} → EndedLine o text line more says → (n : ℕ)
@@ -77,14 +79,17 @@ scan-ended {o = o} {line = line} {more = more} h n =
     ∙ scan-newline_byte newline more n o line refl h.within ∙ ap (λ c. after_line n c (scan more (n + 1) (o + length line + 1) [])) h.means
 
 scan-opens : {n o m p : ℕ} {text line : List ℕ} {commands : List Command} → Opens n o text commands m p line → scan text n o [] ≡ at_line commands m p line
-scan-opens {n = n} {o = o} (open_line {line = line} h) = ap (λ t. scan t n o []) (sym (append-nil line)) ∙ scan-line line [] n o [] h.one_line (omega (arith, h.short)) (omega (arith, h.within))
+scan-opens {n = n} {o = o} (open_line {line = line} h) =
+    ap (λ t. scan t n o []) (sym (append-nil line)) ∙ scan-line line [] n o [] h.one_line (omega (arith, h.short)) (omega (arith, h.within))
 scan-opens {n = n} (skips h on) = scan-ended h n ∙ scan-opens on
 scan-opens {n = n} (gives {i = i} h on) = scan-ended h n ∙ ap (before (command_at n i)) (scan-opens on)
 
 scan-stops : {n o m : ℕ} {text : List ℕ} {commands : List Command} {k : Kind} → Stops n o text commands m k → scan text n o [] ≡ at_fault commands m k
 scan-stops {n = n} (faults h) = scan-ended h n
-scan-stops {n = n} {o = o} (long_line h) = ap (λ t. scan t n o []) h.is ∙ scan-line h.line (h.byte ∷ h.more) n o [] h.one_line (omega (arith, h.full)) (omega (arith, h.full, h.within)) ∙ scan-long h.byte h.more n o h.line h.other h.full
-scan-stops {n = n} {o = o} (long_article h) = ap (λ t. scan t n o []) h.is ∙ scan-line h.line (h.byte ∷ h.more) n o [] h.one_line (omega (arith, h.short)) (omega (arith, h.full)) ∙ scan-full h.byte h.more n o h.line h.first h.full
+scan-stops {n = n} {o = o} (long_line h) = ap (λ t. scan t n o []) h.is ∙ scan-line h.line (h.byte ∷ h.more) n o [] h.one_line (omega (arith, h.full))
+    (omega (arith, h.full, h.within)) ∙ scan-long h.byte h.more n o h.line h.other h.full
+scan-stops {n = n} {o = o} (long_article h) = ap (λ t. scan t n o []) h.is ∙ scan-line h.line (h.byte ∷ h.more) n o [] h.one_line (omega (arith, h.short))
+    (omega (arith, h.full)) ∙ scan-full h.byte h.more n o h.line h.first h.full
 scan-stops {n = n} (skips_on h on) = scan-ended h n ∙ scan-stops on
 scan-stops {n = n} (gives_on {i = i} h on) = scan-ended h n ∙ ap (before (command_at n i)) (scan-stops on)
 
@@ -103,7 +108,8 @@ reading (at_fault commands n k) = (commands, refused n k)
 
 reading-lines : {text : List ℕ} {commands : List Command} {e : End} → Lines text commands e → reading (scan text 1 0 []) ≡ (commands, e)
 reading-lines (last_skipped {commands = commands} {n = n} h says) = ap reading (scan-opens h) ∙ ap (last_line commands n) says
-reading-lines (last_gives {commands = commands} {n = n} h says all) = ap reading (scan-opens h) ∙ ap (last_line commands n) says ∙ ap (λ (cs : List Command). (cs, ended n)) (sym all)
+reading-lines (last_gives {commands = commands} {n = n} h says all) =
+    ap reading (scan-opens h) ∙ ap (last_line commands n) says ∙ ap (λ (cs : List Command). (cs, ended n)) (sym all)
 reading-lines (last_faults {commands = commands} {n = n} h says) = ap reading (scan-opens h) ∙ ap (last_line commands n) says
 reading-lines (stops h) = ap reading (scan-stops h)
 
@@ -131,19 +137,51 @@ by_tests false false false f g h k = k refl refl refl
 past_line : (b : ℕ) (o : ℕ) (line text : List ℕ) → OpenLine o line → (not (b == newline) && (length line == max_line)) ≡ true → LongLine o (line ++ b ∷ text)
 past_line b o line text h p =
     let full : length line ≡ max_line = grind (arith, common_steps) in
-    record { line = line; byte = b; more = text; is = refl; one_line = h.one_line; other = grind (arith, common_steps); full = full; within = omega (arith, h.within, full) }
+    record {
+      line = line;
+      byte = b;
+      more = text;
+      is = refl;
+      one_line = h.one_line;
+      other = grind (arith, common_steps);
+      full = full;
+      within =
+          omega (arith, h.within, full);
+    }
 
 past_article : (b : ℕ) (o : ℕ) (line text : List ℕ) → OpenLine o line → (not (b == newline) && (length line == max_line)) ≡ false
     → (o + length line == max_article) ≡ true → LongArticle o (line ++ b ∷ text)
-past_article b o line text h p q = record { line = line; byte = b; more = text; is = refl; one_line = h.one_line; short = h.short; first = λ full. grind (arith, common_steps); full = eqb-true (o + length line) max_article q }
+past_article b o line text h p q = record {
+  line = line;
+  byte = b;
+  more = text;
+  is = refl;
+  one_line = h.one_line;
+  short = h.short;
+  first = λ full. grind (arith, common_steps);
+  full =
+      eqb-true (o + length line) max_article q;
+}
 
 with_byte : (b : ℕ) (o : ℕ) (line : List ℕ) → OpenLine o line → (not (b == newline) && (length line == max_line)) ≡ false
     → (o + length line == max_article) ≡ false → (b == newline) ≡ false → OpenLine o (line ++ b ∷ [])
-with_byte b o line h p q r = record { one_line = IsLine-push b (λ e. grind (arith, common_steps)) line h.one_line; short = grind (arith, common_steps, h.short); within = grind (arith, common_steps, h.within) }
+with_byte b o line h p q r = record {
+  one_line = IsLine-push b (λ e. grind (arith, common_steps)) line h.one_line;
+  short = grind (arith, common_steps, h.short);
+  within =
+      grind (arith, common_steps, h.within);
+}
 
 ended_by : (b : ℕ) (o : ℕ) (line text : List ℕ) → OpenLine o line → (o + length line == max_article) ≡ false → (b == newline) ≡ true
     → EndedLine o (line ++ b ∷ text) line text (content line)
-ended_by b o line text h q r = record { is = ap (λ x. line ++ x ∷ text) (eqb-true b newline r); one_line = h.one_line; short = h.short; within = grind (arith, common_steps, h.within); means = refl }
+ended_by b o line text h q r = record {
+  is = ap (λ x. line ++ x ∷ text) (eqb-true b newline r);
+  one_line = h.one_line;
+  short = h.short;
+  within = grind (arith, common_steps, h.within);
+  means =
+      refl;
+}
 
 goes_on : (text : List ℕ) (n o : ℕ) (line : List ℕ) → OpenLine o line → GoesOn n o (line ++ text)
 goes_on [] n o line h = subst (GoesOn n o) (sym (append-nil line)) (to_line (open_line h))
@@ -152,7 +190,8 @@ goes_on (b ∷ text) n o line h =
     (λ p. to_fault (long_line (past_line b o line text h p)))
     (λ p q. to_fault (long_article (past_article b o line text h p q)))
     (λ p q r. let e = ended_by b o line text h q r in
-    after_ended (content line) e (goes_on text (n + 1) (o + length line + 1) [] (record { one_line = tt; short = omega arith; within = omega (arith, e.within) })))
+    after_ended (content line) e
+    (goes_on text (n + 1) (o + length line + 1) [] (record { one_line = tt; short = omega arith; within = omega (arith, e.within) })))
     (λ p q r. subst (GoesOn n o) (append_assoc line (b ∷ []) text) (goes_on text n o (line ++ b ∷ []) (with_byte b o line h p q r)))
 
 -- a reading as it was found
@@ -201,7 +240,8 @@ record ReadsAfter (text : List ℕ) (commands : List Command) : Type 0 where
 last_after : {text line : List ℕ} {n o : ℕ} (commands others : List Command) (says : Content) → Opens 1 0 text (commands ++ others) n o line
     → content line ≡ says → ReadsAfter text commands
 last_after {n = n} commands others skipped h e = record { rest = others; end = ended n; read = last_skipped h e }
-last_after {n = n} commands others (command i) h e = record { rest = others ++ command_at n i ∷ []; end = ended n; read = last_gives h e (sym (append_assoc commands others (command_at n i ∷ []))) }
+last_after {n = n} commands others (command i) h e =
+    record { rest = others ++ command_at n i ∷ []; end = ended n; read = last_gives h e (sym (append_assoc commands others (command_at n i ∷ []))) }
 last_after {n = n} commands others (faulty k) h e = record { rest = others; end = refused n k; read = last_faults h e }
 
 found_after : {text line : List ℕ} {n o : ℕ} {commands : List Command} → Opens 1 0 text commands n o line → (more : List ℕ) → GoesOn n o (line ++ more)

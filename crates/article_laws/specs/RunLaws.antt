@@ -35,9 +35,11 @@ module _ (by : Obeys) where
       → obey_article by s r.commands r.end ≡ Err (line, kind) → (o : Outcome) → RunsFrom by k s (bytes ∷ rest) o → o ≡ refused_at k line kind
   unfolding refusal_or
   after_stop k line kind s bytes rest r e o (passed {next = t} {commands = cs} {end = x} l p h) =
-      let f : ◌≡◌ {A = Result State (ℕ × Kind)} (Ok t) (Err (line, kind)) = same_answer s r.commands cs r.end x (Err (line, kind)) (Ok t) (r.only cs x l).0 (r.only cs x l).1 e p in absurd (cc)
+      let f : ◌≡◌ {A = Result State (ℕ × Kind)} (Ok t) (Err (line, kind)) =
+      same_answer s r.commands cs r.end x (Err (line, kind)) (Ok t) (r.only cs x l).0 (r.only cs x l).1 e p in absurd (cc)
   after_stop k line kind s bytes rest r e o (stopped {line = n} {kind = m} {commands = cs} {end = x} l p h) =
-      let f : ◌≡◌ {A = Result State (ℕ × Kind)} (Err (n, m)) (Err (line, kind)) = same_answer s r.commands cs r.end x (Err (line, kind)) (Err (n, m)) (r.only cs x l).0 (r.only cs x l).1 e p in
+      let f : ◌≡◌ {A = Result State (ℕ × Kind)} (Err (n, m)) (Err (line, kind)) =
+      same_answer s r.commands cs r.end x (Err (line, kind)) (Err (n, m)) (r.only cs x l).0 (r.only cs x l).1 e p in
       h ∙ ap (refusal_or k (refused_at k line kind)) f
 
   after_pass : (k : ℕ) (s t : State) (bytes : List ℕ) (rest : List (List ℕ)) (r : HasOneReading bytes) (one : OneFrom (k + 1) t rest)
@@ -47,12 +49,15 @@ module _ (by : Obeys) where
       let f : ◌≡◌ {A = Result State (ℕ × Kind)} (Ok u) (Ok t) = same_answer s r.commands cs r.end x (Ok t) (Ok u) (r.only cs x l).0 (r.only cs x l).1 e p in
       one.only o (subst (λ v. RunsFrom by (k + 1) v rest o) (ap (state_or s) f) h)
   after_pass k s t bytes rest r one e o (stopped {line = n} {kind = m} {commands = cs} {end = x} l p h) =
-      let f : ◌≡◌ {A = Result State (ℕ × Kind)} (Err (n, m)) (Ok t) = same_answer s r.commands cs r.end x (Ok t) (Err (n, m)) (r.only cs x l).0 (r.only cs x l).1 e p in absurd (cc)
+      let f : ◌≡◌ {A = Result State (ℕ × Kind)} (Err (n, m)) (Ok t) =
+      same_answer s r.commands cs r.end x (Ok t) (Err (n, m)) (r.only cs x l).0 (r.only cs x l).1 e p in absurd (cc)
 
   one_more : (k : ℕ) (s : State) (bytes : List ℕ) (rest : List (List ℕ)) (r : HasOneReading bytes) (a : Result State (ℕ × Kind))
       → obey_article by s r.commands r.end ≡ a → ((t : State) → OneFrom (k + 1) t rest) → OneFrom k s (bytes ∷ rest)
-  one_more k s bytes rest r (Ok t) e one = record { outcome = (one t).outcome; runs = passed r.read e (one t).runs; only = after_pass k s t bytes rest r (one t) e }
-  one_more k s bytes rest r (Err refusal) e one = record { outcome = refused_at k refusal.0 refusal.1; runs = stopped r.read e refl; only = after_stop k refusal.0 refusal.1 s bytes rest r e }
+  one_more k s bytes rest r (Ok t) e one = record
+      { outcome = (one t).outcome; runs = passed r.read e (one t).runs; only = after_pass k s t bytes rest r (one t) e }
+  one_more k s bytes rest r (Err refusal) e one = record
+      { outcome = refused_at k refusal.0 refusal.1; runs = stopped r.read e refl; only = after_stop k refusal.0 refusal.1 s bytes rest r e }
 
   one_from : ((bytes : List ℕ) → HasOneReading bytes) → (k : ℕ) (s : State) (articles : List (List ℕ)) → OneFrom k s articles
   one_from readings k s [] = record { outcome = accepted (accepted_state s); runs = finished refl; only = after_end k s }

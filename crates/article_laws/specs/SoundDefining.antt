@@ -70,7 +70,13 @@ definitions_of-taken made ds = definitions_of-append made (map Made.symbol (map 
 all-second : {A : Type 0} (xs ys : List A) → AllByRecursion (IsAmong (xs ++ ys)) ys
 all-second xs [] = tt
 all-second xs (y ∷ ys) = (
-  (length xs, ((let long : length (xs ++ y ∷ ys) ≡ length xs + length (y ∷ ys) = length-append xs (y ∷ ys) in omega (arith, long)), sym (get_or-append_seam xs y ys y))),
+  (
+    length xs,
+    (
+      (let long : length (xs ++ y ∷ ys) ≡ length xs + length (y ∷ ys) = length-append xs (y ∷ ys) in omega (arith, long)),
+      sym (get_or-append_seam xs y ys y),
+    ),
+  ),
   subst (λ zs. AllByRecursion (IsAmong zs) ys) (append_assoc xs (y ∷ []) ys) (all-second (xs ++ y ∷ []) ys),
 )
 
@@ -95,10 +101,18 @@ define_const-sound s n u x g h e within =
     let a = bound (typed u) _ x closed.2 in
     let variables = passed (demand (has_type_variables_of a.0 u) ExtraTypeVars) _ x a.2 in
     let d = Definition.constant n u in
-    let defining : IsDefining a.0 u = record { typed = typed-is u a.0 a.1; closed = demanded (is_closed u) NotClosed closed.0 closed.1; variables = demanded (has_type_variables_of a.0 u) ExtraTypeVars variables.0 variables.1 } in
+    let defining : IsDefining a.0 u = record {
+      typed = typed-is u a.0 a.1;
+      closed = demanded (is_closed u) NotClosed closed.0 closed.1;
+      variables =
+          demanded (has_type_variables_of a.0 u) ExtraTypeVars variables.0 variables.1;
+    } in
     let s1 = with_constants s (d ∷ []) in
-    let sound : HasSoundRun s1 = symbols-more s.made s.exports s.assumptions (defined d ∷ []) g
-    ((tt {0}, taking.Takes.constant (not-true (is_taken_constant symbols n) (demanded (not (is_taken_constant symbols n)) NameTaken new.0 new.1)) defining), h.taken, tt {0}) in
+    let sound : HasSoundRun s1 = symbols-more s.made s.exports s.assumptions (defined d ∷ []) g (
+      (tt {0}, taking.Takes.constant (not-true (is_taken_constant symbols n) (demanded (not (is_taken_constant symbols n)) NameTaken new.0 new.1)) defining),
+      h.taken,
+      tt {0},
+    ) in
     let f = the_step s1.made _ x variables.2 (record {
       next = record {
         premises = [];
@@ -164,7 +178,8 @@ all-still-new symbols m t (n ∷ ns) e f =
 -- the constants of a list are taken one after another
 listed-taken : (d : Variable → Option Term) → ((v : Variable) (t : Term) → d v ≡ Some t → IsDefining v.1 t) → (ps : ConstantPairs) (m : List Made)
     → ((v : Variable) (t : Term) → d v ≡ Some t → TermTaken (symbols_of m) t)
-    → list_all (λ v. is_some (d v)) (variables_of ps) ≡ true → list_any (is_taken_constant (symbols_of m)) (names_of ps) ≡ false → no_repeats name_eq (names_of ps) ≡ true
+    → list_all (λ v. is_some (d v)) (variables_of ps) ≡ true → list_any (is_taken_constant (symbols_of m)) (names_of ps) ≡ false
+    → no_repeats name_eq (names_of ps) ≡ true
     → AreTakenAfter m (map defined (filter_map (λ p. option_map (Definition.constant p.0) (d p.1)) ps))
 listed-taken d defining [] m taken e new apart = tt
 listed-taken d defining (p ∷ ps) m taken e new apart = go (d p.1) (defining p.1) (taken p.1) e (λ n f g. listed-taken d defining ps n f g)
@@ -172,10 +187,13 @@ listed-taken d defining (p ∷ ps) m taken e new apart = go (d p.1) (defining p.
     rest : List Definition
     rest = filter_map (λ p. option_map (Definition.constant p.0) (d p.1)) ps
 
-    go : (o : Option Term) → ((t : Term) → o ≡ Some t → IsDefining p.1.1 t) → ((t : Term) → o ≡ Some t → TermTaken (symbols_of m) t) → (is_some o && list_all (λ v. is_some (d v)) (variables_of ps)) ≡ true
-        → ((n : List Made) → ((v : Variable) (t : Term) → d v ≡ Some t → TermTaken (symbols_of n) t) → list_all (λ v. is_some (d v)) (variables_of ps) ≡ true → list_any (is_taken_constant (symbols_of n)) (names_of ps) ≡ false → no_repeats name_eq (names_of ps) ≡ true
+    go : (o : Option Term) → ((t : Term) → o ≡ Some t → IsDefining p.1.1 t) → ((t : Term) → o ≡ Some t → TermTaken (symbols_of m) t)
+        → (is_some o && list_all (λ v. is_some (d v)) (variables_of ps)) ≡ true
+        → ((n : List Made) → ((v : Variable) (t : Term) → d v ≡ Some t → TermTaken (symbols_of n) t) → list_all (λ v. is_some (d v)) (variables_of ps) ≡ true
+        → list_any (is_taken_constant (symbols_of n)) (names_of ps) ≡ false → no_repeats name_eq (names_of ps) ≡ true
         → AreTakenAfter n (map defined (filter_map (λ p. option_map (Definition.constant p.0) (d p.1)) ps)))
-        → AreTakenAfter m (map defined (cons_option (option_map (Definition.constant p.0) o) (filter_map (λ p. option_map (Definition.constant p.0) (d p.1)) ps)))
+        → AreTakenAfter m
+        (map defined (cons_option (option_map (Definition.constant p.0) o) (filter_map (λ p. option_map (Definition.constant p.0) (d p.1)) ps)))
     go None f h e later = absurd (cc)
     go (Some t) f h e later =
         let x = defined (Definition.constant p.0 t) in
@@ -185,10 +203,12 @@ listed-taken d defining (p ∷ ps) m taken e new apart = go (d p.1) (defining p.
           (tt {0}, taking.Takes.constant a.0 (f t refl)),
           h t refl,
           later (m ++ Made.symbol x ∷ []) (λ v u k. subst (λ xs. TermTaken xs u) (sym symbols) (term-more (symbols_of m) (x ∷ []) u (taken v u k))) e
-              (subst (λ xs. list_any (is_taken_constant xs) (names_of ps) ≡ false) (sym symbols) (all-still-new (symbols_of m) p.0 t (names_of ps) a.1 (not-true (is_in name_eq p.0 (names_of ps)) b.0))) b.1,
+              (subst (λ xs. list_any (is_taken_constant xs) (names_of ps) ≡ false) (sym symbols)
+              (all-still-new (symbols_of m) p.0 t (names_of ps) a.1 (not-true (is_in name_eq p.0 (names_of ps)) b.0))) b.1,
         )
 
-together : (symbols : List Symbol) (es : TermPairs) → AllByRecursion (Defines symbols) es → list_all (λ (e : Variable × Term). is_closed e.1) es ≡ true → list_all (λ (e : Variable × Term). has_type_variables_of e.0.1 e.1) es ≡ true
+together : (symbols : List Symbol) (es : TermPairs) → AllByRecursion (Defines symbols) es → list_all (λ (e : Variable × Term). is_closed e.1) es ≡ true
+    → list_all (λ (e : Variable × Term). has_type_variables_of e.0.1 e.1) es ≡ true
     → AllByRecursion (λ (e : Variable × Term). IsDefining e.0.1 e.1) es
 together symbols [] h c v = tt
 together symbols (e ∷ es) h c v =
@@ -209,14 +229,17 @@ define_const_list-sound s pairs i x g k l e within =
     let list = passed (demand (is_definition_list pairs one) BadDefinitionList) _ x variables.2 in
     let is = sequent_at-IsSequent s i g l in
     let over = said-taken s i g l in
-    let defines : AllByRecursion (Defines symbols) equations = All-filter (Defines symbols) (λ e. is_in variable_eq e.0 (variables_of pairs)) (filter_map variable_equation one.hypotheses) (equations-All symbols one.hypotheses is.hypotheses over.hypotheses) in
+    let defines : AllByRecursion (Defines symbols) equations =
+    All-filter (Defines symbols) (λ e. is_in variable_eq e.0 (variables_of pairs)) (filter_map variable_equation one.hypotheses)
+    (equations-All symbols one.hypotheses is.hypotheses over.hypotheses) in
     let defining = together symbols equations defines (demanded _ NotClosed closed.0 closed.1) (demanded _ ExtraTypeVars variables.0 variables.1) in
     let good = demanded (is_definition_list pairs one) BadDefinitionList list.0 list.1 in
     let parts = list_parts pairs one good in
     let ds = definitions_in pairs one.hypotheses in
     let s1 = with_constants s ds in
     let sound : HasSoundRun s1 = symbols-more s.made s.exports s.assumptions (map defined ds) g
-    (listed-taken (definiens pairs one.hypotheses) (λ v u f. lookup-All (λ e. IsDefining e.0.1 e.1) equations v u defining f) pairs s.made (λ v u f. (lookup-All (Defines symbols) equations v u defines f).taken)
+    (listed-taken (definiens pairs one.hypotheses) (λ v u f. lookup-All (λ e. IsDefining e.0.1 e.1) equations v u defining f) pairs s.made
+    (λ v u f. (lookup-All (Defines symbols) equations v u defines f).taken)
     parts.defined (not-true (list_any (is_taken_constant symbols) (names_of pairs)) (demanded _ NameTaken new.0 new.1)) parts.names) in
     let f = the_step s1.made _ x list.2 (record {
       next = record {
@@ -225,7 +248,8 @@ define_const_list-sound s pairs i x g k l e within =
         rule = rule.Rule.define_const_list defining good refl;
         defined = are-defined s.made ds;
         parameters = subst (λ xs. AllByRecursion (λ (q : Name × Variable). TypeTaken xs q.1.1) pairs) (sym (symbols_of-symbols s.made (map defined ds)))
-            (All-weaker (IsConstantPair s.made) (λ q. TypeTaken (symbols ++ map defined ds) q.1.1) (λ q j. type-more symbols (map defined ds) q.1.1 j.1.0) pairs k);
+            (All-weaker (IsConstantPair s.made) (λ q. TypeTaken (symbols ++ map defined ds) q.1.1) (λ q j. type-more symbols (map defined ds) q.1.1 j.1.0) pairs
+            k);
         law = tt {0};
       };
       inference = refl;
@@ -285,27 +309,54 @@ made_of_type-sound : (version : Version) (s : State) (names : TypeNames) (i : �
 made_of_type-sound version s names i c f u g l new fit alone is typed within =
     let symbols = symbols_of s.made in
     let one = sequent_at s.made i in
-    let definition : IsTypeDefinition names c f one = record { witness = u; no_hypotheses = alone; holds = is; typed = typed; closed = fit.closed; variables = fit.names } in
+    let definition : IsTypeDefinition names c f one =
+    record { witness = u; no_hypotheses = alone; holds = is; typed = typed; closed = fit.closed; variables = fit.names } in
     let application : TermTaken symbols (app f u) = subst (TermTaken symbols) is (said-taken s i g l).conclusion in
     let d = Definition.type_operator names c f in
     let m = Made.type_definition names c f i in
     let s1 = with_type_definition s names c f i in
     let sound : HasSoundRun s1 = definition-more s.made s.exports s.assumptions names c f i g
-    (record { one = one; at = at_step s.made i l; defines = definition; taken = taking.Takes.type_operator new (predicate-typed names c f one definition (sequent_at-IsSequent s i g l).conclusion) fit.closed fit.names })
+    (record {
+      one = one;
+      at = at_step s.made i l;
+      defines = definition;
+      taken =
+          taking.Takes.type_operator new (predicate-typed names c f one definition (sequent_at-IsSequent s i g l).conclusion) fit.closed fit.names;
+    })
     (type_of-taken symbols u c application.1 typed, application.0) in
     let first = step_by by_rule.FirstLaw (i ∷ []) (Parameters.type_operator names version) (first_law_of version names c) in
     let second = step_by by_rule.SecondLaw (i ∷ []) (Parameters.type_operator names version) (second_law_of version names c f) in
     let premise = premise-more s.made (m ∷ []) i one (at_step s.made i l) in
     let made1 : IsAmong s1.made m = (all-second s.made (m ∷ [])).0 in
-    let among : IsAmong (definitions_of s1.made) d = subst (λ es. IsAmong es d) (sym (definitions_of-append s.made (m ∷ []))) (all-second (definitions_of s.made) (d ∷ [])).0 in
+    let among : IsAmong (definitions_of s1.made) d =
+    subst (λ es. IsAmong es d) (sym (definitions_of-append s.made (m ∷ []))) (all-second (definitions_of s.made) (d ∷ [])).0 in
     let s2 = with_step s1 first in
     let sound2 : HasSoundRun s2 = infer-more s1.made s.exports s.assumptions first sound
-    (record { premises = one ∷ []; earlier = (premise, tt {0}); rule = first_rule version names c f one definition; defined = used s1.made names c f u one.conclusion is typed among; parameters = tt {0}; law = record { c = c; f = f; number = i; among = made1; is = refl } }) refl
+    (record {
+      premises = one ∷ [];
+      earlier = (premise, tt {0});
+      rule = first_rule version names c f one definition;
+      defined =
+          used s1.made names c f u one.conclusion is typed among;
+      parameters = tt {0};
+      law = record { c = c; f = f; number = i; among = made1; is = refl };
+    })
+    refl
     (sequent-within (first_law_of version names c) within.1.1.1.0) in
-    let among2 : IsAmong (definitions_of s2.made) d = subst (λ es. IsAmong es d) (sym (definitions_of-append s1.made (Made.step first ∷ []))) (among-front (definitions_of s1.made) [] d among) in
+    let among2 : IsAmong (definitions_of s2.made) d =
+    subst (λ es. IsAmong es d) (sym (definitions_of-append s1.made (Made.step first ∷ []))) (among-front (definitions_of s1.made) [] d among) in
     let made2 : IsAmong s2.made m = among-front s1.made (Made.step first ∷ []) m made1 in
     infer-more s2.made s.exports s.assumptions second sound2
-    (record { premises = one ∷ []; earlier = (premise-more s1.made (Made.step first ∷ []) i one premise, tt {0}); rule = second_rule version names c f one definition; defined = used s2.made names c f u one.conclusion is typed among2; parameters = tt {0}; law = record { c = c; f = f; number = i; among = made2; is = refl } }) refl
+    (record {
+      premises = one ∷ [];
+      earlier = (premise-more s1.made (Made.step first ∷ []) i one premise, tt {0});
+      rule =
+          second_rule version names c f one definition;
+      defined = used s2.made names c f u one.conclusion is typed among2;
+      parameters = tt {0};
+      law =
+          record { c = c; f = f; number = i; among = made2; is = refl };
+    }) refl
     (sequent-within (second_law_of version names c f) within.1.1.1.1.0)
 
 -- what the definition of a type operator makes, with what is judged of it
@@ -321,7 +372,8 @@ pub record TypeMade (version : Version) (made : List Made) (names : TypeNames) (
   pub typed : HasType witness c
   pub within : AllByRecursion IsWithin (type_measures version names c f)
 
-pub type_laws-made : (version : Version) (made : List Made) (names : TypeNames) (i : ℕ) (x : NewType) → type_laws version made names i ≡ Ok x → TypeMade version made names i x
+pub type_laws-made : (version : Version) (made : List Made) (names : TypeNames) (i : ℕ) (x : NewType) → type_laws version made names i ≡ Ok x
+    → TypeMade version made names i x
 type_laws-made version made names i x e =
     let one = sequent_at made i in
     let new = passed (are_new_names (symbols_of made) names) _ x e in
@@ -351,4 +403,5 @@ pub define_type_op-sound : (s : State) (names : TypeNames) (i : ℕ) (x : NewTyp
     → type_laws (version_at s.place) s.made names i ≡ Ok x → HasSoundRun (with_type s x)
 define_type_op-sound s names i x g l e =
     let y = type_laws-made (version_at s.place) s.made names i x e in
-    subst (λ z. HasSoundRun (with_type s z)) (sym y.is) (made_of_type-sound (version_at s.place) s names i y.c y.f y.witness g l y.new y.fits y.alone y.says y.typed y.within)
+    subst (λ z. HasSoundRun (with_type s z)) (sym y.is)
+    (made_of_type-sound (version_at s.place) s names i y.c y.f y.witness g l y.new y.fits y.alone y.says y.typed y.within)

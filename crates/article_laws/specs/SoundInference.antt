@@ -107,7 +107,16 @@ module _ (s : State) (g : HasSoundRun s) where
   on_none : (x y : Step) → ◌≡◌ {A = Result Step Kind} (Ok x) (Ok y) → infers x.kind ≡ true → x.premises ≡ [] → Rule x.kind [] x.parameters x.sequent
       → definitions_used x.kind [] x.parameters ≡ [] → ParametersTaken (symbols_of s.made) x.parameters → Follows s.made y
   on_none x y e inference none r u p = the_step s.made x y e (record {
-    next = record { premises = []; earlier = subst (λ ns. ArePremises (sequents_of s.made) ns []) (sym none) (tt {0}); rule = r; defined = subst (AllByRecursion (IsAmong (definitions_of s.made))) (sym u) (tt {0}); parameters = p; law = lawless s.made x.kind x.premises _ x.parameters x.sequent r u };
+    next = record {
+      premises = [];
+      earlier = subst (λ ns. ArePremises (sequents_of s.made) ns []) (sym none) (tt {0});
+      rule = r;
+      defined =
+          subst (AllByRecursion (IsAmong (definitions_of s.made))) (sym u) (tt {0});
+      parameters = p;
+      law =
+          lawless s.made x.kind x.premises _ x.parameters x.sequent r u;
+    };
     inference = inference;
   })
 
@@ -115,17 +124,30 @@ module _ (s : State) (g : HasSoundRun s) where
       → Rule x.kind (sequent_at s.made i ∷ []) x.parameters x.sequent → definitions_used x.kind (sequent_at s.made i ∷ []) x.parameters ≡ []
       → ParametersTaken (symbols_of s.made) x.parameters → Follows s.made y
   on_one x y e inference i l one r u p = the_step s.made x y e (record {
-    next = record { premises = sequent_at s.made i ∷ []; earlier = subst (λ ns. ArePremises (sequents_of s.made) ns (sequent_at s.made i ∷ [])) (sym one) (at_step s.made i l, tt {0}); rule = r; defined = subst (AllByRecursion (IsAmong (definitions_of s.made))) (sym u) (tt {0}); parameters = p; law = lawless s.made x.kind x.premises _ x.parameters x.sequent r u };
+    next = record {
+      premises = sequent_at s.made i ∷ [];
+      earlier =
+          subst (λ ns. ArePremises (sequents_of s.made) ns (sequent_at s.made i ∷ [])) (sym one) (at_step s.made i l, tt {0});
+      rule = r;
+      defined =
+          subst (AllByRecursion (IsAmong (definitions_of s.made))) (sym u) (tt {0});
+      parameters = p;
+      law =
+          lawless s.made x.kind x.premises _ x.parameters x.sequent r u;
+    };
     inference = inference;
   })
 
-  on_two : (x y : Step) → ◌≡◌ {A = Result Step Kind} (Ok x) (Ok y) → infers x.kind ≡ true → (i j : ℕ) → i < length (steps_of s.made) → j < length (steps_of s.made) → x.premises ≡ i ∷ j ∷ []
+  on_two : (x y : Step) → ◌≡◌ {A = Result Step Kind} (Ok x) (Ok y) → infers x.kind ≡ true → (i j : ℕ) → i < length (steps_of s.made)
+      → j < length (steps_of s.made) → x.premises ≡ i ∷ j ∷ []
       → Rule x.kind (sequent_at s.made i ∷ sequent_at s.made j ∷ []) x.parameters x.sequent
-      → definitions_used x.kind (sequent_at s.made i ∷ sequent_at s.made j ∷ []) x.parameters ≡ [] → ParametersTaken (symbols_of s.made) x.parameters → Follows s.made y
+      → definitions_used x.kind (sequent_at s.made i ∷ sequent_at s.made j ∷ []) x.parameters ≡ [] → ParametersTaken (symbols_of s.made) x.parameters
+      → Follows s.made y
   on_two x y e inference i j l k two r u p = the_step s.made x y e (record {
     next = record {
       premises = sequent_at s.made i ∷ sequent_at s.made j ∷ [];
-      earlier = subst (λ ns. ArePremises (sequents_of s.made) ns (sequent_at s.made i ∷ sequent_at s.made j ∷ [])) (sym two) (at_step s.made i l, (at_step s.made j k, tt {0}));
+      earlier = subst (λ ns. ArePremises (sequents_of s.made) ns (sequent_at s.made i ∷ sequent_at s.made j ∷ [])) (sym two)
+          (at_step s.made i l, (at_step s.made j k, tt {0}));
       rule = r;
       defined = subst (AllByRecursion (IsAmong (definitions_of s.made))) (sym u) (tt {0});
       parameters = p;
@@ -151,18 +173,22 @@ module _ (s : State) (g : HasSoundRun s) where
       let q = bound (equation_of one) _ x e in
       let alike = passed (demand (term_eq two.conclusion q.0.left) NotAlike) _ x q.2 in
       let is = equation_is one q.0 q.1 in
-      let same : two.conclusion ≡ q.0.left = (term_eq-Decides two.conclusion q.0.left).0 (demanded (term_eq two.conclusion q.0.left) NotAlike alike.0 alike.1) in
+      let same : two.conclusion ≡ q.0.left = (term_eq-Decides two.conclusion q.0.left).0 (demanded (term_eq two.conclusion q.0.left) NotAlike alike.0 alike.1)
+      in
       let left_type : HasType q.0.left q.0.ty = (equation-sides q.0.ty q.0.left q.0.right one.conclusion is (sequent_at-IsSequent s i g l).conclusion).left in
       let truth : HasType q.0.left bool = subst (λ u. HasType u bool) same (sequent_at-IsSequent s j g k).conclusion in
       let ty : q.0.ty ≡ bool = same_Some _ _ (sym left_type ∙ truth) in
       on_two _ x alike.2 refl i j l k refl (rule.Rule.eq_mp (is ∙ ap (λ a. equation a q.0.left q.0.right) ty) same refl) refl (tt {0})
 
-  abs_thm-follows : (i : ℕ) (v : Variable) (x : Step) → IsStepNumber s.made i → (sound_parts s.made).variable v → abs_thm_step s.made v i ≡ Ok x → Follows s.made x
+  abs_thm-follows : (i : ℕ) (v : Variable) (x : Step) → IsStepNumber s.made i → (sound_parts s.made).variable v → abs_thm_step s.made v i ≡ Ok x
+      → Follows s.made x
   abs_thm-follows i v x l h e =
       let one = sequent_at s.made i in
       let q = bound (equation_of one) _ x e in
       let fresh = passed (demand (not (is_free_in v one.hypotheses)) VarInHyps) _ x q.2 in
-      on_one _ x fresh.2 refl i l refl (rule.Rule.abs_thm (equation_is one q.0 q.1) (not-true (is_free_in v one.hypotheses) (demanded (not (is_free_in v one.hypotheses)) VarInHyps fresh.0 fresh.1)) refl) refl h.0
+      on_one _ x fresh.2 refl i l refl
+      (rule.Rule.abs_thm (equation_is one q.0 q.1)
+      (not-true (is_free_in v one.hypotheses) (demanded (not (is_free_in v one.hypotheses)) VarInHyps fresh.0 fresh.1)) refl) refl h.0
 
   app_thm-follows : (j i : ℕ) (x : Step) → IsStepNumber s.made j → IsStepNumber s.made i → app_thm_step s.made i j ≡ Ok x → Follows s.made x
   app_thm-follows j i x k l e =
@@ -175,7 +201,8 @@ module _ (s : State) (g : HasSoundRun s) where
       let functions : f.0.ty ≡ function parts.0 b.0 = same_Some _ _ parts.1.0 in
       let arguments : a.0.ty ≡ parts.0 = same_Some _ _ parts.1.1 in
       on_two _ x b.2 refl i j l k refl
-      (rule.Rule.app_thm (equation_is one f.0 f.1 ∙ ap (λ a. equation a f.0.left f.0.right) functions) (equation_is two a.0 a.1 ∙ ap (λ b. equation b a.0.left a.0.right) arguments) refl) refl (tt {0})
+      (rule.Rule.app_thm (equation_is one f.0 f.1 ∙ ap (λ a. equation a f.0.left f.0.right) functions)
+      (equation_is two a.0 a.1 ∙ ap (λ b. equation b a.0.left a.0.right) arguments) refl) refl (tt {0})
 
   deduct_antisym-follows : (j i : ℕ) (x : Step) → IsStepNumber s.made j → IsStepNumber s.made i → deduct_antisym_step s.made i j ≡ Ok x → Follows s.made x
   deduct_antisym-follows j i x k l e = on_two _ x e refl i j l k refl (rule.Rule.deduct_antisym refl) refl (tt {0})
@@ -210,13 +237,18 @@ module _ (s : State) (g : HasSoundRun s) where
   prove_hyp-follows : (j i : ℕ) (x : Step) → IsStepNumber s.made j → IsStepNumber s.made i → prove_hyp_step s.made i j ≡ Ok x → Follows s.made x
   prove_hyp-follows j i x k l e = on_two _ x e refl i j l k refl (rule.Rule.prove_hyp refl) refl (tt {0})
 
-  subst-follows : (i : ℕ) (p : TypePairs × TermPairs) (x : Step) → IsStepNumber s.made i → AllByRecursion (IsTypePair (sound_parts s.made)) p.0 × AllByRecursion (IsTermPair (sound_parts s.made)) p.1
+  subst-follows : (i : ℕ) (p : TypePairs × TermPairs) (x : Step) → IsStepNumber s.made i → AllByRecursion (IsTypePair (sound_parts s.made)) p.0
+      × AllByRecursion (IsTermPair (sound_parts s.made)) p.1
       → subst_step s.made p.0 p.1 i ≡ Ok x → Follows s.made x
   subst-follows i p x l h e =
       let fits = passed (demand (list_all (λ (q : Variable × Term). is_of_type q.0.1 q.1) p.1) BadSubst) _ x e in
-      let all = list_all-All (λ (q : Variable × Term). is_of_type q.0.1 q.1) (λ q. HasType q.1 q.0.1) (λ q e. of_type q.0.1 q.1 e) p.1 (demanded _ BadSubst fits.0 fits.1) in
-      on_one _ x fits.2 refl i l refl (rule.Rule.subst (fitting p.1 all) refl) refl
-      (All-weaker (IsTypePair (sound_parts s.made)) (λ q. TypeTaken (symbols_of s.made) q.1) (λ q h. h.1.0) p.0 h.0, All-weaker (IsTermPair (sound_parts s.made)) (λ q. TypeTaken (symbols_of s.made) q.0.1 × TermTaken (symbols_of s.made) q.1) (λ q h. (h.0.0, h.1.taken)) p.1 h.1)
+      let all = list_all-All (λ (q : Variable × Term). is_of_type q.0.1 q.1) (λ q. HasType q.1 q.0.1) (λ q e. of_type q.0.1 q.1 e) p.1
+      (demanded _ BadSubst fits.0 fits.1) in
+      on_one _ x fits.2 refl i l refl (rule.Rule.subst (fitting p.1 all) refl) refl (
+        All-weaker (IsTypePair (sound_parts s.made)) (λ q. TypeTaken (symbols_of s.made) q.1) (λ q h. h.1.0) p.0 h.0,
+        All-weaker (IsTermPair (sound_parts s.made)) (λ q. TypeTaken (symbols_of s.made) q.0.1 × TermTaken (symbols_of s.made) q.1)
+            (λ q h. (h.0.0, h.1.taken)) p.1 h.1,
+      )
 
   -- so does each step that a word concludes by a rule
   pub follows : (x : Step) → Inferred (sound_parts s.made) s.made x → Follows s.made x

@@ -40,7 +40,8 @@ operator-used symbols n k x e = by_arity (operator_arity symbols n) refl e
   where
     input : (b : Bool) → list_any (is_input_operator n k) symbols ≡ b → OperatorTaken (symbols ++ cond b [] (input_operator n k ∷ [])) n k
     input true e = taken.OperatorTaken.input (any-left (is_input_operator n k) symbols [] e)
-    input false e = taken.OperatorTaken.input (any-right (is_input_operator n k) symbols (input_operator n k ∷ []) (rw (name_eq-refl n, (Decides-eqb k k).1 refl) refl))
+    input false e = taken.OperatorTaken.input
+        (any-right (is_input_operator n k) symbols (input_operator n k ∷ []) (rw (name_eq-refl n, (Decides-eqb k k).1 refl) refl))
 
     by_arity : (o : Option ℕ) → operator_arity symbols n ≡ o → arity_fits o k ≡ Ok x
         → OperatorTaken (symbols ++ cond (is_some o || list_any (is_input_operator n k) symbols) [] (input_operator n k ∷ [])) n k
@@ -59,5 +60,6 @@ constant-used symbols n a x e = by_generic (generic_type symbols n) refl e
 
     by_generic : (o : Option HolType) → generic_type symbols n ≡ o → generic_fits o a ≡ Ok x
         → ConstantTaken (symbols ++ cond (is_some o || list_any (is_input_constant n) symbols) [] (input_constant n ∷ [])) n a
-    by_generic (Some g) is e = constant-more symbols [] n a (taken.ConstantTaken.instance g is ((is_instance-Decides g a).0 (demanded (is_instance g a) BadConstType x e)))
+    by_generic (Some g) is e = constant-more symbols [] n a
+        (taken.ConstantTaken.instance g is ((is_instance-Decides g a).0 (demanded (is_instance g a) BadConstType x e)))
     by_generic None is e = input (list_any (is_input_constant n) symbols) refl

@@ -31,7 +31,8 @@ pub use Rattle.article_laws.specs.Binds.{bound, passed, demanded, found, list_al
 module _ (m ys : List Made) where
   earlier : (i : ℕ) → i < length (steps_of m) → i < length (steps_of (m ++ ys))
   earlier i l =
-      let long : length (steps_of (m ++ ys)) ≡ length (steps_of m) + length (steps_of ys) = ap length (steps_of-append m ys) ∙ length-append (steps_of m) (steps_of ys) in
+      let long : length (steps_of (m ++ ys)) ≡ length (steps_of m) + length (steps_of ys) =
+      ap length (steps_of-append m ys) ∙ length-append (steps_of m) (steps_of ys) in
       omega (arith, long, l)
 
   mutual
@@ -43,7 +44,12 @@ module _ (m ys : List Made) where
     object-more (type t) h = (subst (λ zs. TypeTaken zs t) (sym (symbols_of-append m ys)) (type-more (symbols_of m) (symbols_of ys) t h.0), h.1)
     object-more (constant n) h = tt
     object-more (variable v) h = (subst (λ zs. TypeTaken zs v.1) (sym (symbols_of-append m ys)) (type-more (symbols_of m) (symbols_of ys) v.1 h.0), h.1)
-    object-more (term t) h = record { typed = h.typed; taken = subst (λ zs. TermTaken zs t) (sym (symbols_of-append m ys)) (term-more (symbols_of m) (symbols_of ys) t h.taken); within = h.within }
+    object-more (term t) h = record {
+      typed = h.typed;
+      taken = subst (λ zs. TermTaken zs t) (sym (symbols_of-append m ys)) (term-more (symbols_of m) (symbols_of ys) t h.taken);
+      within =
+          h.within;
+    }
     object-more (theorem i) h = earlier i h
 
     objects-more : (xs : Objects) → AreOf (sound_parts m) xs → AreOf (sound_parts (m ++ ys)) xs
@@ -61,7 +67,8 @@ pushed low n m (i ∷ is) l h = (h.0, pushed (suc i) n m is l h.1)
 
 pub more-steps : (m ys : List Made) → length (steps_of m) ≤ length (steps_of (m ++ ys))
 more-steps m ys =
-    let long : length (steps_of (m ++ ys)) ≡ length (steps_of m) + length (steps_of ys) = ap length (steps_of-append m ys) ∙ length-append (steps_of m) (steps_of ys) in
+    let long : length (steps_of (m ++ ys)) ≡ length (steps_of m) + length (steps_of ys) =
+    ap length (steps_of-append m ys) ∙ length-append (steps_of m) (steps_of ys) in
     omega (arith, long)
 
 -- the numbers of assumptions after one step more
@@ -71,13 +78,15 @@ assumed-step k [] x = go (infers x.kind) (grind arith)
     go : (b : Bool) → k ≡ k + 0 → cond b [] (k ∷ []) ≡ cond b [] ((k + 0) ∷ [])
     go true e = refl
     go false e = ap (λ n. n ∷ []) e
-assumed-step k (y ∷ ys) x = go (infers y.kind) (assumed-step (k + 1) ys x ∙ ap (λ n. assumed_from (k + 1) ys ++ cond (infers x.kind) [] (n ∷ [])) (later (length ys)))
+assumed-step k (y ∷ ys) x = go (infers y.kind)
+    (assumed-step (k + 1) ys x ∙ ap (λ n. assumed_from (k + 1) ys ++ cond (infers x.kind) [] (n ∷ [])) (later (length ys)))
   where
     later : (n : ℕ) → k + 1 + n ≡ k + suc n
     later n = grind arith
 
     go : (b : Bool) → assumed_from (k + 1) (ys ++ x ∷ []) ≡ assumed_from (k + 1) ys ++ cond (infers x.kind) [] ((k + suc (length ys)) ∷ [])
-        → cond b (assumed_from (k + 1) (ys ++ x ∷ [])) (k ∷ assumed_from (k + 1) (ys ++ x ∷ [])) ≡ cond b (assumed_from (k + 1) ys) (k ∷ assumed_from (k + 1) ys) ++ cond (infers x.kind) [] ((k + suc (length ys)) ∷ [])
+        → cond b (assumed_from (k + 1) (ys ++ x ∷ [])) (k ∷ assumed_from (k + 1) (ys ++ x ∷ []))
+        ≡ cond b (assumed_from (k + 1) ys) (k ∷ assumed_from (k + 1) ys) ++ cond (infers x.kind) [] ((k + suc (length ys)) ∷ [])
     go true e = e
     go false e = ap (λ l. k ∷ l) e
 
@@ -106,7 +115,8 @@ abbrev pub AreTakenAfter : List Made → List Symbol → Type 0
 AreTakenAfter made [] = Unit {0}
 AreTakenAfter made (x ∷ xs) = (IsPlain x × Takes (symbols_of made) x) × SymbolTaken (symbols_of made) x × AreTakenAfter (made ++ Made.symbol x ∷ []) xs
 
-pub symbols-more : (m : List Made) (is js : List ℕ) (xs : List Symbol) → IsSoundlyMade m is js → AreTakenAfter m xs → IsSoundlyMade (m ++ map Made.symbol xs) is js
+pub symbols-more : (m : List Made) (is js : List ℕ) (xs : List Symbol) → IsSoundlyMade m is js → AreTakenAfter m xs
+    → IsSoundlyMade (m ++ map Made.symbol xs) is js
 symbols-more m is js [] g h = subst (λ n. IsSoundlyMade n is js) (sym (append-nil m)) g
 symbols-more m is js (x ∷ xs) g h =
     subst (λ n. IsSoundlyMade n is js) (append_assoc m (Made.symbol x ∷ []) (map Made.symbol xs))
@@ -115,7 +125,8 @@ symbols-more m is js (x ∷ xs) g h =
 -- a type operator is defined
 pub definition-more : (m : List Made) (is js : List ℕ) (names : TypeNames) (c : HolType) (f : Term) (i : ℕ) → IsSoundlyMade m is js → IsDefinedBy m names c f i
     → SymbolTaken (symbols_of m) (Symbol.defined (Definition.type_operator names c f)) → IsSoundlyMade (m ++ Made.type_definition names c f i ∷ []) is js
-definition-more m is js names c f i g h k = made-more m is js js (Made.type_definition names c f i) g h k (g.assumptions ∙ unassumed m (Made.type_definition names c f i) refl)
+definition-more m is js names c f i g h k = made-more m is js js (Made.type_definition names c f i) g h k
+    (g.assumptions ∙ unassumed m (Made.type_definition names c f i) refl)
 
 -- what a step asks
 pub record IsNext (m : List Made) (x : Step) : Type 0 where
@@ -131,7 +142,8 @@ step-more : (m : List Made) (is js ks : List ℕ) (x : Step) → IsSoundlyMade m
 step-more m is js ks x g h within e =
     let symbols = symbols_of m in
     let said = premises-All (TermsTaken symbols) (sequents_of m) (over-sequents m g.over) x.premises h.premises h.earlier in
-    let used = All-weaker (IsAmong (definitions_of m)) (DefinitionTaken symbols) (All-among (DefinitionTaken symbols) (definitions_of m) (proof-definitions m g.proof)) (definitions_used x.kind h.premises x.parameters) h.defined in
+    let used = All-weaker (IsAmong (definitions_of m)) (DefinitionTaken symbols)
+    (All-among (DefinitionTaken symbols) (definitions_of m) (proof-definitions m g.proof)) (definitions_used x.kind h.premises x.parameters) h.defined in
     made-more m is js ks (Made.step x) g
     (record { premises = h.premises; earlier = h.earlier; follows = record { rule = h.rule; defined = h.defined }; law = h.law })
     (record { parameters = h.parameters; sequent = rule-taken symbols x.kind h.premises x.parameters x.sequent h.rule said h.parameters used; within = within })
@@ -152,14 +164,16 @@ assume-more m is js x g h i within =
 
 pub new-theorem : (m : List Made) (x : Step) → length (steps_of m) < length (steps_of (m ++ Made.step x ∷ []))
 new-theorem m x =
-    let long : length (steps_of (m ++ Made.step x ∷ [])) ≡ length (steps_of m) + 1 = ap length (steps_of-append m (Made.step x ∷ [])) ∙ length-append (steps_of m) (x ∷ []) in
+    let long : length (steps_of (m ++ Made.step x ∷ [])) ≡ length (steps_of m) + 1 =
+    ap length (steps_of-append m (Made.step x ∷ [])) ∙ length-append (steps_of m) (x ∷ []) in
     omega (arith, long)
 
 -- the step of a theorem that stands on the stack
 pub at_step : (m : List Made) (i : ℕ) → i < length (steps_of m) → slice_get (sequents_of m) i ≡ Some (sequent_at m i)
 at_step m i l = from (steps_of m) i l
   where
-    from : (xs : List Step) (i : ℕ) → i < length xs → slice_get (map (λ (y : Step). y.sequent) xs) i ≡ Some (slice_index_or (map (λ (y : Step). y.sequent) xs) i (record { hypotheses = []; conclusion = Term.bound 0 }))
+    from : (xs : List Step) (i : ℕ) → i < length xs → slice_get (map (λ (y : Step). y.sequent) xs) i
+        ≡ Some (slice_index_or (map (λ (y : Step). y.sequent) xs) i (record { hypotheses = []; conclusion = Term.bound 0 }))
     from [] i l = absurd (omega arith)
     from (x ∷ xs) zero l = refl
     from (x ∷ xs) (suc i) l = from xs i (omega arith)

@@ -35,14 +35,16 @@ stated-IsSequent conclusion hypotheses e =
     let h = and_parts (is_of_type bool conclusion) (list_all (is_of_type bool) hypotheses) e in
     record {
       no_repeats = distinct-IsDistinct term_eq (symmetric term_eq term_eq-Decides) hypotheses;
-      hypotheses = union-All (λ t. HasType t bool) term_eq hypotheses [] (tt {0}) (list_all-All (is_of_type bool) (λ t. HasType t bool) (of_type bool) hypotheses h.1);
+      hypotheses = union-All (λ t. HasType t bool) term_eq hypotheses [] (tt {0})
+          (list_all-All (is_of_type bool) (λ t. HasType t bool) (of_type bool) hypotheses h.1);
       conclusion = of_type bool conclusion h.0;
     }
 
 stated-taken : (m : List Made) (conclusion : Term) (hypotheses : List Term) → IsTermObject m conclusion → AllByRecursion (IsTermObject m) hypotheses
     → TermsTaken (symbols_of m) (stated hypotheses conclusion)
 stated-taken m conclusion hypotheses c hs = record {
-  hypotheses = union-All (TermTaken (symbols_of m)) term_eq hypotheses [] (tt {0}) (All-weaker (IsTermObject m) (TermTaken (symbols_of m)) (λ t h. h.taken) hypotheses hs);
+  hypotheses = union-All (TermTaken (symbols_of m)) term_eq hypotheses [] (tt {0})
+      (All-weaker (IsTermObject m) (TermTaken (symbols_of m)) (λ t h. h.taken) hypotheses hs);
   conclusion = c.taken;
 }
 
@@ -78,7 +80,15 @@ restated : (s : State) (i : ℕ) (sequent : Sequent) → IsSequent sequent → w
     → IsNext s.made (restatement i sequent)
 restated s i sequent is w t =
     let l = early s.made i sequent is.conclusion w in
-    record { premises = sequent_at s.made i ∷ []; earlier = (at_step s.made i l, tt {0}); rule = rule.Rule.restate is w; defined = tt {0}; parameters = t; law = tt {0} }
+    record {
+      premises = sequent_at s.made i ∷ [];
+      earlier = (at_step s.made i l, tt {0});
+      rule = rule.Rule.restate is w;
+      defined = tt {0};
+      parameters = t;
+      law =
+          tt {0};
+    }
 
 -- the step of an assumption
 abbrev pub assumption : Sequent → Step
@@ -126,7 +136,8 @@ meet-sound s hypotheses conclusion x i g h k e m within =
     let known : ℕ → Bool = λ i. same (sequent_at s.made i) sequent in
     let weaker = (and_parts _ _ (first-passes known s.pool s.assumptions i (subst (λ z. meeting s z ≡ Some i) y.is m))).0 in
     subst (λ (z : Step). HasSoundRun (with_step s (restatement i z.sequent))) (sym y.is) (infer-more s.made s.exports s.assumptions (restatement i sequent) g
-    (restated s i sequent (stated-IsSequent conclusion hypotheses y.bools) weaker (stated-taken s.made conclusion hypotheses k h)) refl (subst (λ (z : Step). SequentWithin z.sequent) y.is within))
+    (restated s i sequent (stated-IsSequent conclusion hypotheses y.bools) weaker (stated-taken s.made conclusion hypotheses k h)) refl
+    (subst (λ (z : Step). SequentWithin z.sequent) y.is within))
 
 pub assume-sound : (s : State) (hypotheses : List Term) (conclusion : Term) (x : Step) → HasSoundRun s → AllByRecursion (IsTermObject s.made) hypotheses
     → IsTermObject s.made conclusion → axiom_step hypotheses conclusion ≡ Ok x → SequentWithin x.sequent
@@ -135,7 +146,15 @@ assume-sound s hypotheses conclusion x g h k e within =
     let y = axiom_step-made hypotheses conclusion x e in
     let is = stated-IsSequent conclusion hypotheses y.bools in
     let next : IsNext s.made (assumption (stated hypotheses conclusion)) =
-    record { premises = []; earlier = tt {0}; rule = rule.Rule.recorded is; defined = tt {0}; parameters = stated-taken s.made conclusion hypotheses k h; law = tt {0} } in
+    record {
+      premises = [];
+      earlier = tt {0};
+      rule = rule.Rule.recorded is;
+      defined = tt {0};
+      parameters = stated-taken s.made conclusion hypotheses k h;
+      law =
+          tt {0};
+    } in
     assume-more s.made s.exports s.assumptions x g (subst (IsNext s.made) (sym y.is) next) (ap (λ (z : Step). infers z.kind) y.is) within
 
 pub export-sound : (s : State) (i : ℕ) (hypotheses : List Term) (conclusion : Term) (x : Step) → HasSoundRun s → AllByRecursion (IsTermObject s.made) hypotheses
@@ -143,7 +162,8 @@ pub export-sound : (s : State) (i : ℕ) (hypotheses : List Term) (conclusion : 
     → HasSoundRun (record (with_step s x) { exports = s.exports ++ next_step s ∷ [] })
 export-sound s i hypotheses conclusion x g h k e within =
     let y = restate_step-made s.made i hypotheses conclusion x e in
-    let next = restated s i (stated hypotheses conclusion) (stated-IsSequent conclusion hypotheses y.bools) y.weaker (stated-taken s.made conclusion hypotheses k h) in
+    let next = restated s i (stated hypotheses conclusion) (stated-IsSequent conclusion hypotheses y.bools) y.weaker
+    (stated-taken s.made conclusion hypotheses k h) in
     let m = infer-more s.made s.exports s.assumptions x g (subst (IsNext s.made) (sym y.is) next) (ap (λ (z : Step). infers z.kind) y.is) within in
     record {
       proof = m.proof;

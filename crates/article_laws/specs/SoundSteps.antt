@@ -64,16 +64,31 @@ below : (low n : ℕ) (is : List ℕ) → Ascend low n is → AllByRecursion (λ
 below low n [] h = tt
 below low n (i ∷ is) h = (let rest = Ascend-bounds (suc i) n is h.1 in omega (arith, rest), below (suc i) n is h.1)
 
-exports-derive : (a : Accepted) → AllByRecursion (Derives (definitions_of a.made) (assumptions_of a.made)) (sequents_of a.made) → (is : List ℕ) → AllByRecursion (λ i. i < length (steps_of a.made)) is → AllByRecursion (IsDerived a) is
+exports-derive : (a : Accepted) → AllByRecursion (Derives (definitions_of a.made) (assumptions_of a.made)) (sequents_of a.made) → (is : List ℕ)
+    → AllByRecursion (λ i. i < length (steps_of a.made)) is → AllByRecursion (IsDerived a) is
 exports-derive a all [] h = tt
-exports-derive a all (i ∷ is) h =
-    (record { step = h.0; derives = All-get (Derives (definitions_of a.made) (assumptions_of a.made)) (sequents_of a.made) i (sequent_at a.made i) all (at_step a.made i h.0) }, exports-derive a all is h.1)
+exports-derive a all (i ∷ is) h = (
+  record {
+    step = h.0;
+    derives = All-get (Derives (definitions_of a.made) (assumptions_of a.made)) (sequents_of a.made) i (sequent_at a.made i) all
+        (at_step a.made i h.0);
+  },
+  exports-derive a all is h.1,
+)
 
 sound-run : (s : State) → Holds soundness s → IsSoundRun (accepted_state s)
 sound-run s h =
     let g = h.run in
     let all = proof-derives s.made g.proof in
-    record { proof = g.proof; over = g.over; assumptions = g.assumptions; steps = all; ascend = g.exports; exports = exports-derive (accepted_state s) all s.exports (below 0 (length (steps_of s.made)) s.exports g.exports) }
+    record {
+      proof = g.proof;
+      over = g.over;
+      assumptions = g.assumptions;
+      steps = all;
+      ascend = g.exports;
+      exports =
+          exports-derive (accepted_state s) all s.exports (below 0 (length (steps_of s.made)) s.exports g.exports);
+    }
 
 -- The law of runs.
 pub runs_are_sound : RunsAreSound

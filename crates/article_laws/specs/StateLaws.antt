@@ -78,7 +78,8 @@ coded_place = code_by ℕ coded_ℕ place_number place_of place_of-number
 -- The code of a state, for a model whose value it is.
 abbrev pub coded_state : Coded State
 coded_state = code_by ((List Object × (entries.FinMap int_cmp Object × Stage)) × ((List Made × List ℕ) × (List ℕ × List ℕ)))
-    (coded× (coded× (coded_list coded_object) (coded× (entries.code coded_ℤ coded_object) coded_place)) (coded× (coded× (coded_list coded_made) (coded_list coded_ℕ)) (coded× (coded_list coded_ℕ) (coded_list coded_ℕ))))
+    (coded× (coded× (coded_list coded_object) (coded× (entries.code coded_ℤ coded_object) coded_place))
+    (coded× (coded× (coded_list coded_made) (coded_list coded_ℕ)) (coded× (coded_list coded_ℕ) (coded_list coded_ℕ))))
     (λ s. ((s.stack, (s.dictionary, s.place)), ((s.made, s.assumptions), (s.exports, s.pool))))
     (λ p. record { stack = p.0.0; dictionary = p.0.1.0; place = p.0.1.1; made = p.1.0.0; assumptions = p.1.0.1; exports = p.1.1.0; pool = p.1.1.1 })
     (λ _. refl)

@@ -17,7 +17,8 @@ use Rattle.article_lines.specs.Writing.{line}
 -- where no byte is escaped, a component is its own text
 plain-component : (bytes : List ℕ) → AllByRecursion (λ b. is_escaped b ≡ false) bytes → component_text bytes ≡ bytes
 plain-component [] h = refl
-plain-component (b ∷ bytes) h = ap (λ e. cond e (backslash ∷ b ∷ component_text bytes) (b ∷ component_text bytes)) h.0 ∙ ap (λ l. b ∷ l) (plain-component bytes h.1)
+plain-component (b ∷ bytes) h = ap (λ e. cond e (backslash ∷ b ∷ component_text bytes) (b ∷ component_text bytes)) h.0 ∙ ap (λ l. b ∷ l)
+    (plain-component bytes h.1)
 
 digit-plain : (b : ℕ) → is_digit b ≡ true → is_escaped b ≡ false
 digit-plain b h = grind (arith, nat_tests, h)
@@ -31,13 +32,15 @@ binder-plain q d h k =
     let one = digits-plain (decimal q) (decimal-HasValue q (omega (arith, h))).digits in
     let two = digits-plain (decimal d) (decimal-HasValue d (omega (arith, k))).digits in
     let P : ℕ → Type 0 = λ b. is_escaped b ≡ false in
-    plain-component (binder_front q ++ decimal d) (All-append P (binder_front q) (decimal d) (All-append P (95 ∷ decimal q) (95 ∷ []) (refl, one) (refl, tt)) two)
+    plain-component (binder_front q ++ decimal d)
+    (All-append P (binder_front q) (decimal d) (All-append P (95 ∷ decimal q) (95 ∷ []) (refl, one) (refl, tt)) two)
 
 pub binder-parts : (q d : ℕ) (first second : List ℕ) → first ≡ decimal q → second ≡ decimal d → q < 2 ^ 64 → d < 2 ^ 64
     → line (item.Name (binder_name q d)) ≡ 34 ∷ 95 ∷ (first ++ 95 ∷ (second ++ 34 ∷ 10 ∷ []))
 binder-parts q d first second e f h k =
     ap (λ l. (quote ∷ l ++ quote ∷ []) ++ newline ∷ []) (binder-plain q d h k)
-    ∙ (let parts : (34 ∷ (95 ∷ decimal q ++ 95 ∷ []) ++ decimal d ++ 34 ∷ []) ++ 10 ∷ [] ≡ 34 ∷ 95 ∷ (decimal q ++ 95 ∷ (decimal d ++ 34 ∷ 10 ∷ [])) = simp append_assoc in parts)
+    ∙ (let parts : (34 ∷ (95 ∷ decimal q ++ 95 ∷ []) ++ decimal d ++ 34 ∷ []) ++ 10 ∷ [] ≡ 34 ∷ 95 ∷ (decimal q ++ 95 ∷ (decimal d ++ 34 ∷ 10 ∷ [])) =
+    simp append_assoc in parts)
     ∙ ap (λ l. 34 ∷ 95 ∷ (l ++ 95 ∷ (decimal d ++ 34 ∷ 10 ∷ []))) (sym e) ∙ ap (λ l. 34 ∷ 95 ∷ (first ++ 95 ∷ (l ++ 34 ∷ 10 ∷ []))) (sym f)
 
 pub binder-length : (q d : ℕ) → q < 2 ^ 64 → d < 2 ^ 64 → name_length (binder_name q d) ≡ length (decimal q) + length (decimal d) + 5

@@ -40,27 +40,33 @@ byte-at (b ∷ bytes) zero h = refl
 byte-at (b ∷ bytes) (suc i) h = byte-at bytes i (omega (arith, h))
 
 -- the byte at a place behind the text before it
-pub next-byte : (bytes : List ℕ) (i : ℕ) → i < length bytes → component_text (take (i + 1) bytes) ≡ component_text (take i bytes) ++ byte_text (slice_index_or bytes i 0)
+pub next-byte : (bytes : List ℕ) (i : ℕ) → i < length bytes → component_text (take (i + 1) bytes) ≡ component_text (take i bytes)
+    ++ byte_text (slice_index_or bytes i 0)
 next-byte bytes i h =
     let b = slice_index_or bytes i 0 in
     let next : suc i ≡ i + 1 = omega arith in
-    ap (λ k. component_text (take k bytes)) (sym next) ∙ by-bytes (take (suc i) bytes) ∙ next-of byte_text bytes i b (byte-at bytes i h) ∙ ap (λ l. l ++ byte_text b) (sym (by-bytes (take i bytes)))
+    ap (λ k. component_text (take k bytes)) (sym next) ∙ by-bytes (take (suc i) bytes) ∙ next-of byte_text bytes i b (byte-at bytes i h)
+    ∙ ap (λ l. l ++ byte_text b) (sym (by-bytes (take i bytes)))
 
-pub byte-parts : (bytes : List ℕ) (i : ℕ) → i < length bytes → component_text bytes ≡ component_text (take i bytes) ++ (byte_text (slice_index_or bytes i 0) ++ flat_map byte_text (drop (suc i) bytes))
+pub byte-parts : (bytes : List ℕ) (i : ℕ) → i < length bytes → component_text bytes ≡ component_text (take i bytes)
+    ++ (byte_text (slice_index_or bytes i 0) ++ flat_map byte_text (drop (suc i) bytes))
 byte-parts bytes i h =
     let b = slice_index_or bytes i 0 in
-    by-bytes bytes ∙ parts-of byte_text bytes i b (byte-at bytes i h) ∙ ap (λ l. l ++ (byte_text b ++ flat_map byte_text (drop (suc i) bytes))) (sym (by-bytes (take i bytes)))
+    by-bytes bytes ∙ parts-of byte_text bytes i b (byte-at bytes i h)
+    ∙ ap (λ l. l ++ (byte_text b ++ flat_map byte_text (drop (suc i) bytes))) (sym (by-bytes (take i bytes)))
 
 -- Components
 -- the component at a place behind the first
-pub next-component : (name : Name) (i : ℕ) (component : List ℕ) → 1 ≤ i → slice_get name i ≡ Some component → rest_text (take (i + 1) name) ≡ rest_text (take i name) ++ behind_text component
+pub next-component : (name : Name) (i : ℕ) (component : List ℕ) → 1 ≤ i → slice_get name i ≡ Some component → rest_text (take (i + 1) name)
+    ≡ rest_text (take i name) ++ behind_text component
 next-component [] i component h e = absurd (cc)
 next-component (c ∷ name) zero component h e = absurd (omega (arith, h))
 next-component (c ∷ name) (suc i) component h e =
     let next : suc (suc i) ≡ suc i + 1 = omega arith in
     ap (λ k. rest_text (take k (c ∷ name))) (sym next) ∙ next-of behind_text name i component e
 
-pub component-parts : (name : Name) (i : ℕ) (component : List ℕ) → 1 ≤ i → slice_get name i ≡ Some component → rest_text name ≡ rest_text (take i name) ++ (behind_text component ++ flat_map behind_text (drop i (drop 1 name)))
+pub component-parts : (name : Name) (i : ℕ) (component : List ℕ) → 1 ≤ i → slice_get name i ≡ Some component → rest_text name ≡ rest_text (take i name)
+    ++ (behind_text component ++ flat_map behind_text (drop i (drop 1 name)))
 component-parts [] i component h e = absurd (cc)
 component-parts (c ∷ name) zero component h e = absurd (omega (arith, h))
 component-parts (c ∷ name) (suc i) component h e = parts-of behind_text name i component e
@@ -86,13 +92,16 @@ behind-first c [] = sym (append-nil (component_text c))
 behind-first c (d ∷ name) = ap (λ l. component_text c ++ dot ∷ l) (behind-first d name)
 
 -- one component more
-pub next-components : (name : Name) (i : ℕ) (component : List ℕ) → 1 ≤ i → slice_get name i ≡ Some component → components_text (take (i + 1) name) ≡ components_text (take i name) ++ behind_text component
+pub next-components : (name : Name) (i : ℕ) (component : List ℕ) → 1 ≤ i → slice_get name i ≡ Some component → components_text (take (i + 1) name)
+    ≡ components_text (take i name) ++ behind_text component
 next-components [] i component h e = absurd (cc)
 next-components (c ∷ name) zero component h e = absurd (omega (arith, h))
 next-components (c ∷ name) (suc i) component h e =
     let next : suc (suc i) ≡ suc i + 1 = omega arith in
-    ap (λ k. components_text (take k (c ∷ name))) (sym next) ∙ behind-first c (take (suc i) name) ∙ ap (λ l. component_text c ++ l) (next-of behind_text name i component e)
-    ∙ sym (append_assoc (component_text c) (flat_map behind_text (take i name)) (behind_text component)) ∙ ap (λ l. l ++ behind_text component) (sym (behind-first c (take i name)))
+    ap (λ k. components_text (take k (c ∷ name))) (sym next) ∙ behind-first c (take (suc i) name)
+    ∙ ap (λ l. component_text c ++ l) (next-of behind_text name i component e)
+    ∙ sym (append_assoc (component_text c) (flat_map behind_text (take i name)) (behind_text component))
+    ∙ ap (λ l. l ++ behind_text component) (sym (behind-first c (take i name)))
 
 pub one-component : (name : Name) (component : List ℕ) → slice_get name 0 ≡ Some component → components_text (take 1 name) ≡ component_text component
 one-component [] component e = absurd (cc)
@@ -101,19 +110,22 @@ one-component (c ∷ name) component e = let same : c ≡ component = cc in ap c
 pub all-of : (name : Name) (i : ℕ) → length name ≤ i → components_text (take i name) ≡ components_text name
 all-of name i h = ap components_text (take-all name i h)
 
-pub name-parts : (name : Name) (first : List ℕ) → slice_get name 0 ≡ Some first → line (item.Name name) ≡ (quote ∷ []) ++ (component_text first ++ (rest_text name ++ (quote ∷ newline ∷ [])))
+pub name-parts : (name : Name) (first : List ℕ) → slice_get name 0 ≡ Some first → line (item.Name name) ≡ (quote ∷ [])
+    ++ (component_text first ++ (rest_text name ++ (quote ∷ newline ∷ [])))
 name-parts [] first e = absurd (cc)
 name-parts (c ∷ name) first e =
     let same : c ≡ first = cc in
     ap (λ l. quote ∷ ((l ++ quote ∷ []) ++ newline ∷ [])) (behind-first c name ∙ ap (λ z. component_text z ++ flat_map behind_text name) same)
-    ∙ ap (λ l. quote ∷ l) (append_assoc (component_text first ++ flat_map behind_text name) (quote ∷ []) (newline ∷ []) ∙ append_assoc (component_text first) (flat_map behind_text name) (quote ∷ newline ∷ []))
+    ∙ ap (λ l. quote ∷ l) (append_assoc (component_text first ++ flat_map behind_text name) (quote ∷ []) (newline ∷ [])
+    ∙ append_assoc (component_text first) (flat_map behind_text name) (quote ∷ newline ∷ []))
 
 piece-at : {A : Type 0} (xs : List A) (i : ℕ) (d : A) → i < length xs → slice_get xs i ≡ Some (get_or xs i d)
 piece-at [] i d h = absurd (omega (arith, h))
 piece-at (x ∷ xs) zero d h = refl
 piece-at (x ∷ xs) (suc i) d h = piece-at xs i d (omega (arith, h))
 
-pub next-piece : (pieces : List (Bor (List ℕ))) (i : ℕ) (d : Bor (List ℕ)) → i < length pieces → pieces_text (take (i + 1) pieces) ≡ pieces_text (take i pieces) ++ (get_or pieces i d).now
+pub next-piece : (pieces : List (Bor (List ℕ))) (i : ℕ) (d : Bor (List ℕ)) → i < length pieces → pieces_text (take (i + 1) pieces) ≡ pieces_text (take i pieces)
+    ++ (get_or pieces i d).now
 next-piece pieces i d h =
     let next : suc i ≡ i + 1 = omega arith in
     ap (λ k. pieces_text (take k pieces)) (sym next) ∙ next-of (λ p. p.now) pieces i (get_or pieces i d) (piece-at pieces i d h)

@@ -16,10 +16,12 @@ use Rattle.article_write_laws.specs.NumberTextLaws.{decimal-HasValue}
 use Rattle.article_lines.specs.Numbered.{IsNumbered, IsConfirmed, HasNone, IsFirst}
 
 -- Digits
-pub digits-next : (text : List ℕ) (i : ℕ) → i < length text → list_all is_digit (take i text) ≡ true → is_digit (slice_index_or text i 0) ≡ true → list_all is_digit (take (i + 1) text) ≡ true
+pub digits-next : (text : List ℕ) (i : ℕ) → i < length text → list_all is_digit (take i text) ≡ true → is_digit (slice_index_or text i 0) ≡ true
+    → list_all is_digit (take (i + 1) text) ≡ true
 digits-next text i low h d = ap (λ k. list_all is_digit (take k text)) (let e : i + 1 ≡ suc i = omega arith in e) ∙ go text i low h d
   where
-    go : (xs : List ℕ) (k : ℕ) → k < length xs → list_all is_digit (take k xs) ≡ true → is_digit (slice_index_or xs k 0) ≡ true → list_all is_digit (take (suc k) xs) ≡ true
+    go : (xs : List ℕ) (k : ℕ) → k < length xs → list_all is_digit (take k xs) ≡ true → is_digit (slice_index_or xs k 0) ≡ true
+        → list_all is_digit (take (suc k) xs) ≡ true
     go [] k l a b = absurd (omega (arith, l))
     go (x ∷ xs) zero l a b = ap (λ z. z && true) b
     go (x ∷ xs) (suc k) l a b = let p = and_parts (is_digit x) (list_all is_digit (take k xs)) a in ap₂ (λ y z. y && z) p.0 (go xs k (omega (arith, l)) p.1 b)
@@ -50,7 +52,8 @@ digits-yes (x ∷ xs) i e some h = ap (list_all is_digit) (sym (all (x ∷ xs) i
 -- Texts
 digits-none : (ds : List ℕ) → list_all is_digit ds ≡ true → HasNone ds
 digits-none [] h = tt
-digits-none (d ∷ ds) h = let p = and_parts (is_digit d) (list_all is_digit ds) h in ((λ e. absurd (let k = p.0 in grind (arith, nat_tests, k, e))), digits-none ds p.1)
+digits-none (d ∷ ds) h = let p = and_parts (is_digit d) (list_all is_digit ds) h in
+    ((λ e. absurd (let k = p.0 in grind (arith, nat_tests, k, e))), digits-none ds p.1)
 
 number-none : (q : ℕ) → q < 2 ^ 64 → HasNone (decimal q)
 number-none q h = digits-none (decimal q) (decimal-HasValue q (omega (arith, h))).digits
@@ -63,7 +66,8 @@ one-way : (xs ys us vs : List ℕ) → HasNone xs → HasNone us → xs ++ 95 �
 one-way [] ys [] vs h k e = (refl, cc)
 one-way [] ys (u ∷ us) vs h k e = absurd (k.0 (let f : 95 ≡ u = cc in sym f))
 one-way (x ∷ xs) ys [] vs h k e = absurd (h.0 (let f : x ≡ 95 = cc in f))
-one-way (x ∷ xs) ys (u ∷ us) vs h k e = let f : x ≡ u = cc in let g : xs ++ 95 ∷ ys ≡ us ++ 95 ∷ vs = cc in let r = one-way xs ys us vs h.1 k.1 g in (ap₂ (λ z l. z ∷ l) f r.0, r.1)
+one-way (x ∷ xs) ys (u ∷ us) vs h k e = let f : x ≡ u = cc in let g : xs ++ 95 ∷ ys ≡ us ++ 95 ∷ vs = cc in let r =
+    one-way xs ys us vs h.1 k.1 g in (ap₂ (λ z l. z ∷ l) f r.0, r.1)
 
 pub parted : (text : List ℕ) (i : ℕ) → slice_get text i ≡ Some 95 → text ≡ take i text ++ 95 ∷ drop (suc i) text
 parted [] i e = absurd (cc)
@@ -84,7 +88,8 @@ pub none-Numbered : (q : ℕ) (text : List ℕ) → HasNone text → IsNumbered 
 none-Numbered q text h n = none-in (decimal q) n.behind (subst HasNone n.is h)
 
 -- with one
-pub numbered-parts : (q : ℕ) (text : List ℕ) (i : ℕ) → q < 2 ^ 64 → IsFirst text i → IsNumbered q text → (take i text ≡ decimal q) × (are_digits (drop (suc i) text) ≡ true)
+pub numbered-parts : (q : ℕ) (text : List ℕ) (i : ℕ) → q < 2 ^ 64 → IsFirst text i → IsNumbered q text → (take i text ≡ decimal q)
+    × (are_digits (drop (suc i) text) ≡ true)
 numbered-parts q text i low f n =
     let r = one-way (take i text) (drop (suc i) text) (decimal q) n.behind f.before (number-none q low) (sym (parted text i f.at) ∙ n.is) in
     (r.0, ap are_digits r.1 ∙ n.digits)
@@ -107,14 +112,16 @@ behind-is (x ∷ xs) zero = all (x ∷ xs) (suc (length xs) - 0) (let e : suc (l
 behind-is (x ∷ xs) (suc k) = ap (λ i. take i (drop k xs)) (let e : suc (length xs) - suc k ≡ length xs - k = omega arith in e) ∙ behind-is xs k
 
 -- what a value, the digits and what stands behind them tell
-pub confirmed-Numbered : (q : ℕ) (text digits behind : List ℕ) (i v : ℕ) → IsFirst text i → digits ≡ take i text → behind ≡ drop (i + 1) text → IsConfirmed v digits behind q → IsNumbered q text
+pub confirmed-Numbered : (q : ℕ) (text digits behind : List ℕ) (i v : ℕ) → IsFirst text i → digits ≡ take i text → behind ≡ drop (i + 1) text
+    → IsConfirmed v digits behind q → IsNumbered q text
 confirmed-Numbered q text digits behind i v f d b c = record {
   behind = drop (suc i) text;
   is = parted text i f.at ∙ ap (λ l. l ++ 95 ∷ drop (suc i) text) (sym d ∙ c.written);
   digits = ap (λ k. are_digits (drop k text)) (let e : suc i ≡ i + 1 = omega arith in e) ∙ ap are_digits (sym b) ∙ c.followed;
 }
 
-pub numbered-Confirmed : (q : ℕ) (text digits behind : List ℕ) (i v : ℕ) → q < 2 ^ 64 → IsFirst text i → digits ≡ take i text → behind ≡ drop (i + 1) text → v ≡ numbers.decimal digits → IsNumbered q text → IsConfirmed v digits behind q
+pub numbered-Confirmed : (q : ℕ) (text digits behind : List ℕ) (i v : ℕ) → q < 2 ^ 64 → IsFirst text i → digits ≡ take i text → behind ≡ drop (i + 1) text → v
+    ≡ numbers.decimal digits → IsNumbered q text → IsConfirmed v digits behind q
 numbered-Confirmed q text digits behind i v low f d b value n =
     let r = numbered-parts q text i low f n in
     record {
@@ -124,7 +131,8 @@ numbered-Confirmed q text digits behind i v low f d b value n =
     }
 
 -- a value that is too large is that of no number
-pub large-Numbered : (q : ℕ) (text digits : List ℕ) (i : ℕ) → q < 2 ^ 64 → IsFirst text i → digits ≡ take i text → 2 ^ 64 ≤ numbers.decimal digits → IsNumbered q text → ⊥
+pub large-Numbered : (q : ℕ) (text digits : List ℕ) (i : ℕ) → q < 2 ^ 64 → IsFirst text i → digits ≡ take i text → 2 ^ 64 ≤ numbers.decimal digits
+    → IsNumbered q text → ⊥
 large-Numbered q text digits i low f d large n =
     let r = numbered-parts q text i low f n in
     let value : numbers.decimal digits ≡ q = ap numbers.decimal (d ∙ r.0) ∙ number-value q low in
@@ -137,10 +145,12 @@ first-yes (b ∷ bytes) text e d = ap₂ (λ x l. x ∷ l) (let p = and_parts (e
 
 pub first-no : (bytes text : List ℕ) → pointwise eqb (take 1 bytes) (95 ∷ []) ≡ false → bytes ≡ 95 ∷ text → ⊥
 first-no [] text e d = absurd (cc)
-first-no (b ∷ bytes) text e d = let same : b ≡ 95 = cc in absurd (let f : pointwise eqb (95 ∷ []) (95 ∷ []) ≡ false = ap (λ x. pointwise eqb (x ∷ []) (95 ∷ [])) (sym same) ∙ e in cc)
+first-no (b ∷ bytes) text e d = let same : b ≡ 95 =
+    cc in absurd (let f : pointwise eqb (95 ∷ []) (95 ∷ []) ≡ false = ap (λ x. pointwise eqb (x ∷ []) (95 ∷ [])) (sym same) ∙ e in cc)
 
 -- a name of another form
-pub name-other : (q : ℕ) (name : Name) (bytes : List ℕ) → slice_get name 0 ≡ Some bytes → length name ≡ 1 → pointwise eqb (take 1 bytes) (95 ∷ []) ≡ false → is_binder_name q name ≡ true → ⊥
+pub name-other : (q : ℕ) (name : Name) (bytes : List ℕ) → slice_get name 0 ≡ Some bytes → length name ≡ 1 → pointwise eqb (take 1 bytes) (95 ∷ []) ≡ false
+    → is_binder_name q name ≡ true → ⊥
 name-other q [] bytes e l f h = absurd (cc)
 name-other q (c ∷ d ∷ name) bytes e l f h = absurd (omega (arith, l))
 name-other q (c ∷ []) bytes e l f h =
@@ -149,17 +159,21 @@ name-other q (c ∷ []) bytes e l f h =
     let whole = (starts_is {E = nat_eq} Decides-eqb c (binder_front q) (starts_with nat_eq c (binder_front q)) refl).0 p.0 in
     first-no bytes ((decimal q ++ 95 ∷ []) ++ drop (length (binder_front q)) c) f (sym same ∙ whole)
 
-pub numbered-name : (q : ℕ) (name : Name) (bytes text : List ℕ) → slice_get name 0 ≡ Some bytes → length name ≡ 1 → bytes ≡ 95 ∷ text → IsNumbered q text → is_binder_name q name ≡ true
+pub numbered-name : (q : ℕ) (name : Name) (bytes text : List ℕ) → slice_get name 0 ≡ Some bytes → length name ≡ 1 → bytes ≡ 95 ∷ text → IsNumbered q text
+    → is_binder_name q name ≡ true
 numbered-name q [] bytes text e l b n = absurd (cc)
 numbered-name q (c ∷ d ∷ name) bytes text e l b n = absurd (omega (arith, l))
 numbered-name q (c ∷ []) bytes text e l b n =
     let same : c ≡ bytes = cc in
     let whole : binder_front q ++ n.behind ≡ bytes = ap (λ l. 95 ∷ l) (append_assoc (decimal q) (95 ∷ []) n.behind ∙ sym n.is) ∙ sym b in
-    let front = (starts_is {E = nat_eq} Decides-eqb (binder_front q ++ n.behind) (binder_front q) (starts_with nat_eq (binder_front q ++ n.behind) (binder_front q)) refl).1 n.behind refl in
-    let rest : are_digits (drop (length (binder_front q)) (binder_front q ++ n.behind)) ≡ true = ap are_digits (drop-append_seam (binder_front q) n.behind) ∙ n.digits in
+    let front = (starts_is {E = nat_eq} Decides-eqb (binder_front q ++ n.behind) (binder_front q)
+    (starts_with nat_eq (binder_front q ++ n.behind) (binder_front q)) refl).1 n.behind refl in
+    let rest : are_digits (drop (length (binder_front q)) (binder_front q ++ n.behind)) ≡ true =
+    ap are_digits (drop-append_seam (binder_front q) n.behind) ∙ n.digits in
     ap (λ z. is_binder_name q (z ∷ [])) (same ∙ sym whole) ∙ ap₂ (λ x y. x && y) front rest
 
-pub name-numbered : (q : ℕ) (name : Name) (bytes text : List ℕ) → slice_get name 0 ≡ Some bytes → length name ≡ 1 → bytes ≡ 95 ∷ text → is_binder_name q name ≡ true → IsNumbered q text
+pub name-numbered : (q : ℕ) (name : Name) (bytes text : List ℕ) → slice_get name 0 ≡ Some bytes → length name ≡ 1 → bytes ≡ 95 ∷ text → is_binder_name q name
+    ≡ true → IsNumbered q text
 name-numbered q [] bytes text e l b h = absurd (cc)
 name-numbered q (c ∷ d ∷ name) bytes text e l b h = absurd (omega (arith, l))
 name-numbered q (c ∷ []) bytes text e l b h =

@@ -14,11 +14,13 @@ push-other : {A : Type 0} (p : A → Bool) (start : ℕ) (xs : List A) (y : A) �
 push-other p start [] y e = ap (λ b. cond b (Some start) None) e
 push-other p start (x ∷ xs) y e = ap (λ o. cond (p x) (Some start) o) (push-other p (start + 1) xs y e)
 
-push-new : {A : Type 0} (p : A → Bool) (start : ℕ) (xs : List A) (y : A) → p y ≡ true → position_from p start xs ≡ None → position_from p start (xs ++ y ∷ []) ≡ Some (start + length xs)
+push-new : {A : Type 0} (p : A → Bool) (start : ℕ) (xs : List A) (y : A) → p y ≡ true → position_from p start xs ≡ None → position_from p start (xs ++ y ∷ [])
+    ≡ Some (start + length xs)
 push-new p start [] y e none = ap (λ b. cond b (Some start) None) e ∙ (let z : start ≡ start + 0 = omega arith in ap Some z)
 push-new p start (x ∷ xs) y e none = go (p x) none (push-new p (start + 1) xs y e)
   where
-    go : (b : Bool) → cond b (Some start) (position_from p (start + 1) xs) ≡ None → (position_from p (start + 1) xs ≡ None → position_from p (start + 1) (xs ++ y ∷ []) ≡ Some (start + 1 + length xs))
+    go : (b : Bool) → cond b (Some start) (position_from p (start + 1) xs) ≡ None
+        → (position_from p (start + 1) xs ≡ None → position_from p (start + 1) (xs ++ y ∷ []) ≡ Some (start + 1 + length xs))
         → cond b (Some start) (position_from p (start + 1) (xs ++ y ∷ [])) ≡ Some (start + suc (length xs))
     go true f g = absurd (cc)
     go false f g = g f ∙ (let z : start + 1 + length xs ≡ start + suc (length xs) = omega arith in ap Some z)
@@ -27,7 +29,8 @@ pub position_from-below : {A : Type 0} (p : A → Bool) (start : ℕ) (xs : List
 position_from-below p start [] k e = absurd (cc)
 position_from-below p start (x ∷ xs) k e = go (p x) e (position_from-below p (start + 1) xs k)
   where
-    go : (b : Bool) → cond b (Some start) (position_from p (start + 1) xs) ≡ Some k → (position_from p (start + 1) xs ≡ Some k → k < start + 1 + length xs) → k < start + suc (length xs)
+    go : (b : Bool) → cond b (Some start) (position_from p (start + 1) xs) ≡ Some k → (position_from p (start + 1) xs ≡ Some k → k < start + 1 + length xs)
+        → k < start + suc (length xs)
     go true f g = let same : start ≡ k = cc in omega (arith, same)
     go false f g = let h = g f in omega (arith, h)
 
@@ -38,7 +41,8 @@ index-put (m ∷ ns) zero zero n low = refl
 index-put (m ∷ ns) zero (suc j) n low = let e : (suc j == 0) ≡ false = grind (arith, nat_tests) in ap (λ b. cond b n (slice_index_or ns j no_key)) (sym e)
 index-put (m ∷ ns) (suc i) zero n low = let e : (0 == suc i) ≡ false = grind (arith, nat_tests) in ap (λ b. cond b n m) (sym e)
 index-put (m ∷ ns) (suc i) (suc j) n low =
-    index-put ns i j n (omega (arith, low)) ∙ (let e : (j == i) ≡ (suc j == suc i) = grind (arith, nat_tests) in ap (λ b. cond b n (slice_index_or ns j no_key)) e)
+    index-put ns i j n (omega (arith, low))
+    ∙ (let e : (j == i) ≡ (suc j == suc i) = grind (arith, nat_tests) in ap (λ b. cond b n (slice_index_or ns j no_key)) e)
 
 place-other : (k n start : ℕ) (ns : List ℕ) (i : ℕ) → (n == k) ≡ false → (slice_index_or ns i no_key == k) ≡ false
     → position_from (λ m. m == k) start (slice_set ns i n) ≡ position_from (λ m. m == k) start ns
@@ -46,7 +50,8 @@ place-other k n start [] i e h = refl
 place-other k n start (m ∷ ns) zero e h = ap (λ b. cond b (Some start) (position_from (λ m. m == k) (start + 1) ns)) (e ∙ sym h)
 place-other k n start (m ∷ ns) (suc i) e h = ap (λ o. cond (m == k) (Some start) o) (place-other k n (start + 1) ns i e h)
 
-place-new : (k start : ℕ) (ns : List ℕ) (i : ℕ) → position_from (λ m. m == k) start ns ≡ None → i < length ns → position_from (λ m. m == k) start (slice_set ns i k) ≡ Some (start + i)
+place-new : (k start : ℕ) (ns : List ℕ) (i : ℕ) → position_from (λ m. m == k) start ns ≡ None → i < length ns
+    → position_from (λ m. m == k) start (slice_set ns i k) ≡ Some (start + i)
 place-new k start [] i none low = absurd (omega (arith, low))
 place-new k start (m ∷ ns) zero none low =
     let e : (k == k) ≡ true = grind (arith, nat_tests) in
@@ -63,7 +68,8 @@ place-new k start (m ∷ ns) (suc i) none low = go (m == k) none (λ e. place-ne
 none-there : (k start : ℕ) (ns : List ℕ) → ((i : ℕ) → i < length ns → (slice_index_or ns i no_key == k) ≡ false) → position_from (λ m. m == k) start ns ≡ None
 none-there k start [] h = refl
 none-there k start (m ∷ ns) h =
-    ap (λ b. cond b (Some start) (position_from (λ m. m == k) (start + 1) ns)) (h 0 (omega arith)) ∙ none-there k (start + 1) ns (λ i low. h (suc i) (omega (arith, low)))
+    ap (λ b. cond b (Some start) (position_from (λ m. m == k) (start + 1) ns)) (h 0 (omega arith))
+    ∙ none-there k (start + 1) ns (λ i low. h (suc i) (omega (arith, low)))
 
 free-put : (ns : List ℕ) (i n : ℕ) → i < length ns → slice_index_or ns i no_key ≡ no_key → (n == no_key) ≡ false → free ns ≡ suc (free (slice_set ns i n))
 free-put [] i n low e new = absurd (omega (arith, low))
@@ -72,7 +78,8 @@ free-put (m ∷ ns) zero n low e new =
     ap (λ b. cond b (suc (free ns)) (free ns)) same ∙ ap (λ b. suc (cond b (suc (free ns)) (free ns))) (sym new)
 free-put (m ∷ ns) (suc i) n low e new = go (m == no_key) (free-put ns i n (omega (arith, low)) e new)
   where
-    go : (b : Bool) → free ns ≡ suc (free (slice_set ns i n)) → cond b (suc (free ns)) (free ns) ≡ suc (cond b (suc (free (slice_set ns i n))) (free (slice_set ns i n)))
+    go : (b : Bool) → free ns ≡ suc (free (slice_set ns i n)) → cond b (suc (free ns)) (free ns)
+        ≡ suc (cond b (suc (free (slice_set ns i n))) (free (slice_set ns i n)))
     go true f = ap suc f
     go false f = f
 
@@ -133,7 +140,8 @@ things-stay s x n zero low small e = refl
 things-stay s x n (suc m) low small e =
     let other : (n == m) ≡ false = grind (arith, nat_tests, low) in
     let none : (slot s x == m) ≡ false = grind (arith, nat_tests, low, small, e) in
-    ap (λ l. l ++ thing_at (put x n s) m ∷ []) (things-stay s x n m (omega (arith, low)) small e) ∙ ap (λ z. things_to s m ++ z ∷ []) (thing-stays s x n m other none)
+    ap (λ l. l ++ thing_at (put x n s) m ∷ []) (things-stay s x n m (omega (arith, low)) small e)
+    ∙ ap (λ z. things_to s m ++ z ∷ []) (thing-stays s x n m other none)
 
 -- no place has the next key
 abbrev IsNew : AllSlots → ℕ → Type 0
@@ -150,12 +158,15 @@ no-theorem s n h = none-there n 0 s.theorems (λ i low. h (thing.Theorem i) low)
 
 thing-new : (s : AllSlots) (x : Thing) (n : ℕ) → HasPlace s x → IsNew s n → thing_at (put x n s) n ≡ x
 thing-new s (thing.Type a) n low h =
-    ap (λ o. first_of o (place_of n s.terms) (place_of n s.theorems)) (place-new n 0 s.types a.0 (no-type s n h) low) ∙ (let z : 0 + a.0 ≡ a.0 = omega arith in ap (λ i. thing.Type (record { 0 = i })) z)
+    ap (λ o. first_of o (place_of n s.terms) (place_of n s.theorems)) (place-new n 0 s.types a.0 (no-type s n h) low)
+    ∙ (let z : 0 + a.0 ≡ a.0 = omega arith in ap (λ i. thing.Type (record { 0 = i })) z)
 thing-new s (thing.Term t) n low h =
     ap (λ o. first_of o (place_of n (slice_set s.terms t.0 n)) (place_of n s.theorems)) (no-type s n h)
-    ∙ ap (λ o. first_of None o (place_of n s.theorems)) (place-new n 0 s.terms t.0 (no-term s n h) low) ∙ (let z : 0 + t.0 ≡ t.0 = omega arith in ap (λ i. thing.Term (record { 0 = i })) z)
+    ∙ ap (λ o. first_of None o (place_of n s.theorems)) (place-new n 0 s.terms t.0 (no-term s n h) low)
+    ∙ (let z : 0 + t.0 ≡ t.0 = omega arith in ap (λ i. thing.Term (record { 0 = i })) z)
 thing-new s (thing.Theorem i) n low h =
-    ap (λ o. first_of o (place_of n s.terms) (place_of n (slice_set s.theorems i n))) (no-type s n h) ∙ ap (λ o. first_of None o (place_of n (slice_set s.theorems i n))) (no-term s n h)
+    ap (λ o. first_of o (place_of n s.terms) (place_of n (slice_set s.theorems i n))) (no-type s n h)
+    ∙ ap (λ o. first_of None o (place_of n (slice_set s.theorems i n))) (no-term s n h)
     ∙ ap (λ o. first_of None None o) (place-new n 0 s.theorems i (no-theorem s n h) low) ∙ (let z : 0 + i ≡ i = omega arith in ap thing.Theorem z)
 
 pub length-things : (s : AllSlots) (n : ℕ) → length (things_to s n) ≡ n
@@ -196,14 +207,16 @@ slots-new s n k small y low = go (slot s y == n) refl
         let l = length-things s n in
         absurd (omega (arith, below, l))
 
-things-put : (s : AllSlots) (n : ℕ) (x : Thing) → AreKeys s n → HasPlace s x → thing_key (keyed s n) x ≡ None → things_to (put x n s) (suc n) ≡ things_to s n ++ x ∷ []
+things-put : (s : AllSlots) (n : ℕ) (x : Thing) → AreKeys s n → HasPlace s x → thing_key (keyed s n) x ≡ None → things_to (put x n s) (suc n) ≡ things_to s n
+    ++ x ∷ []
 things-put s n x k low none =
     let small = next-small s n x k low none in
     ap (λ l. l ++ thing_at (put x n s) n ∷ []) (things-stay s x n n (omega arith) small (thing_key-None s n x k low none))
     ∙ ap (λ z. things_to s n ++ z ∷ []) (thing-new s x n low (slots-new s n k small))
 
 pub AreKeys-put : (s : AllSlots) (n : ℕ) (x : Thing) → AreKeys s n → HasPlace s x → thing_key (keyed s n) x ≡ None → AreKeys (put x n s) (n + 1)
-AreKeys-put s n x k low none = subst (AreKeys (put x n s)) next (record { each = each; places = omega (arith, f, p, l); small = (let z = k.small in omega (arith, z, l)) })
+AreKeys-put s n x k low none = subst (AreKeys (put x n s)) next
+    (record { each = each; places = omega (arith, f, p, l); small = (let z = k.small in omega (arith, z, l)) })
   where
     next : suc n ≡ n + 1
     next = omega arith
@@ -225,18 +238,21 @@ AreKeys-put s n x k low none = subst (AreKeys (put x n s)) next (record { each =
     go y h true e =
         let same : y ≡ x = thing_eq-same y x e in
         let old : thing_key (keyed s n) y ≡ None = subst (λ z. thing_key (keyed s n) z ≡ None) (sym same) none in
-        slot_key-Some n small ∙ (let z : n ≡ 0 + length (things_to s n) = (let j = length-things s n in omega (arith, j)) in ap Some z) ∙ sym (push-new (thing_eq y) 0 (things_to s n) x e old)
+        slot_key-Some n small ∙ (let z : n ≡ 0 + length (things_to s n) = (let j = length-things s n in omega (arith, j)) in ap Some z)
+        ∙ sym (push-new (thing_eq y) 0 (things_to s n) x e old)
 
     each : (y : Thing) → HasPlace (put x n s) y → slot_key (slot (put x n s) y) ≡ thing_key (keyed (put x n s) (suc n)) y
     each y h =
-        ap slot_key (slot-put s x y n low) ∙ go y (place-put s x y n h) (thing_eq y x) refl ∙ ap (λ (l : List Thing). position_from (thing_eq y) 0 l) (sym (things-put s n x k low none))
+        ap slot_key (slot-put s x y n low) ∙ go y (place-put s x y n h) (thing_eq y x) refl
+        ∙ ap (λ (l : List Thing). position_from (thing_eq y) 0 l) (sym (things-put s n x k low none))
 
 room-put : (s : AllSlots) (n m : ℕ) (x : Thing) → keyed (put x n s) m ≡ record (keyed s m) { things = things_to (put x n s) m }
 room-put s n m (thing.Type a) = ap (λ l. record (keyed s m) { things = things_to (put (thing.Type a) n s) m; types = l }) (length-set s.types a.0 n)
 room-put s n m (thing.Term t) = ap (λ l. record (keyed s m) { things = things_to (put (thing.Term t) n s) m; terms = l }) (length-set s.terms t.0 n)
 room-put s n m (thing.Theorem i) = ap (λ l. record (keyed s m) { things = things_to (put (thing.Theorem i) n s) m; theorems = l }) (length-set s.theorems i n)
 
-pub keyed-put : (s : AllSlots) (n : ℕ) (x : Thing) → AreKeys s n → HasPlace s x → thing_key (keyed s n) x ≡ None → keyed (put x n s) (n + 1) ≡ with_thing x (keyed s n)
+pub keyed-put : (s : AllSlots) (n : ℕ) (x : Thing) → AreKeys s n → HasPlace s x → thing_key (keyed s n) x ≡ None → keyed (put x n s) (n + 1)
+    ≡ with_thing x (keyed s n)
 keyed-put s n x k low none =
     let next : n + 1 ≡ suc n = omega arith in
     ap (keyed (put x n s)) next ∙ room-put s n (suc n) x ∙ ap (λ l. record (keyed s n) { things = l }) (things-put s n x k low none)

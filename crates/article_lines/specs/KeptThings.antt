@@ -92,7 +92,8 @@ position-kept : (trees : Trees) (count start : ℕ) (things : List Thing) (x : T
     → position_from (kept_eq (kept_at trees x)) start (all_kept_at trees things) ≡ position_from (thing_eq x) start things
 position-kept trees count start [] x d all h = refl
 position-kept trees count start (y ∷ things) x d all h =
-    ap (λ b. cond b (Some start) (position_from (kept_eq (kept_at trees x)) (start + 1) (all_kept_at trees things))) (kept_eq-thing_eq trees count x y d h all.0)
+    ap (λ b. cond b (Some start) (position_from (kept_eq (kept_at trees x)) (start + 1) (all_kept_at trees things)))
+    (kept_eq-thing_eq trees count x y d h all.0)
     ∙ ap (λ o. cond (thing_eq x y) (Some start) o) (position-kept trees count (start + 1) things x d all.1 h)
 
 -- The key of what a thing stands for is the thing's.

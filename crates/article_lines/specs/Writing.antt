@@ -9,10 +9,11 @@ use Rattle.article_spec.specs.Lines.{newline}
 use Rattle.article_write_spec.specs.ItemTexts.{is_escaped, component_text, item_text}
 
 -- the sink got the text; where the call failed it got a front of it, and its count of faults rose
-pub record Writes {T E : Type 0} (old : Option (List ℕ)) (faults : ℕ) (text : List ℕ) (new : Option (List ℕ)) (faults_now : ℕ) (result : Result T E) : Type 0 where
-  pub ok : OnOk result (Gains old text new)
-  pub err : OnErr result (GainsFront old text new)
-  pub cause : HasCause faults faults_now result
+pub record Writes {T E : Type 0} (old : Option (List ℕ)) (faults : ℕ) (text : List ℕ) (new : Option (List ℕ)) (faults_now : ℕ) (result : Result T E) : Type 0
+  where
+    pub ok : OnOk result (Gains old text new)
+    pub err : OnErr result (GainsFront old text new)
+    pub cause : HasCause faults faults_now result
 
 -- the same of a sink, by what it got and its count of faults
 abbrev pub WritesTo : {S T E : Type 0} → (S → Option (List ℕ)) → (S → ℕ) → List ℕ → S → S → Result T E → Type 0

@@ -15,7 +15,8 @@ flag-set flags j i l = go (i == j) (unsigned_Decides i j)
   where
     go : (b : Bool) → Decides b (i ≡ j) → slice_index_or (slice_set flags j true) i false ≡ (slice_index_or flags i false || b)
     go true d =
-        ap (λ k. slice_index_or (slice_set flags j true) k false) (d.0 refl) ∙ get_or-set_same flags j true false l ∙ sym (or_right (slice_index_or flags i false) true refl)
+        ap (λ k. slice_index_or (slice_set flags j true) k false) (d.0 refl) ∙ get_or-set_same flags j true false l
+        ∙ sym (or_right (slice_index_or flags i false) true refl)
     go false d = get_or-set_other flags j i true false (λ e. let f : false ≡ true = d.1 e in absurd (cc)) ∙ sym (or-false (slice_index_or flags i false))
 
 -- what was set before, or now

@@ -28,7 +28,8 @@ pub found-names : (ns : List Name) (q : ℕ) → is_found (names_found ns) (Aske
 found-names [] q = refl
 found-names (n ∷ ns) q = ap (λ b. is_binder_name q n || b) (found-names ns q)
 
-any-parts : {A : Type 0} (p : A → Bool) (xs ys us vs : List A) → list_any p xs ≡ list_any p us → list_any p ys ≡ list_any p vs → list_any p (xs ++ ys) ≡ list_any p (us ++ vs)
+any-parts : {A : Type 0} (p : A → Bool) (xs ys us vs : List A) → list_any p xs ≡ list_any p us → list_any p ys ≡ list_any p vs → list_any p (xs ++ ys)
+    ≡ list_any p (us ++ vs)
 any-parts p xs ys us vs e f = list_any-append p xs ys ∙ ap₂ (λ a b. a || b) e f ∙ sym (list_any-append p us vs)
 
 names-append : (us vs : List Variable) → names_in (us ++ vs) ≡ names_in us ++ names_in vs
@@ -71,7 +72,8 @@ module _ (m : Need) where
   given-needs (Parameters.term t) = term-needs t
   given-needs (Parameters.variable v) = type-needs v.1
   given-needs (Parameters.substitution types terms) =
-      both (flat_map (λ p. type_found p.1) types) (flat_map (λ p. Found.named p.0.0 ∷ type_found p.0.1 ++ term_found p.1) terms) (flat_map (λ p. type_mentions p.1) types)
+      both (flat_map (λ p. type_found p.1) types) (flat_map (λ p. Found.named p.0.0 ∷ type_found p.0.1 ++ term_found p.1) terms)
+      (flat_map (λ p. type_mentions p.1) types)
       (flat_map (λ p. type_mentions p.0.1 ++ term_mentions p.1) terms) (each (λ p. type_found p.1) (λ p. type_mentions p.1) (λ p. type-needs p.1) types)
       (each (λ p. Found.named p.0.0 ∷ type_found p.0.1 ++ term_found p.1) (λ p. type_mentions p.0.1 ++ term_mentions p.1)
       (λ p. both (type_found p.0.1) (term_found p.1) (type_mentions p.0.1) (term_mentions p.1) (type-needs p.0.1) (term-needs p.1)) terms)
@@ -86,8 +88,10 @@ module _ (m : Need) where
 
   pub step-needs : (x : Step) → is_found (step_found x) (Asked.need m) ≡ list_any (need_eq m) (needs x)
   step-needs x =
-      both (steps_found x.premises) (given_found x.parameters ++ sequent_found x.sequent) (map Need.step x.premises) (given_mentions x.parameters ++ sequent_mentions x.sequent) (steps-needs x.premises)
-      (both (given_found x.parameters) (sequent_found x.sequent) (given_mentions x.parameters) (sequent_mentions x.sequent) (given-needs x.parameters) (sequent-needs x.sequent))
+      both (steps_found x.premises) (given_found x.parameters ++ sequent_found x.sequent) (map Need.step x.premises)
+      (given_mentions x.parameters ++ sequent_mentions x.sequent) (steps-needs x.premises)
+      (both (given_found x.parameters) (sequent_found x.sequent) (given_mentions x.parameters) (sequent_mentions x.sequent) (given-needs x.parameters)
+      (sequent-needs x.sequent))
 
 -- The names of variables
 module _ (q : ℕ) where
@@ -96,7 +100,8 @@ module _ (q : ℕ) where
 
   two : (fs gs : List Found) (us vs : List Variable) → tells fs us → tells gs vs → tells (fs ++ gs) (us ++ vs)
   two fs gs us vs e f =
-      found-append fs gs (Asked.number q) ∙ ap₂ (λ a b. a || b) e f ∙ sym (list_any-append (is_binder_name q) (names_in us) (names_in vs)) ∙ ap (list_any (is_binder_name q)) (sym (names-append us vs))
+      found-append fs gs (Asked.number q) ∙ ap₂ (λ a b. a || b) e f ∙ sym (list_any-append (is_binder_name q) (names_in us) (names_in vs))
+      ∙ ap (list_any (is_binder_name q)) (sym (names-append us vs))
 
   all : {A : Type 0} (f : A → List Found) (g : A → List Variable) → ((x : A) → tells (f x) (g x)) → (xs : List A) → tells (flat_map f xs) (flat_map g xs)
   all f g h [] = refl
@@ -130,14 +135,16 @@ module _ (q : ℕ) where
 
   constants-names : (pairs : List (Name × Variable)) → tells (flat_map (λ p. Found.named p.1.0 ∷ type_found p.1.1) pairs) (variables_of pairs)
   constants-names [] = refl
-  constants-names (p ∷ pairs) = two (Found.named p.1.0 ∷ type_found p.1.1) (flat_map (λ p. Found.named p.1.0 ∷ type_found p.1.1) pairs) (p.1 ∷ []) (variables_of pairs) (variable-names p.1) (constants-names pairs)
+  constants-names (p ∷ pairs) = two (Found.named p.1.0 ∷ type_found p.1.1) (flat_map (λ p. Found.named p.1.0 ∷ type_found p.1.1) pairs) (p.1 ∷ [])
+      (variables_of pairs) (variable-names p.1) (constants-names pairs)
 
   given-names : (g : Parameters) → tells (given_found g) (given_variables g)
   given-names Parameters.nothing = refl
   given-names (Parameters.term t) = term-names t
   given-names (Parameters.variable v) = variable-names v
   given-names (Parameters.substitution types terms) =
-      two (flat_map (λ p. type_found p.1) types) (flat_map (λ p. Found.named p.0.0 ∷ type_found p.0.1 ++ term_found p.1) terms) [] (flat_map (λ p. p.0 ∷ free_places p.1) terms) (types-silent_put types)
+      two (flat_map (λ p. type_found p.1) types) (flat_map (λ p. Found.named p.0.0 ∷ type_found p.0.1 ++ term_found p.1) terms) []
+      (flat_map (λ p. p.0 ∷ free_places p.1) terms) (types-silent_put types)
       (all (λ p. Found.named p.0.0 ∷ type_found p.0.1 ++ term_found p.1) (λ p. p.0 ∷ free_places p.1)
       (λ p. two (Found.named p.0.0 ∷ type_found p.0.1) (term_found p.1) (p.0 ∷ []) (free_places p.1) (variable-names p.0) (term-names p.1)) terms)
   given-names (Parameters.sequent s) = sequent-names s
@@ -152,4 +159,5 @@ module _ (q : ℕ) where
   pub step-names : (x : Step) → is_found (step_found x) (Asked.number q) ≡ list_any (is_binder_name q) (map (λ v. v.0) (step_variables x))
   step-names x =
       two (steps_found x.premises) (given_found x.parameters ++ sequent_found x.sequent) [] (step_variables x) (steps-silent x.premises)
-      (two (given_found x.parameters) (sequent_found x.sequent) (given_variables x.parameters) (flat_map free_places (terms_of x.sequent)) (given-names x.parameters) (sequent-names x.sequent))
+      (two (given_found x.parameters) (sequent_found x.sequent) (given_variables x.parameters) (flat_map free_places (terms_of x.sequent))
+      (given-names x.parameters) (sequent-names x.sequent))

@@ -7,7 +7,8 @@ use Rattle.article_reach.specs.Least.{is_among, IsLeast}
 use Rattle.article_reach.proofs.Pigeonhole.{at_least}
 
 -- Of one number more than these one isn't among them.
-pub flags-IsLeast : (ns : List ℕ) (flags : List Bool) (r : ℕ) → length flags ≡ length ns + 1 → length flags < 2 ^ 64 → ((i : ℕ) → i < length flags → flag flags i ≡ is_among ns i) → r ≤ length flags → (r < length flags → flag flags r ≡ false)
+pub flags-IsLeast : (ns : List ℕ) (flags : List Bool) (r : ℕ) → length flags ≡ length ns + 1 → length flags < 2 ^ 64
+    → ((i : ℕ) → i < length flags → flag flags i ≡ is_among ns i) → r ≤ length flags → (r < length flags → flag flags r ≡ false)
     → ((i : ℕ) → i < r → flag flags i ≡ true) → IsLeast ns r
 flags-IsLeast ns flags r long small are within unset set =
     let low : r < length flags = below (cases r (length flags) within) in
@@ -19,6 +20,7 @@ flags-IsLeast ns flags r long small are within unset set =
     below : (r < length flags) ⊎ (r ≡ length flags) → r < length flags
     below (inl l) = l
     below (inr e) = absurd (
-        let high = at_least (λ k n. k == n) r (λ p q n hp hq e f. grind (arith, nat_tests, e, f)) ns r (omega arith) (λ k l. sym (are k (omega (arith, l, e))) ∙ set k l) in
+        let high = at_least (λ k n. k == n) r (λ p q n hp hq e f. grind (arith, nat_tests, e, f)) ns r (omega arith)
+        (λ k l. sym (are k (omega (arith, l, e))) ∙ set k l) in
         omega (arith, high, e, long)
         )

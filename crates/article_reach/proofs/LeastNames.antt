@@ -57,19 +57,24 @@ pub any-distinct : (p : Name → Bool) (xs : List Name) → list_any p (distinct
 any-distinct p xs = any-union p xs []
 
 -- The first free number, from a number that is no greater
-first-is : (more q r : ℕ) (names : List Name) → q ≤ r → r ≤ q + more → ((k : ℕ) → k < r → list_any (is_binder_name k) names ≡ true) → list_any (is_binder_name r) names ≡ false → first_free more q names ≡ r
+first-is : (more q r : ℕ) (names : List Name) → q ≤ r → r ≤ q + more → ((k : ℕ) → k < r → list_any (is_binder_name k) names ≡ true)
+    → list_any (is_binder_name r) names ≡ false → first_free more q names ≡ r
 first-is zero q r names low high taken free = omega (arith, low, high)
-first-is (suc more) q r names low high taken free = go (q == r) refl (λ less. first-is more (suc q) r names (omega (arith, less)) (omega (arith, high)) taken free)
+first-is (suc more) q r names low high taken free =
+    go (q == r) refl (λ less. first-is more (suc q) r names (omega (arith, less)) (omega (arith, high)) taken free)
   where
     go : (b : Bool) → (q == r) ≡ b → (q < r → first_free more (suc q) names ≡ r) → first_free (suc more) q names ≡ r
-    go true e again = let same : q ≡ r = grind (arith, nat_tests, e) in ap (λ b. cond b (first_free more (suc q) names) q) (ap (λ k. list_any (is_binder_name k) names) same ∙ free) ∙ same
+    go true e again = let same : q ≡ r = grind (arith, nat_tests, e) in ap (λ b. cond b (first_free more (suc q) names) q)
+        (ap (λ k. list_any (is_binder_name k) names) same ∙ free) ∙ same
     go false e again = let less : q < r = grind (arith, nat_tests, e, low) in ap (λ b. cond b (first_free more (suc q) names) q) (taken q less) ∙ again less
 
-pub least-first : (numbers : List ℕ) (r : ℕ) (names : List Name) → IsLeast numbers r → ((q : ℕ) → q < 2 ^ 64 → is_among numbers q ≡ list_any (is_binder_name q) names)
+pub least-first : (numbers : List ℕ) (r : ℕ) (names : List Name) → IsLeast numbers r
+    → ((q : ℕ) → q < 2 ^ 64 → is_among numbers q ≡ list_any (is_binder_name q) names)
     → first_free (length (distinct name_eq names)) 0 (distinct name_eq names) ≡ r
 least-first numbers r names least same =
     let small = least.small in
-    let told : (q : ℕ) → q < 2 ^ 64 → list_any (is_binder_name q) (distinct name_eq names) ≡ is_among numbers q = λ q l. any-distinct (is_binder_name q) names ∙ sym (same q l) in
+    let told : (q : ℕ) → q < 2 ^ 64 → list_any (is_binder_name q) (distinct name_eq names) ≡ is_among numbers q =
+    λ q l. any-distinct (is_binder_name q) names ∙ sym (same q l) in
     let taken : (k : ℕ) → k < r → list_any (is_binder_name k) (distinct name_eq names) ≡ true = λ k l. told k (omega (arith, l, small)) ∙ least.taken k l in
     let high = at_least is_binder_name (2 ^ 64) one-number (distinct name_eq names) r (omega (arith, small)) taken in
     first-is (length (distinct name_eq names)) 0 r (distinct name_eq names) (omega arith) (omega (arith, high)) taken (told r small ∙ least.free)

@@ -40,9 +40,11 @@ same-turned m n = go (name_eq m n) (name_eq n m) (name_eq-Decides m n).0 (name_e
     go false false f g h k = refl
 
 -- a name more
-pub noted-more : (old new : BTreeSet Name) (m n : Name) → contains name_cmp new n ≡ cond (is_eq (name_cmp m n)) true (contains name_cmp old n) → is_in name_eq n new.keys ≡ (is_in name_eq n old.keys || name_eq n m)
+pub noted-more : (old new : BTreeSet Name) (m n : Name) → contains name_cmp new n ≡ cond (is_eq (name_cmp m n)) true (contains name_cmp old n)
+    → is_in name_eq n new.keys ≡ (is_in name_eq n old.keys || name_eq n m)
 noted-more old new m n e =
-    sym (contains-is_in new n) ∙ e ∙ (λ i. cond ((is_eq-name_cmp m n ∙ same-turned m n) i) true (contains-is_in old n i)) ∙ go (name_eq n m) (is_in name_eq n old.keys)
+    sym (contains-is_in new n) ∙ e ∙ (λ i. cond ((is_eq-name_cmp m n ∙ same-turned m n) i) true (contains-is_in old n i))
+    ∙ go (name_eq n m) (is_in name_eq n old.keys)
   where
     go : (b c : Bool) → cond b true c ≡ (c || b)
     go true true = refl

@@ -49,8 +49,14 @@ module _ (trees : Trees) where
   arguments-known n (id ∷ ids) h l = (let b = h.0 in omega (arith, b, l), arguments-known n ids h.1 l)
 
 module _ (trees : Trees) (count : ℕ) (w v : Walk) where
-  turned : (t : Task) (own : List Found) (parts : List Task) → IsWalk trees count (with_task t w) → Comes trees count t w v own parts → work trees parts < task_size trees t → Turned trees count t w v
-  turned t own parts h c l = record { walk = comes-IsWalk trees count t w v own parts h c; wants = comes-Wants trees count t w v own parts h c; less = comes-less trees count t w v own parts h c l }
+  turned : (t : Task) (own : List Found) (parts : List Task) → IsWalk trees count (with_task t w) → Comes trees count t w v own parts
+      → work trees parts < task_size trees t → Turned trees count t w v
+  turned t own parts h c l = record {
+    walk = comes-IsWalk trees count t w v own parts h c;
+    wants = comes-Wants trees count t w v own parts h c;
+    less =
+        comes-less trees count t w v own parts h c l;
+  }
 
   size-positive : (t : Task) → 0 < task_size trees t
   size-positive (task.Type id) = of_type (tree_at trees.types id.0)
@@ -69,7 +75,8 @@ module _ (trees : Trees) (count : ℕ) (w v : Walk) where
 
   -- what was come to before
   pub passed-Turned : (t : Task) → IsWalk trees count (with_task t w) → is_seen w t ≡ true → Turned trees count t w w
-  passed-Turned t h s = let l = size-positive t in record { walk = passed-IsWalk trees count t w h s; wants = passed-Wants trees count t w h s; less = omega (arith, l) }
+  passed-Turned t h s = let l = size-positive t in record
+      { walk = passed-IsWalk trees count t w h s; wants = passed-Wants trees count t w h s; less = omega (arith, l) }
 
   -- what is the same of each walk that comes to a type, and to a term
   pub record TypeNoted (id : TypeId) : Type 0 where
@@ -96,7 +103,8 @@ module _ (trees : Trees) (count : ℕ) (w v : Walk) where
       each (Asked.need (Need.step k)) i = ap (λ l. flag l k) steps ∙ sym (or-false (flag w.steps.items k))
       each (Asked.number q) i = ap (λ l. is_among l q) numbers ∙ sym (or-false (is_among w.numbers.items q))
 
-  pub marks-operator : (n : Name) → v.steps.items ≡ w.steps.items → ((m : Name) → is_in name_eq m v.operators ≡ (is_in name_eq m w.operators || name_eq m n)) → v.constants ≡ w.constants
+  pub marks-operator : (n : Name) → v.steps.items ≡ w.steps.items → ((m : Name) → is_in name_eq m v.operators ≡ (is_in name_eq m w.operators || name_eq m n))
+      → v.constants ≡ w.constants
       → v.numbers.items ≡ w.numbers.items → Marks (Found.needed (Need.operator n) ∷ [])
   marks-operator n steps operators constants numbers = record { each = each; steps_count = ap length steps }
     where
@@ -106,7 +114,8 @@ module _ (trees : Trees) (count : ℕ) (w v : Walk) where
       each (Asked.need (Need.step k)) i = ap (λ l. flag l k) steps ∙ sym (or-false (flag w.steps.items k))
       each (Asked.number q) i = ap (λ l. is_among l q) numbers ∙ sym (or-false (is_among w.numbers.items q))
 
-  pub marks-constant : (n : Name) → v.steps.items ≡ w.steps.items → v.operators ≡ w.operators → ((m : Name) → is_in name_eq m v.constants ≡ (is_in name_eq m w.constants || name_eq m n))
+  pub marks-constant : (n : Name) → v.steps.items ≡ w.steps.items → v.operators ≡ w.operators
+      → ((m : Name) → is_in name_eq m v.constants ≡ (is_in name_eq m w.constants || name_eq m n))
       → v.numbers.items ≡ w.numbers.items → Marks (Found.needed (Need.constant n) ∷ [])
   marks-constant n steps operators constants numbers = record { each = each; steps_count = ap length steps }
     where
@@ -127,7 +136,8 @@ module _ (trees : Trees) (count : ℕ) (w v : Walk) where
       each (Asked.number q) i = numbers q i ∙ ap (λ b. is_among w.numbers.items q || b) (sym (or-false (is_binder_name q n)))
 
   module _ (id : TypeId) (n : TypeNoted id) (own : List Found) (m : Marks own) where
-    type-Turned : (parts : List Task) → task_found trees (task.Type id) ≡ own ++ found_in trees parts → AllByRecursion (IsTaskKnown trees) parts → AllByRecursion (λ u. rank trees u < id.0) parts
+    type-Turned : (parts : List Task) → task_found trees (task.Type id) ≡ own ++ found_in trees parts → AllByRecursion (IsTaskKnown trees) parts
+        → AllByRecursion (λ u. rank trees u < id.0) parts
         → v.tasks ≡ parts ++ w.tasks → work trees parts < task_size trees (task.Type id) → Turned trees count (task.Type id) w v
     type-Turned parts keys known lower tasks less =
         turned (task.Type id) own parts n.walk (record {
@@ -159,7 +169,8 @@ module _ (trees : Trees) (count : ℕ) (w v : Walk) where
         still (task.Term j) s = ap (λ l. flag l j.0) n.terms ∙ s
 
   module _ (id : TermId) (n : TermNoted id) (own : List Found) (m : Marks own) where
-    term-Turned : (parts : List Task) → task_found trees (task.Term id) ≡ own ++ found_in trees parts → AllByRecursion (IsTaskKnown trees) parts → AllByRecursion (λ u. rank trees u < length trees.types + id.0) parts
+    term-Turned : (parts : List Task) → task_found trees (task.Term id) ≡ own ++ found_in trees parts → AllByRecursion (IsTaskKnown trees) parts
+        → AllByRecursion (λ u. rank trees u < length trees.types + id.0) parts
         → v.tasks ≡ parts ++ w.tasks → work trees parts < task_size trees (task.Term id) → Turned trees count (task.Term id) w v
     term-Turned parts keys known lower tasks less =
         turned (task.Term id) own parts n.walk (record {
@@ -191,13 +202,15 @@ module _ (trees : Trees) (count : ℕ) (w v : Walk) where
         still (task.Type j) s = ap (λ l. flag l j.0) n.types ∙ s
 
   -- a type
-  pub variable-Turned : (id : TypeId) → TypeNoted id → (name : Name) → type.Holds trees.types id.0 (a_type.HolType.variable name) → Marks [] → v.tasks ≡ w.tasks → Turned trees count (task.Type id) w v
+  pub variable-Turned : (id : TypeId) → TypeNoted id → (name : Name) → type.Holds trees.types id.0 (a_type.HolType.variable name) → Marks [] → v.tasks ≡ w.tasks
+      → Turned trees count (task.Type id) w v
   variable-Turned id n name is marks tasks =
       let t : tree_at trees.types id.0 ≡ a_type.HolType.variable name = Holds-tree_at trees.types id.0 (a_type.HolType.variable name) is in
       let size : type_size (tree_at trees.types id.0) ≡ 1 = ap type_size t in
       type-Turned id n [] marks [] (ap type_found t) (tt {0}) (tt {0}) tasks (omega (arith, size))
 
-  pub operator-Turned : (id : TypeId) → TypeNoted id → (name : Name) (args : List TypeId) → type.Holds trees.types id.0 (a_type.HolType.operator name (types_of (types_at trees.types args))) → AreBelow id.0 args
+  pub operator-Turned : (id : TypeId) → TypeNoted id → (name : Name) (args : List TypeId)
+      → type.Holds trees.types id.0 (a_type.HolType.operator name (types_of (types_at trees.types args))) → AreBelow id.0 args
       → Marks (Found.needed (Need.operator name) ∷ []) → v.tasks ≡ with_types args w.tasks → Turned trees count (task.Type id) w v
   operator-Turned id n name args is lower marks tasks =
       let whole = a_type.HolType.operator name (types_of (types_at trees.types args)) in
@@ -206,7 +219,8 @@ module _ (trees : Trees) (count : ℕ) (w v : Walk) where
       let parts = types_size-work trees args in
       let found = ap type_found t ∙ ap (λ fs. Found.needed (Need.operator name) ∷ fs) (types_found-tasks trees args) in
       let known = n.walk.tasks.0 in
-      type-Turned id n (Found.needed (Need.operator name) ∷ []) marks (map task.Type args) found (arguments-known trees id.0 args lower known) (arguments-lower trees id.0 args lower) tasks (omega (arith, size, parts))
+      type-Turned id n (Found.needed (Need.operator name) ∷ []) marks (map task.Type args) found (arguments-known trees id.0 args lower known)
+      (arguments-lower trees id.0 args lower) tasks (omega (arith, size, parts))
 
   -- a term
   module _ (id : TermId) (n : TermNoted id) where
@@ -219,21 +233,25 @@ module _ (trees : Trees) (count : ℕ) (w v : Walk) where
         let size = ap term_size t in
         term-Turned id n [] marks [] (ap term_found t) (tt {0}) (tt {0}) tasks (omega (arith, size))
 
-    pub free-Turned : (name : Name) (ty : TypeId) → Holds trees id.0 (a_term.Term.free name (type_at trees ty.0)) → ty.0 < length trees.types → Marks (Found.named name ∷ [])
+    pub free-Turned : (name : Name) (ty : TypeId) → Holds trees id.0 (a_term.Term.free name (type_at trees ty.0)) → ty.0 < length trees.types
+        → Marks (Found.named name ∷ [])
         → v.tasks ≡ task.Type ty ∷ w.tasks → Turned trees count (task.Term id) w v
     free-Turned name ty is known marks tasks =
         let t = term-is (a_term.Term.free name (type_at trees ty.0)) is in
         let size = ap term_size t in
         term-Turned id n (Found.named name ∷ []) marks (task.Type ty ∷ [])
-        (ap term_found t ∙ ap (λ l. Found.named name ∷ l) (sym (append-nil (type_found (type_at trees ty.0))))) (known, tt {0}) (omega (arith, known), tt {0}) tasks (omega (arith, size))
+        (ap term_found t ∙ ap (λ l. Found.named name ∷ l) (sym (append-nil (type_found (type_at trees ty.0))))) (known, tt {0}) (omega (arith, known), tt {0})
+        tasks (omega (arith, size))
 
-    pub constant-Turned : (name : Name) (ty : TypeId) → Holds trees id.0 (a_term.Term.constant name (type_at trees ty.0)) → ty.0 < length trees.types → Marks (Found.needed (Need.constant name) ∷ [])
+    pub constant-Turned : (name : Name) (ty : TypeId) → Holds trees id.0 (a_term.Term.constant name (type_at trees ty.0)) → ty.0 < length trees.types
+        → Marks (Found.needed (Need.constant name) ∷ [])
         → v.tasks ≡ task.Type ty ∷ w.tasks → Turned trees count (task.Term id) w v
     constant-Turned name ty is known marks tasks =
         let t = term-is (a_term.Term.constant name (type_at trees ty.0)) is in
         let size = ap term_size t in
         term-Turned id n (Found.needed (Need.constant name) ∷ []) marks (task.Type ty ∷ [])
-        (ap term_found t ∙ ap (λ l. Found.needed (Need.constant name) ∷ l) (sym (append-nil (type_found (type_at trees ty.0))))) (known, tt {0}) (omega (arith, known), tt {0}) tasks (omega (arith, size))
+        (ap term_found t ∙ ap (λ l. Found.needed (Need.constant name) ∷ l) (sym (append-nil (type_found (type_at trees ty.0))))) (known, tt {0})
+        (omega (arith, known), tt {0}) tasks (omega (arith, size))
 
     pub application-Turned : (f x : TermId) → Holds trees id.0 (a_term.Term.app (term_at trees f.0) (term_at trees x.0)) → f.0 < id.0 → x.0 < id.0 → Marks []
         → v.tasks ≡ task.Term f ∷ task.Term x ∷ w.tasks → Turned trees count (task.Term id) w v
@@ -245,7 +263,8 @@ module _ (trees : Trees) (count : ℕ) (w v : Walk) where
         (ap term_found t ∙ ap (λ l. term_found (term_at trees f.0) ++ l) (sym (append-nil (term_found (term_at trees x.0)))))
         (omega (arith, known, lf), (omega (arith, known, lx), tt {0})) (omega (arith, lf), (omega (arith, lx), tt {0})) tasks (omega (arith, size))
 
-    pub abstraction-Turned : (ty : TypeId) (b : TermId) → Holds trees id.0 (a_term.Term.lam (type_at trees ty.0) (term_at trees b.0)) → ty.0 < length trees.types → b.0 < id.0 → Marks []
+    pub abstraction-Turned : (ty : TypeId) (b : TermId) → Holds trees id.0 (a_term.Term.lam (type_at trees ty.0) (term_at trees b.0))
+        → ty.0 < length trees.types → b.0 < id.0 → Marks []
         → v.tasks ≡ task.Type ty ∷ task.Term b ∷ w.tasks → Turned trees count (task.Term id) w v
     abstraction-Turned ty b is lt lb marks tasks =
         let t = term-is (a_term.Term.lam (type_at trees ty.0) (term_at trees b.0)) is in

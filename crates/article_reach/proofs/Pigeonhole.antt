@@ -29,7 +29,8 @@ module _ {A : Type 0} (tells : ℕ → A → Bool) (bound : ℕ) (one : (p q : �
           step true h = omega (arith, h)
           step false h = omega (arith, h)
 
-      go : (b : Bool) → (b || list_any (tells p) xs) ≡ true → (list_any (tells p) xs ≡ true → length (others p xs) < length xs) → length (others p xs) ≤ length xs
+      go : (b : Bool) → (b || list_any (tells p) xs) ≡ true → (list_any (tells p) xs ≡ true → length (others p xs) < length xs)
+          → length (others p xs) ≤ length xs
           → length (cond (not b) (x ∷ others p xs) (others p xs)) < suc (length xs)
       go true e h l = omega (arith, l)
       go false e h l = omega (arith, h e)
@@ -38,5 +39,6 @@ module _ {A : Type 0} (tells : ℕ → A → Bool) (bound : ℕ) (one : (p q : �
   at_least xs zero small h = omega arith
   at_least xs (suc r) small h =
       let less = fewer r xs (h r (omega arith)) in
-      let rest = at_least (others r xs) r (omega (arith, small)) (λ k l. same-others r k xs (omega (arith, small)) (omega (arith, small, l)) (λ e. absurd (omega (arith, e, l))) ∙ h k (omega (arith, l))) in
+      let rest = at_least (others r xs) r (omega (arith, small))
+      (λ k l. same-others r k xs (omega (arith, small)) (omega (arith, small, l)) (λ e. absurd (omega (arith, e, l))) ∙ h k (omega (arith, l))) in
       omega (arith, less, rest)

@@ -17,14 +17,18 @@ use Rattle.article_reach.specs.Found.{Asked}
 use Rattle.article_reach.specs.Walks.{is_marked}
 
 pub constants-wanted : (trees : Trees) (w : Walk) (pairs : List (Name × Variable))
-    → list_any (λ (pair : Name × Variable). is_in name_eq pair.0 w.constants) pairs ≡ list_any (λ n. is_marked w (Asked.need n)) (defines (rule.Parameters.constants (pairs_view trees pairs)))
+    → list_any (λ (pair : Name × Variable). is_in name_eq pair.0 w.constants) pairs
+    ≡ list_any (λ n. is_marked w (Asked.need n)) (defines (rule.Parameters.constants (pairs_view trees pairs)))
 constants-wanted trees w [] = refl
 constants-wanted trees w (p ∷ pairs) = ap (λ b. is_in name_eq p.0 w.constants || b) (constants-wanted trees w pairs)
 
 -- what a step serves: itself, the law that is made with it, the symbols that it defines
-pub serves-parts : (w : Walk) (i : ℕ) (x : Step) (own law definition : Bool) → own ≡ flag w.steps.items i → law ≡ list_any (λ n. is_marked w (Asked.need n)) (together i x.kind)
-    → definition ≡ list_any (λ n. is_marked w (Asked.need n)) (defines x.parameters) → (own || (law || definition)) ≡ list_any (λ n. is_marked w (Asked.need n)) (serves (record { number = i; step = x }))
-serves-parts w i x own law definition e f g = ap₂ (λ a b. a || b) e (ap₂ (λ a b. a || b) f g ∙ sym (list_any-append (λ n. is_marked w (Asked.need n)) (together i x.kind) (defines x.parameters)))
+pub serves-parts : (w : Walk) (i : ℕ) (x : Step) (own law definition : Bool) → own ≡ flag w.steps.items i → law
+    ≡ list_any (λ n. is_marked w (Asked.need n)) (together i x.kind)
+    → definition ≡ list_any (λ n. is_marked w (Asked.need n)) (defines x.parameters) → (own || (law || definition))
+    ≡ list_any (λ n. is_marked w (Asked.need n)) (serves (record { number = i; step = x }))
+serves-parts w i x own law definition e f g = ap₂ (λ a b. a || b) e
+    (ap₂ (λ a b. a || b) f g ∙ sym (list_any-append (λ n. is_marked w (Asked.need n)) (together i x.kind) (defines x.parameters)))
 
 pub all-taken : {A : Type 0} (xs : List A) (i : ℕ) → length xs ≤ i → take i xs ≡ xs
 all-taken [] zero l = refl

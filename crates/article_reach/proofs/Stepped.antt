@@ -36,7 +36,8 @@ module _ (p : Kept) where
   marked-reached : (w : Walk) → w.tasks ≡ [] → (x : Asked) → is_reached p.trees w x ≡ is_marked w x
   marked-reached w e x = ap (λ l. is_marked w x || is_found (found_in p.trees l) x) e ∙ or-false (is_marked w x)
 
-  more-marked : (fs : List Found) (w v : Walk) → w.tasks ≡ [] → v.tasks ≡ [] → WalksOn p fs w v → (x : Asked) → IsAsked x → is_marked v x ≡ (is_marked w x || is_found fs x)
+  more-marked : (fs : List Found) (w v : Walk) → w.tasks ≡ [] → v.tasks ≡ [] → WalksOn p fs w v → (x : Asked) → IsAsked x → is_marked v x
+      ≡ (is_marked w x || is_found fs x)
   more-marked fs w v e f h x i = sym (marked-reached v f x) ∙ h.wants x i ∙ ap (λ b. b || is_found fs x) (marked-reached w e x)
 
   drop-all : {A : Type 0} (xs : List A) → drop (length xs) xs ≡ []
@@ -45,7 +46,8 @@ module _ (p : Kept) where
 
   module _ (exports : List ℕ) where
     -- Before any step was looked at
-    pub looked-first : (first w : Walk) (told : List Bool) → ((x : Asked) → is_marked first x ≡ false) → first.tasks ≡ [] → w.tasks ≡ [] → WalksOn p (steps_found exports) first w → length told ≡ step_count p
+    pub looked-first : (first w : Walk) (told : List Bool) → ((x : Asked) → is_marked first x ≡ false) → first.tasks ≡ [] → w.tasks ≡ []
+        → WalksOn p (steps_found exports) first w → length told ≡ step_count p
         → ((i : ℕ) → flag told i ≡ false) → IsLooked p exports w told (step_count p)
     looked-first first w told none empty tasks walks count unset =
         let all = drop-all steps in
@@ -53,11 +55,15 @@ module _ (p : Kept) where
           walk = walks.walk;
           tasks = tasks;
           needed = λ m.
-              more-marked (steps_found exports) first w empty tasks walks (Asked.need m) (tt {0}) ∙ ap (λ b. b || is_found (steps_found exports) (Asked.need m)) (none (Asked.need m))
-              ∙ ap (λ fs. is_found fs (Asked.need m)) (sym (map-twice Found.needed Need.step exports)) ∙ ap (λ l. is_found (needs_found (reached_from (roots_of exports) (step_count p) l).needed) (Asked.need m)) (sym all);
+              more-marked (steps_found exports) first w empty tasks walks (Asked.need m) (tt {0})
+              ∙ ap (λ b. b || is_found (steps_found exports) (Asked.need m)) (none (Asked.need m))
+              ∙ ap (λ fs. is_found fs (Asked.need m)) (sym (map-twice Found.needed Need.step exports))
+              ∙ ap (λ l. is_found (needs_found (reached_from (roots_of exports) (step_count p) l).needed) (Asked.need m)) (sym all);
           numbers = λ q l.
-              more-marked (steps_found exports) first w empty tasks walks (Asked.number q) l ∙ ap (λ b. b || is_found (steps_found exports) (Asked.number q)) (none (Asked.number q))
-              ∙ silent q exports ∙ ap (λ l. is_found (names_found (names_of (reached_from (roots_of exports) (step_count p) l).steps)) (Asked.number q)) (sym all);
+              more-marked (steps_found exports) first w empty tasks walks (Asked.number q) l
+              ∙ ap (λ b. b || is_found (steps_found exports) (Asked.number q)) (none (Asked.number q))
+              ∙ silent q exports ∙ ap (λ l. is_found (names_found (names_of (reached_from (roots_of exports) (step_count p) l).steps)) (Asked.number q))
+              (sym all);
           count = count;
           each = λ j l. unset j ∙ ap (λ l. is_flagged (roots_of exports) (step_count p) l j) (sym all);
           within = omega arith;
@@ -77,9 +83,11 @@ module _ (p : Kept) where
     any-same f g [] h = refl
     any-same f g (n ∷ ns) h = ap₂ (λ a b. a || b) (h n) (any-same f g ns h)
 
-    names-more : (y : Numbered) (ys : List Numbered) (q : ℕ) → list_any (is_binder_name q) (names_of (y ∷ ys)) ≡ (list_any (is_binder_name q) (names_of ys) || list_any (is_binder_name q) (map (λ v. v.0) (step_variables y.step)))
+    names-more : (y : Numbered) (ys : List Numbered) (q : ℕ) → list_any (is_binder_name q) (names_of (y ∷ ys))
+        ≡ (list_any (is_binder_name q) (names_of ys) || list_any (is_binder_name q) (map (λ v. v.0) (step_variables y.step)))
     names-more y ys q =
-        ap (list_any (is_binder_name q)) (names-append (step_variables y.step) (flat_map (λ z. step_variables z.step) ys)) ∙ list_any-append (is_binder_name q) (map (λ v. v.0) (step_variables y.step)) (names_of ys)
+        ap (list_any (is_binder_name q)) (names-append (step_variables y.step) (flat_map (λ z. step_variables z.step) ys))
+        ∙ list_any-append (is_binder_name q) (map (λ v. v.0) (step_variables y.step)) (names_of ys)
         ∙ swap (list_any (is_binder_name q) (map (λ v. v.0) (step_variables y.step))) (list_any (is_binder_name q) (names_of ys))
       where
         names-append : (us vs : List Variable) → map (λ v. v.0) (us ++ vs) ≡ map (λ v. v.0) us ++ map (λ v. v.0) vs
@@ -92,7 +100,8 @@ module _ (p : Kept) where
         swap false true = refl
         swap false false = refl
 
-    module _ (i : ℕ) (x : Step) (xs : List Step) (w v : Walk) (told : List Bool) (is : Bool) (at : drop i (steps_of p.made) ≡ x ∷ xs) (rest : drop (i + 1) (steps_of p.made) ≡ xs) (h : IsLooked p exports w told (i + 1)) (n : Next i x w v is) where
+    module _ (i : ℕ) (x : Step) (xs : List Step) (w v : Walk) (told : List Bool) (is : Bool) (at : drop i (steps_of p.made) ≡ x ∷ xs)
+        (rest : drop (i + 1) (steps_of p.made) ≡ xs) (h : IsLooked p exports w told (i + 1)) (n : Next i x w v is) where
       abbrev before : Reached
       before = reached_from (roots_of exports) (i + 1) xs
 
@@ -100,10 +109,12 @@ module _ (p : Kept) where
       y = record { number = i; step = x }
 
       needed-before : (m : Need) → is_marked w (Asked.need m) ≡ list_any (need_eq m) before.needed
-      needed-before m = h.needed m ∙ ap (λ l. is_found (needs_found (reached_from (roots_of exports) (i + 1) l).needed) (Asked.need m)) rest ∙ found-needs before.needed m
+      needed-before m = h.needed m ∙ ap (λ l. is_found (needs_found (reached_from (roots_of exports) (i + 1) l).needed) (Asked.need m)) rest ∙ found-needs
+          before.needed m
 
       numbers-before : (q : ℕ) → IsAsked (Asked.number q) → is_marked w (Asked.number q) ≡ list_any (is_binder_name q) (names_of before.steps)
-      numbers-before q l = h.numbers q l ∙ ap (λ l. is_found (names_found (names_of (reached_from (roots_of exports) (i + 1) l).steps)) (Asked.number q)) rest ∙ found-names (names_of before.steps) q
+      numbers-before q l = h.numbers q l ∙ ap (λ l. is_found (names_found (names_of (reached_from (roots_of exports) (i + 1) l).steps)) (Asked.number q)) rest
+          ∙ found-names (names_of before.steps) q
 
       is-wanted : is ≡ is_wanted before.needed y
       is-wanted = n.is_told ∙ any-same (λ m. is_marked w (Asked.need m)) (λ m. list_any (need_eq m) before.needed) (serves y) needed-before
@@ -115,11 +126,14 @@ module _ (p : Kept) where
       whole = ap (reached_from (roots_of exports) i) at ∙ ap now (sym is-wanted)
 
       needed-now : (b : Bool) (m : Need) → WalksOn p (cond b (step_found x) []) w v → is_marked v (Asked.need m) ≡ list_any (need_eq m) (now b).needed
-      needed-now true m walks = more-marked (step_found x) w v h.tasks n.tasks walks (Asked.need m) (tt {0}) ∙ ap₂ (λ a b. a || b) (needed-before m) (step-needs m x) ∙ sym (list_any-append (need_eq m) before.needed (needs x))
+      needed-now true m walks = more-marked (step_found x) w v h.tasks n.tasks walks (Asked.need m) (tt {0}) ∙ ap₂ (λ a b. a || b) (needed-before m)
+          (step-needs m x) ∙ sym (list_any-append (need_eq m) before.needed (needs x))
       needed-now false m walks = more-marked [] w v h.tasks n.tasks walks (Asked.need m) (tt {0}) ∙ or-false (is_marked w (Asked.need m)) ∙ needed-before m
 
-      numbers-now : (b : Bool) (q : ℕ) → IsAsked (Asked.number q) → WalksOn p (cond b (step_found x) []) w v → is_marked v (Asked.number q) ≡ list_any (is_binder_name q) (names_of (now b).steps)
-      numbers-now true q l walks = more-marked (step_found x) w v h.tasks n.tasks walks (Asked.number q) l ∙ ap₂ (λ a b. a || b) (numbers-before q l) (step-names q x) ∙ sym (names-more y before.steps q)
+      numbers-now : (b : Bool) (q : ℕ) → IsAsked (Asked.number q) → WalksOn p (cond b (step_found x) []) w v → is_marked v (Asked.number q)
+          ≡ list_any (is_binder_name q) (names_of (now b).steps)
+      numbers-now true q l walks = more-marked (step_found x) w v h.tasks n.tasks walks (Asked.number q) l ∙ ap₂ (λ a b. a || b) (numbers-before q l)
+          (step-names q x) ∙ sym (names-more y before.steps q)
       numbers-now false q l walks = more-marked [] w v h.tasks n.tasks walks (Asked.number q) l ∙ or-false (is_marked w (Asked.number q)) ∙ numbers-before q l
 
       each-now : (j : ℕ) → i ≤ j → flag (slice_set told i is) j ≡ is_flagged (roots_of exports) i (x ∷ xs) j
@@ -134,15 +148,18 @@ module _ (p : Kept) where
               ∙ sym (ap (λ b. cond b (is_wanted before.needed y) (is_flagged (roots_of exports) (i + 1) xs j)) e)
           go false e =
               let more : i + 1 ≤ j = grind (arith, nat_tests, e, l) in
-              get_or-set_other told i j is false (λ s. let f : (j == i) ≡ true = grind (arith, nat_tests, s) in absurd (cc)) ∙ h.each j more ∙ ap (λ l. is_flagged (roots_of exports) (i + 1) l j) rest
+              get_or-set_other told i j is false (λ s. let f : (j == i) ≡ true = grind (arith, nat_tests, s) in absurd (cc)) ∙ h.each j more
+              ∙ ap (λ l. is_flagged (roots_of exports) (i + 1) l j) rest
               ∙ sym (ap (λ b. cond b (is_wanted before.needed y) (is_flagged (roots_of exports) (i + 1) xs j)) e)
 
       next-IsLooked : IsLooked p exports v (slice_set told i is) i
       next-IsLooked = record {
         walk = n.walks.walk;
         tasks = n.tasks;
-        needed = λ m. needed-now is m n.walks ∙ sym (found-needs (now is).needed m) ∙ ap (λ (r : Reached). is_found (needs_found r.needed) (Asked.need m)) (sym whole);
-        numbers = λ q l. numbers-now is q l n.walks ∙ sym (found-names (names_of (now is).steps) q) ∙ ap (λ (r : Reached). is_found (names_found (names_of r.steps)) (Asked.number q)) (sym whole);
+        needed = λ m. needed-now is m n.walks ∙ sym (found-needs (now is).needed m)
+            ∙ ap (λ (r : Reached). is_found (needs_found r.needed) (Asked.need m)) (sym whole);
+        numbers = λ q l. numbers-now is q l n.walks ∙ sym (found-names (names_of (now is).steps) q)
+            ∙ ap (λ (r : Reached). is_found (names_found (names_of r.steps)) (Asked.number q)) (sym whole);
         count = length-set told i is ∙ h.count;
         each = λ j l. each-now j l ∙ ap (λ l. is_flagged (roots_of exports) i l j) (sym at);
         within = let low = h.within in omega (arith, low);
@@ -156,11 +173,14 @@ module _ (p : Kept) where
         go (z ∷ zs) zero l = refl
         go (z ∷ zs) (suc k) l = go zs k (omega (arith, l))
 
-    pub looked-next : (i j : ℕ) (w v : Walk) (told : List Bool) (is : Bool) → j ≡ i + 1 → IsLooked p exports w told j → Next i (step_at p.made i) w v is → IsLooked p exports v (slice_set told i is) i
+    pub looked-next : (i j : ℕ) (w v : Walk) (told : List Bool) (is : Bool) → j ≡ i + 1 → IsLooked p exports w told j → Next i (step_at p.made i) w v is
+        → IsLooked p exports v (slice_set told i is) i
     looked-next i j w v told is e h n =
         let within = h.within in
         next-IsLooked i (step_at p.made i) (drop (i + 1) steps) w v told is
-        (drop-step steps i (record { kind = Refl; premises = []; parameters = rule.Parameters.nothing; sequent = record { hypotheses = []; conclusion = bound 0 } }) (omega (arith, e, within))) refl (subst (IsLooked p exports w told) e h) n
+        (drop-step steps i
+        (record { kind = Refl; premises = []; parameters = rule.Parameters.nothing; sequent = record { hypotheses = []; conclusion = bound 0 } })
+        (omega (arith, e, within))) refl (subst (IsLooked p exports w told) e h) n
 
     -- Once all were looked at
     selected-same : (f g : ℕ → Bool) (i : ℕ) (xs : List Step) → ((k : ℕ) → f k ≡ g k) → selected f i xs ≡ selected g i xs
@@ -174,7 +194,8 @@ module _ (p : Kept) where
       exports_count = count;
       exports_are = λ i l. exports_are i;
       reached = λ run made is.
-          selected-same (flag r.told) (is_flagged (roots_of exports) 0 steps) 0 steps (λ k. h.each k (omega arith)) ∙ sym (reached-selected (roots_of exports) 0 steps) ∙ sym (same run made is);
+          selected-same (flag r.told) (is_flagged (roots_of exports) 0 steps) 0 steps (λ k. h.each k (omega arith))
+          ∙ sym (reached-selected (roots_of exports) 0 steps) ∙ sym (same run made is);
       number = λ run made is.
           sym (least-first w.numbers.items r.number (names_of (reached_from (roots_of exports) 0 steps).steps) least
           (λ q l. h.numbers q l ∙ found-names (names_of (reached_from (roots_of exports) 0 steps).steps) q))

@@ -43,22 +43,28 @@ or-absorbed false false f = refl
 -- what is found in tasks
 found_in-append : (trees : Trees) (ts us : List Task) → found_in trees (ts ++ us) ≡ found_in trees ts ++ found_in trees us
 found_in-append trees [] us = refl
-found_in-append trees (t ∷ ts) us = ap (λ l. task_found trees t ++ l) (found_in-append trees ts us) ∙ sym (append_assoc (task_found trees t) (found_in trees ts) (found_in trees us))
+found_in-append trees (t ∷ ts) us = ap (λ l. task_found trees t ++ l) (found_in-append trees ts us) ∙ sym
+    (append_assoc (task_found trees t) (found_in trees ts) (found_in trees us))
 
 pub found-append : (fs gs : List Found) (x : Asked) → is_found (fs ++ gs) x ≡ (is_found fs x || is_found gs x)
 found-append fs gs x = list_any-append (answers x) fs gs
 
-found-tasks : (trees : Trees) (ts us : List Task) (x : Asked) → is_found (found_in trees (ts ++ us)) x ≡ (is_found (found_in trees ts) x || is_found (found_in trees us) x)
+found-tasks : (trees : Trees) (ts us : List Task) (x : Asked) → is_found (found_in trees (ts ++ us)) x
+    ≡ (is_found (found_in trees ts) x || is_found (found_in trees us) x)
 found-tasks trees ts us x = ap (λ fs. is_found fs x) (found_in-append trees ts us) ∙ found-append (found_in trees ts) (found_in trees us) x
 
-found-where : (trees : Trees) (tasks : List Task) (u : Task) (x : Asked) → IsIn tasks u → is_found (task_found trees u) x ≡ true → is_found (found_in trees tasks) x ≡ true
+found-where : (trees : Trees) (tasks : List Task) (u : Task) (x : Asked) → IsIn tasks u → is_found (task_found trees u) x ≡ true
+    → is_found (found_in trees tasks) x ≡ true
 found-where trees [] u x h e = absurd h
-found-where trees (t ∷ ts) u x (inl same) e = found-append (task_found trees t) (found_in trees ts) x ∙ or_left (is_found (task_found trees t) x) (is_found (found_in trees ts) x) (subst (λ v. is_found (task_found trees v) x ≡ true) same e)
+found-where trees (t ∷ ts) u x (inl same) e = found-append (task_found trees t) (found_in trees ts) x ∙ or_left (is_found (task_found trees t) x)
+    (is_found (found_in trees ts) x) (subst (λ v. is_found (task_found trees v) x ≡ true) same e)
 found-where trees (t ∷ ts) u x (inr h) e =
-    found-append (task_found trees t) (found_in trees ts) x ∙ or_right (is_found (task_found trees t) x) (is_found (found_in trees ts) x) (found-where trees ts u x h e)
+    found-append (task_found trees t) (found_in trees ts) x
+    ∙ or_right (is_found (task_found trees t) x) (is_found (found_in trees ts) x) (found-where trees ts u x h e)
 
 -- what some tasks need, one of them needs
-found-by : (trees : Trees) (tasks : List Task) (x : Asked) → is_found (found_in trees tasks) x ≡ true → (u : Task) × IsIn tasks u × (is_found (task_found trees u) x ≡ true)
+found-by : (trees : Trees) (tasks : List Task) (x : Asked) → is_found (found_in trees tasks) x ≡ true → (u : Task) × IsIn tasks u
+    × (is_found (task_found trees u) x ≡ true)
 found-by trees [] x e = absurd (cc)
 found-by trees (t ∷ ts) x e =
     elim (or_cases (is_found (task_found trees t) x) (is_found (found_in trees ts) x) (sym (found-append (task_found trees t) (found_in trees ts) x) ∙ e)) [
@@ -79,11 +85,13 @@ module _ (trees : Trees) (count : ℕ) where
 
   -- what the walk came to reaches what it needs
   module _ (w : Walk) (opened : (t : Task) → is_seen w t ≡ true → IsOpened trees w t) where
-    covered : (n : ℕ) (t : Task) → rank trees t < n → is_seen w t ≡ true → (x : Asked) → IsAsked x → is_found (task_found trees t) x ≡ true → is_reached trees w x ≡ true
+    covered : (n : ℕ) (t : Task) → rank trees t < n → is_seen w t ≡ true → (x : Asked) → IsAsked x → is_found (task_found trees t) x ≡ true
+        → is_reached trees w x ≡ true
     covered zero t l s x i e = absurd (omega (arith, l))
     covered (suc n) t l s x i e =
         let o = opened t s in
-        elim (or_cases (is_found o.own x) (is_found (found_in trees o.parts) x) (sym (ap (λ fs. is_found fs x) o.found ∙ found-append o.own (found_in trees o.parts) x) ∙ e)) [
+        elim (or_cases (is_found o.own x) (is_found (found_in trees o.parts) x)
+        (sym (ap (λ fs. is_found fs x) o.found ∙ found-append o.own (found_in trees o.parts) x) ∙ e)) [
           | inl f ↦ or_left (is_marked w x) (is_found (found_in trees w.tasks) x) (o.marked x i f)
           | inr f ↦
               let r = found-by trees o.parts x f in
@@ -241,7 +249,8 @@ module _ (trees : Trees) (count : ℕ) where
   -- one after another
   pub Wants-trans : (fs gs : List Found) (a b c : Walk) → Wants trees fs a b → Wants trees gs b c → Wants trees (fs ++ gs) a c
   Wants-trans fs gs a b c h k x i =
-      k x i ∙ ap (λ y. y || is_found gs x) (h x i) ∙ or-assoc (is_reached trees a x) (is_found fs x) (is_found gs x) ∙ ap (λ y. is_reached trees a x || y) (sym (found-append fs gs x))
+      k x i ∙ ap (λ y. y || is_found gs x) (h x i) ∙ or-assoc (is_reached trees a x) (is_found fs x) (is_found gs x)
+      ∙ ap (λ y. is_reached trees a x || y) (sym (found-append fs gs x))
 
   pub Wants-refl : (a : Walk) → Wants trees [] a a
   Wants-refl a x i = sym (or-false (is_reached trees a x))

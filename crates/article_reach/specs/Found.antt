@@ -57,7 +57,8 @@ abbrev pub given_found : Parameters → List Found
 given_found Parameters.nothing = []
 given_found (Parameters.term t) = term_found t
 given_found (Parameters.variable v) = named v.0 ∷ type_found v.1
-given_found (Parameters.substitution types terms) = flat_map (λ p. type_found p.1) types ++ flat_map (λ p. named p.0.0 ∷ type_found p.0.1 ++ term_found p.1) terms
+given_found (Parameters.substitution types terms) =
+    flat_map (λ p. type_found p.1) types ++ flat_map (λ p. named p.0.0 ∷ type_found p.0.1 ++ term_found p.1) terms
 given_found (Parameters.sequent s) = sequent_found s
 given_found (Parameters.constant n t) = term_found t
 given_found (Parameters.constants pairs) = flat_map (λ p. named p.1.0 ∷ type_found p.1.1) pairs

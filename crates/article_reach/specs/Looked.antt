@@ -53,7 +53,8 @@ pub record IsLooked (p : Kept) (exports : List ℕ) (w : Walk) (told : List Bool
   pub walk : IsWalkOf p w
   pub tasks : w.tasks ≡ []
   pub needed : (m : Need) → is_marked w (Asked.need m) ≡ is_found (needs_found (needed_from p exports i)) (Asked.need m)
-  pub numbers : (q : ℕ) → IsAsked (Asked.number q) → is_marked w (Asked.number q) ≡ is_found (names_found (names_of (reached_behind p exports i))) (Asked.number q)
+  pub numbers : (q : ℕ) → IsAsked (Asked.number q) → is_marked w (Asked.number q)
+      ≡ is_found (names_found (names_of (reached_behind p exports i))) (Asked.number q)
   pub count : length told ≡ step_count p
   pub each : (j : ℕ) → i ≤ j → flag told j ≡ is_flagged (roots_of exports) i (drop i (steps_of p.made)) j
   pub within : i ≤ step_count p

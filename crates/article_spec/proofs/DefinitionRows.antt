@@ -32,7 +32,8 @@ name_of text = text ∷ []
 
 -- the newer constant: c as \x. x, then d as c
 abbrev newer : List Item
-newer = n (codes "c") ∷ identity_lines (codes "x") ++ w word.DefineConst ∷ n (codes "d") ∷ constant (codes "c") (to bool_type bool_type) ++ w word.DefineConst ∷ []
+newer = n (codes "c") ∷ identity_lines (codes "x") ++ w word.DefineConst ∷ n (codes "d") ∷ constant (codes "c") (to bool_type bool_type)
+    ++ w word.DefineConst ∷ []
 
 abbrev c : Term
 c = Term.constant (named (codes "c")) truths
@@ -43,11 +44,13 @@ d = Term.constant (named (codes "d")) truths
 newer_sequents : sequents (obeyed newer) ≡ derived [] (equation truths c (identity bool)) ∷ derived [] (equation truths d c) ∷ []
 newer_sequents = refl
 
-newer_symbols : symbols (obeyed newer) ≡ Symbol.defined (Definition.constant (named (codes "c")) (identity bool)) ∷ Symbol.defined (Definition.constant (named (codes "d")) c) ∷ []
+newer_symbols : symbols (obeyed newer) ≡ Symbol.defined (Definition.constant (named (codes "c")) (identity bool)) ∷ Symbol.defined
+    (Definition.constant (named (codes "d")) c) ∷ []
 newer_symbols = refl
 
 -- refused definitions
-taken_name : obeyed (constant (codes "n") bool_type ++ w word.Pop ∷ n (codes "n") ∷ abstracted (W (codes "x")) (V (codes "x")) ++ w word.DefineConst ∷ []) ≡ Err (26, NameTaken)
+taken_name : obeyed (constant (codes "n") bool_type ++ w word.Pop ∷ n (codes "n") ∷ abstracted (W (codes "x")) (V (codes "x")) ++ w word.DefineConst ∷ [])
+    ≡ Err (26, NameTaken)
 taken_name = refl
 
 abbrev a_type : List Item
@@ -89,20 +92,23 @@ abbrev w_term : Term
 w_term = Term.free (named (codes "w")) truths
 
 listed_sequents : sequents (obeyed both_constants)
-    ≡ derived (equation truths v (identity bool) ∷ equation truths w_term (identity bool) ∷ []) (equation truths v (identity bool)) ∷ derived [] (equation truths c (identity bool)) ∷ []
+    ≡ derived (equation truths v (identity bool) ∷ equation truths w_term (identity bool) ∷ []) (equation truths v (identity bool)) ∷ derived []
+    (equation truths c (identity bool)) ∷ []
 listed_sequents = refl
 
 listed_kinds : kinds (obeyed both_constants) ≡ Axiom ∷ DefineConstList ∷ []
 listed_kinds = refl
 
-listed_symbols : symbols (obeyed both_constants) ≡ Symbol.defined (Definition.constant (named (codes "c")) (identity bool)) ∷ Symbol.defined (Definition.constant (named (codes "d")) (identity bool)) ∷ []
+listed_symbols : symbols (obeyed both_constants) ≡ Symbol.defined (Definition.constant (named (codes "c")) (identity bool)) ∷ Symbol.defined
+    (Definition.constant (named (codes "d")) (identity bool)) ∷ []
 listed_symbols = refl
 
 one_constant : kind_of (obeyed (listed (pair_lines (codes "c") (codes "v") ∷ []) ++ list_premise ++ w word.DefineConstList ∷ [])) ≡ BadDefinitionList ∷ []
 one_constant = refl
 
 -- a name that stands twice is no taken one, but a bad list
-twice : kind_of (obeyed (listed (pair_lines (codes "c") (codes "v") ∷ pair_lines (codes "c") (codes "w") ∷ []) ++ list_premise ++ w word.DefineConstList ∷ [])) ≡ BadDefinitionList ∷ []
+twice : kind_of (obeyed (listed (pair_lines (codes "c") (codes "v") ∷ pair_lines (codes "c") (codes "w") ∷ []) ++ list_premise ++ w word.DefineConstList ∷ []))
+    ≡ BadDefinitionList ∷ []
 twice = refl
 
 -- the empty list with a closed conclusion
@@ -120,7 +126,8 @@ abbrev predicate_lines : List Item
 predicate_lines = abstracted (variable (codes "r") ab_lines) (equals ab_lines (free (codes "r") ab_lines) (free (codes "r") ab_lines))
 
 abbrev type_lines : List (List Item) → List Item
-type_lines names = n (codes "two") ∷ n (codes "mk") ∷ n (codes "dest") ∷ listed names ++ w word.Nil ∷ applied predicate_lines (free (codes "g") ab_lines) ++ w word.Axiom ∷ w word.DefineTypeOp ∷ []
+type_lines names = n (codes "two") ∷ n (codes "mk") ∷ n (codes "dest") ∷ listed names ++ w word.Nil ∷ applied predicate_lines (free (codes "g") ab_lines)
+    ++ w word.Axiom ∷ w word.DefineTypeOp ∷ []
 
 abbrev a : HolType
 a = HolType.variable (named (codes "a"))
@@ -149,7 +156,8 @@ typed_run = obeyed (type_lines ((n (codes "b") ∷ []) ∷ (n (codes "a") ∷ []
 type_sequents : sequents typed_run
     ≡ derived [] (Term.app predicate (Term.free (named (codes "g")) ab))
     ∷ derived [] (equation (function two two) (Term.lam two (mk (dest (Term.bound 0)))) (Term.lam two (Term.bound 0)))
-    ∷ derived [] (equation (function ab bool) (Term.lam ab (equation ab (dest (mk (Term.bound 0))) (Term.bound 0))) (Term.lam ab (Term.app predicate (Term.bound 0)))) ∷ []
+    ∷ derived [] (equation (function ab bool) (Term.lam ab (equation ab (dest (mk (Term.bound 0))) (Term.bound 0)))
+    (Term.lam ab (Term.app predicate (Term.bound 0)))) ∷ []
 type_sequents = refl
 
 type_kinds : kinds typed_run ≡ Axiom ∷ FirstLaw ∷ SecondLaw ∷ []
@@ -159,7 +167,8 @@ abbrev stack_of : Result State (ℕ × Kind) → List Object
 stack_of (Ok s) = s.stack
 stack_of (Err r) = []
 
-type_stack : stack_of typed_run ≡ Object.theorem 2 ∷ Object.theorem 1 ∷ Object.constant (named (codes "dest")) ∷ Object.constant (named (codes "mk")) ∷ Object.type_operator (named (codes "two")) ∷ []
+type_stack : stack_of typed_run ≡ Object.theorem 2 ∷ Object.theorem 1 ∷ Object.constant (named (codes "dest")) ∷ Object.constant (named (codes "mk")) ∷
+    Object.type_operator (named (codes "two")) ∷ []
 type_stack = refl
 
 bad_type_variables : kind_of (obeyed (type_lines ((n (codes "a") ∷ []) ∷ []))) ≡ BadTypeVars ∷ []
@@ -176,7 +185,8 @@ abbrev first_article : List Item
 first_article = header ++ identity_lines (codes "y") ++ w word.Refl ∷ listed (V (codes "p") ∷ V (codes "q") ∷ []) ++ identities (codes "y") ++ w word.Thm ∷ []
 
 abbrev second_article : List Item
-second_article = header ++ listed (V (codes "q") ∷ V (codes "p") ∷ []) ++ identities (codes "z") ++ w word.Axiom ∷ listed (V (codes "q") ∷ V (codes "p") ∷ V (codes "r") ∷ []) ++ identities (codes "z") ++ w word.Thm ∷ []
+second_article = header ++ listed (V (codes "q") ∷ V (codes "p") ∷ []) ++ identities (codes "z")
+    ++ w word.Axiom ∷ listed (V (codes "q") ∷ V (codes "p") ∷ V (codes "r") ∷ []) ++ identities (codes "z") ++ w word.Thm ∷ []
 
 abbrev in_order : List Item → List Item → Result State (ℕ × Kind)
 in_order x y = obey_article machine initial (lines 1 x) (End.ended 1) >>= λ s. obey_article machine s (lines 1 y) (End.ended 1)
@@ -193,7 +203,8 @@ q = boolean (codes "q")
 abbrev r : Term
 r = boolean (codes "r")
 
-two_articles : sequents (in_order first_article second_article) ≡ derived [] I ∷ derived (p ∷ q ∷ []) I ∷ derived (q ∷ p ∷ []) I ∷ derived (q ∷ p ∷ r ∷ []) I ∷ []
+two_articles : sequents (in_order first_article second_article)
+    ≡ derived [] I ∷ derived (p ∷ q ∷ []) I ∷ derived (q ∷ p ∷ []) I ∷ derived (q ∷ p ∷ r ∷ []) I ∷ []
 two_articles = refl
 
 two_articles_kinds : kinds (in_order first_article second_article) ≡ Refl ∷ Restate ∷ Restate ∷ Restate ∷ []

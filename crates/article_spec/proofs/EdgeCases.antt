@@ -201,7 +201,8 @@ key_of_wrong_kind : after_header (w word.Nil ∷ w word.Def ∷ []) ≡ Err (0, 
 key_of_wrong_kind = refl
 
 -- version needs its place; without it an article is of version 5
-word_in_place_of_version : kinds initial (item.Number (pos 6) ∷ w word.Nil ∷ []) ≡ Ok (record initial { place = body Five; stack = Object.list Objects.none ∷ Object.number (pos 6) ∷ [] })
+word_in_place_of_version : kinds initial (item.Number (pos 6) ∷ w word.Nil ∷ [])
+    ≡ Ok (record initial { place = body Five; stack = Object.list Objects.none ∷ Object.number (pos 6) ∷ [] })
 word_in_place_of_version = refl
 
 version_in_first_place : kinds initial (w word.Version ∷ []) ≡ Err (0, VersionPlace)
@@ -212,10 +213,12 @@ abbrev made_after : Result State (ℕ × Kind) → List Made
 made_after (Ok s) = s.made
 made_after (Err r) = []
 
-input_constant_named_bool : made_after (after_header (nm (codes "bool") ∷ w word.Const ∷ bool_lines ++ w word.ConstTerm ∷ [])) ≡ Made.symbol (Symbol.input_constant (codes "bool" ∷ [])) ∷ []
+input_constant_named_bool : made_after (after_header (nm (codes "bool") ∷ w word.Const ∷ bool_lines ++ w word.ConstTerm ∷ []))
+    ≡ Made.symbol (Symbol.input_constant (codes "bool" ∷ [])) ∷ []
 input_constant_named_bool = refl
 
-input_operator_named_select : made_after (after_header (nm (codes "select") ∷ w word.TypeOp ∷ w word.Nil ∷ w word.OpType ∷ [])) ≡ Made.symbol (Symbol.input_operator (codes "select" ∷ []) 0) ∷ []
+input_operator_named_select : made_after (after_header (nm (codes "select") ∷ w word.TypeOp ∷ w word.Nil ∷ w word.OpType ∷ []))
+    ≡ Made.symbol (Symbol.input_operator (codes "select" ∷ []) 0) ∷ []
 input_operator_named_select = refl
 
 arrow_without_arguments : after_header (nm (codes "->") ∷ w word.TypeOp ∷ w word.Nil ∷ w word.OpType ∷ []) ≡ Err (0, BadArity)
@@ -225,7 +228,9 @@ choice_at_truth_values : after_header (nm (codes "select") ∷ w word.Const ∷ 
 choice_at_truth_values = refl
 
 -- a second use takes nothing
-second_use_takes_nothing : made_after (after_header (nm (codes "l") ∷ w word.TypeOp ∷ w word.Nil ∷ w word.OpType ∷ nm (codes "l") ∷ w word.TypeOp ∷ w word.Nil ∷ w word.OpType ∷ [])) ≡ Made.symbol (Symbol.input_operator (codes "l" ∷ []) 0) ∷ []
+second_use_takes_nothing : made_after
+    (after_header (nm (codes "l") ∷ w word.TypeOp ∷ w word.Nil ∷ w word.OpType ∷ nm (codes "l") ∷ w word.TypeOp ∷ w word.Nil ∷ w word.OpType ∷ []))
+    ≡ Made.symbol (Symbol.input_operator (codes "l" ∷ []) 0) ∷ []
 second_use_takes_nothing = refl
 
 application_of_truth_value : after_header (p_lines ++ p_lines ++ w word.AppTerm ∷ []) ≡ Err (0, TypeMismatch)
@@ -249,7 +254,12 @@ abbrev thm_on : List Object → List Item → Result State (ℕ × Kind)
 thm_on stack is = kinds (at_body stack) (w word.Refl ∷ is)
 
 abbrev refl_state : List Object → State
-refl_state below = record initial { place = body Six; stack = below; made = Made.step (record { kind = StepKind.Refl; premises = []; parameters = Parameters.term p; sequent = record { hypotheses = []; conclusion = eqp } }) ∷ [] }
+refl_state below = record initial {
+  place = body Six;
+  stack = below;
+  made =
+      Made.step (record { kind = StepKind.Refl; premises = []; parameters = Parameters.term p; sequent = record { hypotheses = []; conclusion = eqp } }) ∷ [];
+}
 
 abbrev listed : List Term → Objects
 listed [] = Objects.none
@@ -269,16 +279,27 @@ no_truth_value_first = refl
 repeated_hypotheses_dropped : exports_after (kinds (thm_state eqp (p ∷ eqp ∷ p ∷ [])) (w word.Thm ∷ []))
     ≡ (
       Made.step (record { kind = StepKind.Refl; premises = []; parameters = Parameters.term p; sequent = record { hypotheses = []; conclusion = eqp } })
-          ∷ Made.step (record { kind = StepKind.Restate; premises = 0 ∷ []; parameters = Parameters.sequent (record { hypotheses = p ∷ eqp ∷ []; conclusion = eqp }); sequent = record { hypotheses = p ∷ eqp ∷ []; conclusion = eqp } }) ∷ [],
+          ∷ Made.step
+          (record {
+            kind = StepKind.Restate;
+            premises = 0 ∷ [];
+            parameters =
+                Parameters.sequent (record { hypotheses = p ∷ eqp ∷ []; conclusion = eqp });
+            sequent = record { hypotheses = p ∷ eqp ∷ []; conclusion = eqp };
+          })
+          ∷ [],
       1 ∷ [],
       [],
     )
 repeated_hypotheses_dropped = refl
 
 -- the same sequent in another order is no second export, and the three operands are gone
-same_sequent_exported_once : exports_after (kinds (record (thm_state eqp (p ∷ eqp ∷ [])) { stack = (thm_state eqp (p ∷ eqp ∷ [])).stack ++ (thm_state eqp (eqp ∷ p ∷ [])).stack }) (w word.Thm ∷ w word.Thm ∷ [])) ≡ exports_after (kinds (thm_state eqp (p ∷ eqp ∷ [])) (w word.Thm ∷ []))
+same_sequent_exported_once : exports_after
+    (kinds (record (thm_state eqp (p ∷ eqp ∷ [])) { stack = (thm_state eqp (p ∷ eqp ∷ [])).stack ++ (thm_state eqp (eqp ∷ p ∷ [])).stack })
+    (w word.Thm ∷ w word.Thm ∷ [])) ≡ exports_after (kinds (thm_state eqp (p ∷ eqp ∷ [])) (w word.Thm ∷ []))
 same_sequent_exported_once = refl
 
 -- the operands: a list with a wrong element before the theorem that isn't there
-wrong_element_before_missing_theorem : kinds (refl_state (Object.term p ∷ Object.list (Objects.more (Object.number (pos 1)) Objects.none) ∷ [])) (w word.Thm ∷ []) ≡ Err (0, WrongKind)
+wrong_element_before_missing_theorem : kinds (refl_state (Object.term p ∷ Object.list (Objects.more (Object.number (pos 1)) Objects.none) ∷ []))
+    (w word.Thm ∷ []) ≡ Err (0, WrongKind)
 wrong_element_before_missing_theorem = refl

@@ -66,7 +66,8 @@ closed : closed_form (record { hypotheses = []; conclusion = equation bool p p }
       type_variable_count = 0;
       free_variable_types = ClosedType.operator (codes "bool" ∷ []) ClosedTypes.none ∷ [];
       hypotheses = [];
-      conclusion = ClosedTerm.app (ClosedTerm.app (ClosedTerm.constant (codes "=" ∷ []) (close_type [] (equality_type bool))) (ClosedTerm.parameter 0)) (ClosedTerm.parameter 0);
+      conclusion = ClosedTerm.app (ClosedTerm.app (ClosedTerm.constant (codes "=" ∷ []) (close_type [] (equality_type bool))) (ClosedTerm.parameter 0))
+          (ClosedTerm.parameter 0);
     }
 closed = refl
 
@@ -150,7 +151,8 @@ abbrev stack_of : Result State (ℕ × Kind) → List Object
 stack_of (Ok s) = s.stack
 stack_of (Err r) = []
 
-kept_object : stack_of (after_header (item.Name (codes "x" ∷ []) ∷ item.Number (pos 7) ∷ w word.Def ∷ item.Number (pos 7) ∷ w word.Ref ∷ [])) ≡ Object.name (codes "x" ∷ []) ∷ Object.name (codes "x" ∷ []) ∷ []
+kept_object : stack_of (after_header (item.Name (codes "x" ∷ []) ∷ item.Number (pos 7) ∷ w word.Def ∷ item.Number (pos 7) ∷ w word.Ref ∷ []))
+    ≡ Object.name (codes "x" ∷ []) ∷ Object.name (codes "x" ∷ []) ∷ []
 kept_object = simp entries.gets
 
 -- an empty list has no head
@@ -158,18 +160,23 @@ no_head : after_header (w word.Nil ∷ w word.HdTl ∷ []) ≡ Err (0, EmptyList
 no_head = refl
 
 -- the tail comes on top of the head
-head_below_tail : stack_of (after_header (item.Number (pos 1) ∷ w word.Nil ∷ w word.Cons ∷ w word.HdTl ∷ [])) ≡ Object.list Objects.none ∷ Object.number (pos 1) ∷ []
+head_below_tail : stack_of (after_header (item.Number (pos 1) ∷ w word.Nil ∷ w word.Cons ∷ w word.HdTl ∷ []))
+    ≡ Object.list Objects.none ∷ Object.number (pos 1) ∷ []
 head_below_tail = refl
 
 -- what `remove` gave back isn't kept any more
-removed_object : after_header (item.Name (codes "x" ∷ []) ∷ item.Number (pos 7) ∷ w word.Def ∷ item.Number (pos 7) ∷ w word.Remove ∷ item.Number (pos 7) ∷ w word.Ref ∷ []) ≡ Err (0, NoSuchKey)
+removed_object : after_header
+    (item.Name (codes "x" ∷ []) ∷ item.Number (pos 7) ∷ w word.Def ∷ item.Number (pos 7) ∷ w word.Remove ∷ item.Number (pos 7) ∷ w word.Ref ∷ [])
+    ≡ Err (0, NoSuchKey)
 removed_object = simp entries.gets
 
-dropped_objects : stack_of (after_header (item.Number (pos 1) ∷ item.Number (pos 2) ∷ item.Number (pos 3) ∷ w word.Pop ∷ w word.Pragma ∷ [])) ≡ Object.number (pos 1) ∷ []
+dropped_objects : stack_of (after_header (item.Number (pos 1) ∷ item.Number (pos 2) ∷ item.Number (pos 3) ∷ w word.Pop ∷ w word.Pragma ∷ []))
+    ≡ Object.number (pos 1) ∷ []
 dropped_objects = refl
 
 -- the identity: the variable becomes the number of its binder
-identity_object : stack_of (after_header (item.Name (codes "p" ∷ []) ∷ bool_lines ++ w word.Var ∷ p_lines ++ w word.AbsTerm ∷ [])) ≡ Object.term (Term.lam bool (Term.bound 0)) ∷ []
+identity_object : stack_of (after_header (item.Name (codes "p" ∷ []) ∷ bool_lines ++ w word.Var ∷ p_lines ++ w word.AbsTerm ∷ []))
+    ≡ Object.term (Term.lam bool (Term.bound 0)) ∷ []
 identity_object = refl
 
 -- a name that is no primitive operator becomes an input operator
@@ -177,7 +184,8 @@ abbrev symbols_after : Result State (ℕ × Kind) → List Made
 symbols_after (Ok s) = s.made
 symbols_after (Err r) = []
 
-input_operator : symbols_after (after_header (item.Name (codes "list" ∷ []) ∷ w word.TypeOp ∷ item.Name (codes "a" ∷ []) ∷ w word.VarType ∷ w word.Nil ∷ w word.Cons ∷ w word.OpType ∷ []))
+input_operator : symbols_after
+    (after_header (item.Name (codes "list" ∷ []) ∷ w word.TypeOp ∷ item.Name (codes "a" ∷ []) ∷ w word.VarType ∷ w word.Nil ∷ w word.Cons ∷ w word.OpType ∷ []))
     ≡ Made.symbol (Symbol.input_operator (codes "list" ∷ []) 1) ∷ []
 input_operator = refl
 

@@ -34,7 +34,8 @@ weakened_numbers : numbers (obeyed weakens) ≡ (0 ∷ [], 1 ∷ [], [])
 weakened_numbers = refl
 
 -- and the reverse
-strengthened : obeyed (listed (V (codes "q") ∷ V (codes "r") ∷ []) ++ V (codes "p") ++ w word.Axiom ∷ listed (V (codes "q") ∷ []) ++ V (codes "p") ++ w word.Thm ∷ []) ≡ Err (44, NotTheSequent)
+strengthened : obeyed (listed (V (codes "q") ∷ V (codes "r") ∷ []) ++ V (codes "p") ++ w word.Axiom ∷ listed (V (codes "q") ∷ []) ++ V (codes "p")
+    ++ w word.Thm ∷ []) ≡ Err (44, NotTheSequent)
 strengthened = refl
 
 -- a variable of the hypotheses
@@ -49,12 +50,15 @@ abbrev m_lines : List Item
 m_lines = applied (constant (codes "n") (to a_type bool_type)) (free (codes "z") a_type)
 
 abbrev vanishes : List Item
-vanishes = w word.Nil ∷ equals bool_type (V (codes "p")) m_lines ++ w word.Axiom ∷ w word.Nil ∷ equals bool_type m_lines (V (codes "r")) ++ w word.Axiom ∷ w word.Trans ∷ w word.Nil ∷ equals bool_type (V (codes "p")) (V (codes "r")) ++ w word.Thm ∷ []
+vanishes = w word.Nil ∷ equals bool_type (V (codes "p")) m_lines ++ w word.Axiom ∷ w word.Nil ∷ equals bool_type m_lines (V (codes "r"))
+    ++ w word.Axiom ∷ w word.Trans ∷ w word.Nil ∷ equals bool_type (V (codes "p")) (V (codes "r")) ++ w word.Thm ∷ []
 
 abbrev m : Term
-m = Term.app (Term.constant (named (codes "n")) (function (HolType.variable (named (codes "a"))) bool)) (Term.free (named (codes "z")) (HolType.variable (named (codes "a"))))
+m = Term.app (Term.constant (named (codes "n")) (function (HolType.variable (named (codes "a"))) bool))
+    (Term.free (named (codes "z")) (HolType.variable (named (codes "a"))))
 
-vanished : sequents (obeyed vanishes) ≡ derived [] (equation bool p m) ∷ derived [] (equation bool m r) ∷ derived [] (equation bool p r) ∷ derived [] (equation bool p r) ∷ []
+vanished : sequents (obeyed vanishes) ≡ derived [] (equation bool p m) ∷ derived [] (equation bool m r) ∷ derived [] (equation bool p r) ∷ derived []
+    (equation bool p r) ∷ []
 vanished = refl
 
 -- types first: |- k x x', with a to bool, then x : bool to q
@@ -62,13 +66,15 @@ abbrev k_lines : List Item
 k_lines = applied (applied (constant (codes "k") (to a_type (to bool_type bool_type))) (free (codes "x") a_type)) (V (codes "x"))
 
 abbrev types_first : List Item
-types_first = listed (listed (listed ((n (codes "a") ∷ []) ∷ bool_type ∷ []) ∷ []) ∷ listed (listed (W (codes "x") ∷ V (codes "q") ∷ []) ∷ []) ∷ []) ++ w word.Nil ∷ k_lines ++ w word.Axiom ∷ w word.Subst ∷ []
+types_first = listed (listed (listed ((n (codes "a") ∷ []) ∷ bool_type ∷ []) ∷ []) ∷ listed (listed (W (codes "x") ∷ V (codes "q") ∷ []) ∷ []) ∷ [])
+    ++ w word.Nil ∷ k_lines ++ w word.Axiom ∷ w word.Subst ∷ []
 
 abbrev k : HolType → Term
 k a = Term.constant (named (codes "k")) (function a (function bool bool))
 
 types_put_first : sequents (obeyed types_first)
-    ≡ derived [] (Term.app (Term.app (k (HolType.variable (named (codes "a")))) (Term.free (named (codes "x")) (HolType.variable (named (codes "a"))))) (boolean (codes "x")))
+    ≡ derived [] (Term.app (Term.app (k (HolType.variable (named (codes "a")))) (Term.free (named (codes "x")) (HolType.variable (named (codes "a")))))
+    (boolean (codes "x")))
     ∷ derived [] (Term.app (Term.app (k bool) q) q) ∷ []
 types_put_first = refl
 
@@ -76,7 +82,9 @@ types_put_first = refl
 abbrev no_types : List (List Item) → List Item
 no_types pairs = listed (listed [] ∷ listed pairs ∷ [])
 
-hypotheses_merged : sequents (obeyed (no_types (listed (W (codes "q") ∷ V (codes "p") ∷ []) ∷ []) ++ listed (V (codes "p") ∷ V (codes "q") ∷ []) ++ V (codes "r") ++ w word.Axiom ∷ w word.Subst ∷ []))
+hypotheses_merged : sequents
+    (obeyed (no_types (listed (W (codes "q") ∷ V (codes "p") ∷ []) ∷ []) ++ listed (V (codes "p") ∷ V (codes "q") ∷ []) ++ V (codes "r")
+    ++ w word.Axiom ∷ w word.Subst ∷ []))
     ≡ derived (p ∷ q ∷ []) r ∷ derived (p ∷ []) r ∷ []
 hypotheses_merged = refl
 
@@ -87,7 +95,9 @@ u_lines = constant (codes "u") (to (to bool_type bool_type) bool_type)
 abbrev u : Term
 u = Term.constant (named (codes "u")) (function (function bool bool) bool)
 
-no_capture : sequents (obeyed (no_types (listed (W (codes "x") ∷ V (codes "y") ∷ []) ∷ []) ++ w word.Nil ∷ applied u_lines (abstracted (W (codes "y")) (V (codes "x"))) ++ w word.Axiom ∷ w word.Subst ∷ []))
+no_capture : sequents
+    (obeyed (no_types (listed (W (codes "x") ∷ V (codes "y") ∷ []) ∷ []) ++ w word.Nil ∷ applied u_lines (abstracted (W (codes "y")) (V (codes "x")))
+    ++ w word.Axiom ∷ w word.Subst ∷ []))
     ≡ derived [] (Term.app u (Term.lam bool (boolean (codes "x")))) ∷ derived [] (Term.app u (Term.lam bool (boolean (codes "y")))) ∷ []
 no_capture = refl
 
@@ -98,11 +108,15 @@ identity_lines y = abstracted (W y) (V y)
 abbrev U : Term
 U = Term.app u (Term.lam bool (Term.bound 0))
 
-removed_renamed : sequents (obeyed (listed (applied u_lines (identity_lines (codes "y")) ∷ []) ++ V (codes "p") ++ w word.Axiom ∷ w word.Nil ∷ applied u_lines (identity_lines (codes "z")) ++ w word.Axiom ∷ w word.DeductAntisym ∷ []))
+removed_renamed : sequents
+    (obeyed (listed (applied u_lines (identity_lines (codes "y")) ∷ []) ++ V (codes "p")
+    ++ w word.Axiom ∷ w word.Nil ∷ applied u_lines (identity_lines (codes "z")) ++ w word.Axiom ∷ w word.DeductAntisym ∷ []))
     ≡ derived (U ∷ []) p ∷ derived [] U ∷ derived [] (equation bool p U) ∷ []
 removed_renamed = refl
 
 -- one head step: (\x. (\y. y) x) p
-one_head_step : sequents (obeyed (applied (abstracted (W (codes "x")) (applied (identity_lines (codes "y")) (V (codes "x")))) (V (codes "p")) ++ w word.BetaConv ∷ []))
-    ≡ derived [] (equation bool (Term.app (Term.lam bool (Term.app (Term.lam bool (Term.bound 0)) (Term.bound 0))) p) (Term.app (Term.lam bool (Term.bound 0)) p)) ∷ []
+one_head_step : sequents
+    (obeyed (applied (abstracted (W (codes "x")) (applied (identity_lines (codes "y")) (V (codes "x")))) (V (codes "p")) ++ w word.BetaConv ∷ []))
+    ≡ derived [] (equation bool (Term.app (Term.lam bool (Term.app (Term.lam bool (Term.bound 0)) (Term.bound 0))) p)
+    (Term.app (Term.lam bool (Term.bound 0)) p)) ∷ []
 one_head_step = refl

@@ -16,7 +16,8 @@ OneReading = (text : List ℕ) → HasOneReading text
 
 -- no text both opens a line and stops
 abbrev pub OpensOrStops : Type 0
-OpensOrStops = (text : List ℕ) (commands others : List Command) (n o m : ℕ) (line : List ℕ) (k : Kind) → Opens 1 0 text commands n o line → Stops 1 0 text others m k → ⊥
+OpensOrStops = (text : List ℕ) (commands others : List Command) (n o m : ℕ) (line : List ℕ) (k : Kind) → Opens 1 0 text commands n o line
+    → Stops 1 0 text others m k → ⊥
 
 -- these commands are the front of all the commands of a text
 pub record IsFront (commands all : List Command) : Type 0 where
@@ -25,4 +26,5 @@ pub record IsFront (commands all : List Command) : Type 0 where
 
 -- where a text opens a line, its commands are the front of those of each longer text
 abbrev pub OpensFront : Type 0
-OpensFront = (text more : List ℕ) (commands all : List Command) (n o : ℕ) (line : List ℕ) (e : End) → Opens 1 0 text commands n o line → Lines (text ++ more) all e → IsFront commands all
+OpensFront = (text more : List ℕ) (commands all : List Command) (n o : ℕ) (line : List ℕ) (e : End) → Opens 1 0 text commands n o line
+    → Lines (text ++ more) all e → IsFront commands all

@@ -12,4 +12,5 @@ abbrev pub OneOutcome : Type 0
 OneOutcome = (by : Obeys) (articles : List (List ℕ)) → HasOneOutcome by articles
 
 abbrev pub RefusalsStay : Type 0
-RefusalsStay = (by : Obeys) (articles more : List (List ℕ)) (k line : ℕ) (kind : Kind) → RunsBy by articles (refused_at k line kind) → RunsBy by (articles ++ more) (refused_at k line kind)
+RefusalsStay = (by : Obeys) (articles more : List (List ℕ)) (k line : ℕ) (kind : Kind) → RunsBy by articles (refused_at k line kind)
+    → RunsBy by (articles ++ more) (refused_at k line kind)

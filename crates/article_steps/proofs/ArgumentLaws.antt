@@ -14,7 +14,8 @@ module _ (ts : List HolType) where
   count-arguments ids = count-types_of (types_at ts ids) ∙ length-map ids (λ id. tree_at ts id.0)
 
   -- the argument at a place, and those behind it
-  pub drop-argument : (ids : List TypeId) (i : ℕ) (d : TypeId) → i < length ids → drop i (types_at ts ids) ≡ tree_at ts (slice_index_or ids i d).0 ∷ drop (i + 1) (types_at ts ids)
+  pub drop-argument : (ids : List TypeId) (i : ℕ) (d : TypeId) → i < length ids → drop i (types_at ts ids)
+      ≡ tree_at ts (slice_index_or ids i d).0 ∷ drop (i + 1) (types_at ts ids)
   drop-argument [] i d h = absurd (omega (arith, h))
   drop-argument (x ∷ ids) zero d h = refl
   drop-argument (x ∷ ids) (suc i) d h =
@@ -27,7 +28,8 @@ module _ (ts : List HolType) where
   drop-arguments (x ∷ ids) zero h = absurd (omega (arith, h))
   drop-arguments (x ∷ ids) (suc i) h = drop-arguments ids i (omega (arith, h))
 
-  pub argument-lower : (ids : List TypeId) (i : ℕ) (d : TypeId) → i < length ids → type_depth (tree_at ts (slice_index_or ids i d).0) ≤ types_depth (types_of (types_at ts ids))
+  pub argument-lower : (ids : List TypeId) (i : ℕ) (d : TypeId) → i < length ids
+      → type_depth (tree_at ts (slice_index_or ids i d).0) ≤ types_depth (types_of (types_at ts ids))
   argument-lower [] i d h = absurd (omega (arith, h))
   argument-lower (x ∷ ids) zero d h = omega arith
   argument-lower (x ∷ ids) (suc i) d h = omega (arith, argument-lower ids i d (omega (arith, h)))

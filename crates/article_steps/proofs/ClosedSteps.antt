@@ -26,7 +26,11 @@ fitting-closed [] h = tt
 fitting-closed (p ∷ terms) h = (is-term p.1 p.0.1 h.0, fitting-closed terms h.1)
 
 sequent-closed : (s : Sequent) → IsSequent s → IsClosed s
-sequent-closed s h = record { hypotheses = All-weaker (λ t. HasType t bool) IsTerm (λ t k. is-term t bool k) s.hypotheses h.hypotheses; conclusion = is-term s.conclusion bool h.conclusion }
+sequent-closed s h = record {
+  hypotheses = All-weaker (λ t. HasType t bool) IsTerm (λ t k. is-term t bool k) s.hypotheses h.hypotheses;
+  conclusion =
+      is-term s.conclusion bool h.conclusion;
+}
 
 rule-closed : (kind : StepKind) (premises : List Sequent) (given : Parameters) (s : Sequent) → Rule kind premises given s → AreClosed given
 rule-closed kind ss g s (Rule.refl {t = t} {a = a} typed is) = is-term t a typed
@@ -51,7 +55,8 @@ rule-closed kind ss g s (Rule.second_law_free h is) = tt
 
 -- Proofs
 -- what the last step has, and those before it have, all have
-steps-more : (P : Step → Type 0) (before m : List Made) (x : Made) → m ≡ before ++ x ∷ [] → AllByRecursion P (steps_of before) → AllByRecursion P (steps_of (x ∷ [])) → AllByRecursion P (steps_of m)
+steps-more : (P : Step → Type 0) (before m : List Made) (x : Made) → m ≡ before ++ x ∷ [] → AllByRecursion P (steps_of before)
+    → AllByRecursion P (steps_of (x ∷ [])) → AllByRecursion P (steps_of m)
 steps-more P before m x is h k =
     subst (λ (w : List Made). AllByRecursion P (steps_of w)) (sym is)
     (subst (AllByRecursion P) (sym (steps_of-append before (x ∷ []))) (All-append P (steps_of before) (steps_of (x ∷ [])) h k))

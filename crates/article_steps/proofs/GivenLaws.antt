@@ -44,27 +44,33 @@ term-known trees [] i id e h = absurd (cc)
 term-known trees (x ∷ ids) zero id e h = let one : x ≡ id = cc in subst (λ (y : TermId). y.0 < length trees.terms) one h.0
 term-known trees (x ∷ ids) (suc i) id e h = term-known trees ids i id e h.1
 
-pub term-closed : (trees : Trees) (ids : List TermId) (i : ℕ) (id : TermId) → slice_get ids i ≡ Some id → AllByRecursion IsTerm (terms_at trees ids) → IsTermAt trees id.0
+pub term-closed : (trees : Trees) (ids : List TermId) (i : ℕ) (id : TermId) → slice_get ids i ≡ Some id → AllByRecursion IsTerm (terms_at trees ids)
+    → IsTermAt trees id.0
 term-closed trees [] i id e h = absurd (cc)
 term-closed trees (x ∷ ids) zero id e h = let one : x ≡ id = cc in subst (λ (y : TermId). IsTermAt trees y.0) one h.0
 term-closed trees (x ∷ ids) (suc i) id e h = term-closed trees ids i id e h.1
 
-pub type_pair-known : (trees : Trees) (ps : List (Name × TypeId)) (i : ℕ) (p : Name × TypeId) → slice_get ps i ≡ Some p → type.ArePairsKnown trees.types ps → p.1.0 < length trees.types
+pub type_pair-known : (trees : Trees) (ps : List (Name × TypeId)) (i : ℕ) (p : Name × TypeId) → slice_get ps i ≡ Some p → type.ArePairsKnown trees.types ps
+    → p.1.0 < length trees.types
 type_pair-known trees [] i p e h = absurd (cc)
 type_pair-known trees (x ∷ ps) zero p e h = let one : x ≡ p = cc in subst (λ (y : Name × TypeId). y.1.0 < length trees.types) one h.0
 type_pair-known trees (x ∷ ps) (suc i) p e h = type_pair-known trees ps i p e h.1
 
-pub term_pair-known : (trees : Trees) (ps : List (AVariable × TermId)) (i : ℕ) (p : AVariable × TermId) → slice_get ps i ≡ Some p → AreTermPairsKnown trees ps → (p.0.ty.0 < length trees.types) × (p.1.0 < length trees.terms)
+pub term_pair-known : (trees : Trees) (ps : List (AVariable × TermId)) (i : ℕ) (p : AVariable × TermId) → slice_get ps i ≡ Some p → AreTermPairsKnown trees ps
+    → (p.0.ty.0 < length trees.types) × (p.1.0 < length trees.terms)
 term_pair-known trees [] i p e h = absurd (cc)
-term_pair-known trees (x ∷ ps) zero p e h = let one : x ≡ p = cc in subst (λ (y : AVariable × TermId). (y.0.ty.0 < length trees.types) × (y.1.0 < length trees.terms)) one (h.0, h.1.0)
+term_pair-known trees (x ∷ ps) zero p e h = let one : x ≡ p =
+    cc in subst (λ (y : AVariable × TermId). (y.0.ty.0 < length trees.types) × (y.1.0 < length trees.terms)) one (h.0, h.1.0)
 term_pair-known trees (x ∷ ps) (suc i) p e h = term_pair-known trees ps i p e h.1.1
 
-pub term_pair-closed : (trees : Trees) (ps : List (AVariable × TermId)) (i : ℕ) (p : AVariable × TermId) → slice_get ps i ≡ Some p → AllByRecursion (λ (y : Variable × Term). IsTerm y.1) (term_pairs_at trees ps) → IsTermAt trees p.1.0
+pub term_pair-closed : (trees : Trees) (ps : List (AVariable × TermId)) (i : ℕ) (p : AVariable × TermId) → slice_get ps i ≡ Some p
+    → AllByRecursion (λ (y : Variable × Term). IsTerm y.1) (term_pairs_at trees ps) → IsTermAt trees p.1.0
 term_pair-closed trees [] i p e h = absurd (cc)
 term_pair-closed trees (x ∷ ps) zero p e h = let one : x ≡ p = cc in subst (λ (y : AVariable × TermId). IsTermAt trees y.1.0) one h.0
 term_pair-closed trees (x ∷ ps) (suc i) p e h = term_pair-closed trees ps i p e h.1
 
-pub constant_pair-known : (trees : Trees) (ps : List (Name × AVariable)) (i : ℕ) (p : Name × AVariable) → slice_get ps i ≡ Some p → ArePairsKnown trees ps → p.1.ty.0 < length trees.types
+pub constant_pair-known : (trees : Trees) (ps : List (Name × AVariable)) (i : ℕ) (p : Name × AVariable) → slice_get ps i ≡ Some p → ArePairsKnown trees ps
+    → p.1.ty.0 < length trees.types
 constant_pair-known trees [] i p e h = absurd (cc)
 constant_pair-known trees (x ∷ ps) zero p e h = let one : x ≡ p = cc in subst (λ (y : Name × AVariable). y.1.ty.0 < length trees.types) one h.0
 constant_pair-known trees (x ∷ ps) (suc i) p e h = constant_pair-known trees ps i p e h.1

@@ -69,7 +69,8 @@ not-term t m (Kept.theorem i) h = absurd h
 behind-type : (t : Term) (a : HolType) (d : Draft) → key_of (Kept.term t) d ≡ None → key_of (Kept.term t) (write_type a d) ≡ None
 behind-type t a d e = still-no-key (IsTypeUpTo (type_size a)) (Kept.term t) d (write_type a d) e (type-adds a d) (not-term t (type_size a))
 
-pub term-none : (q : ℕ) (vs : List Variable) (t : Term) (d : Draft) → loose t ≡ 0 → key_of (Kept.term t) d ≡ None → key_of (Kept.term t) (build_under q vs t d) ≡ None
+pub term-none : (q : ℕ) (vs : List Variable) (t : Term) (d : Draft) → loose t ≡ 0 → key_of (Kept.term t) d ≡ None → key_of (Kept.term t) (build_under q vs t d)
+    ≡ None
 term-none q vs (Term.free n a) d c e = behind-type (Term.free n a) a (say_name n d) e
 term-none q vs (Term.bound k) d c e = absurd (omega (arith, c))
 term-none q vs (Term.constant n a) d c e = behind-type (Term.constant n a) a (say_word word.Const (say_name n d)) e
@@ -93,7 +94,8 @@ module _ (trees : Trees) (q : ℕ) where
   pub typed-closed : (binders : List TypeId) (t : Term) → IsSome (type_under (types_of_binders trees binders) t) → loose t ≡ 0 → IsSome (type_of t)
   typed-closed binders t typed closed =
       let alone : type_of t ≡ type_under (map (λ (v : Variable). v.1) (variables trees q binders)) t =
-      sym (ap (type_under []) (opened-closed 0 (variables trees q binders) t (omega (arith, closed)))) ∙ type-opened [] (variables trees q binders) t (omega (arith, closed)) in
+      sym (ap (type_under []) (opened-closed 0 (variables trees q binders) t (omega (arith, closed))))
+      ∙ type-opened [] (variables trees q binders) t (omega (arith, closed)) in
       subst IsSome (sym (alone ∙ ap (λ ts. type_under ts t) (types-variables trees q binders))) typed
 
   -- so a part without a type of its own has loose numbers
@@ -112,13 +114,22 @@ module _ (trees : Trees) (q : ℕ) where
 
   module _ (o : Agenda) (keys : Keyed) where
     -- Types
-    pub type-known : (id : TypeId) (k : ℕ) → IsReady trees q (pushed (job.Type id) o) keys → key_in (kept_of trees keys) (kept_at trees (thing.Type id)) ≡ Some k
+    pub type-known : (id : TypeId) (k : ℕ) → IsReady trees q (pushed (job.Type id) o) keys → key_in (kept_of trees keys) (kept_at trees (thing.Type id))
+        ≡ Some k
         → Steps trees q (pushed (job.Type id) o) keys (item.Number (pos k) ∷ item.Word word.Ref ∷ []) o keys
     type-known id k r known =
         let t : HolType = type_at trees id.0 in
         let d : Draft = fresh (kept_of trees keys) in
         let e : write_type t d ≡ refer k d = write_type-once t d ∙ ap (λ x. once_at x (Kept.type t) (build_type t) d) known in
-        record { rest = ap (do_jobs trees q o.binders o.jobs) e; jobs = subst (AreJobs trees q o.room o.binders o.jobs) e r.jobs.1; known = r.known; count = refl; room = refl; less = omega arith }
+        record {
+          rest = ap (do_jobs trees q o.binders o.jobs) e;
+          jobs = subst (AreJobs trees q o.room o.binders o.jobs) e r.jobs.1;
+          known = r.known;
+          count =
+              refl;
+          room = refl;
+          less = omega arith;
+        }
 
     pub type-new : (id : TypeId) → IsReady trees q (pushed (job.Type id) o) keys → key_in (kept_of trees keys) (kept_at trees (thing.Type id)) ≡ None
         → Steps trees q (pushed (job.Type id) o) keys [] (pushed (job.TypeParts id) (pushed (job.Keep (thing.Type id)) o)) keys
@@ -129,7 +140,10 @@ module _ (trees : Trees) (q : ℕ) where
         let first : IsTypeJob trees o.room (length o.jobs) id = r.jobs.0 in
         record {
           rest = ap (do_jobs trees q o.binders o.jobs) e;
-          jobs = (record { known = first.known; fits = omega (arith, first.fits) }, (record { known = first.known; new = type-none t d none }, subst (AreJobs trees q o.room o.binders o.jobs) e r.jobs.1));
+          jobs = (
+            record { known = first.known; fits = omega (arith, first.fits) },
+            (record { known = first.known; new = type-none t d none }, subst (AreJobs trees q o.room o.binders o.jobs) e r.jobs.1),
+          );
           known = r.known;
           count = refl;
           room = refl;
@@ -160,15 +174,20 @@ module _ (trees : Trees) (q : ℕ) where
     works-listed HolTypes.none = refl
     works-listed (HolTypes.more t ts) = ap (λ n. 3 + parts_work t + n) (works-listed ts)
 
-    pub type-operator : (id : TypeId) (n : Name) (ts : HolTypes) (k : ℕ) → IsReady trees q (pushed (job.TypeParts id) o) keys → type_at trees id.0 ≡ HolType.operator n ts → k ≡ count ts
-        → Steps trees q (pushed (job.TypeParts id) o) keys (item.Name n ∷ []) (pushed (job.Word word.TypeOp) (pushed (job.Arguments id 0) (pushed (job.Word word.Nil) (pushed (job.Conses k) (pushed (job.Word word.OpType) o))))) keys
+    pub type-operator : (id : TypeId) (n : Name) (ts : HolTypes) (k : ℕ) → IsReady trees q (pushed (job.TypeParts id) o) keys → type_at trees id.0
+        ≡ HolType.operator n ts → k ≡ count ts
+        → Steps trees q (pushed (job.TypeParts id) o) keys (item.Name n ∷ [])
+        (pushed (job.Word word.TypeOp) (pushed (job.Arguments id 0) (pushed (job.Word word.Nil) (pushed (job.Conses k) (pushed (job.Word word.OpType) o)))))
+        keys
     type-operator id n ts k r is counted =
         let d : Draft = fresh (kept_of trees keys) in
         let named : Draft = say_word word.TypeOp (say_name n d) in
         let listing : drop 0 (arguments (type_at trees id.0)) ≡ listed ts = ap (λ t. drop 0 (arguments t)) is in
-        let e : build_type (type_at trees id.0) d ≡ say_word word.OpType (conses k (say_word word.Nil (write_each write_type (drop 0 (arguments (type_at trees id.0))) named))) =
+        let e : build_type (type_at trees id.0) d ≡ say_word word.OpType
+        (conses k (say_word word.Nil (write_each write_type (drop 0 (arguments (type_at trees id.0))) named))) =
         ap (λ t. build_type t d) is
-        ∙ ap (λ x. say_word word.OpType (conses (count ts) (say_word word.Nil x))) (write_types-each ts named ∙ ap (λ l. write_each write_type l named) (sym listing))
+        ∙ ap (λ x. say_word word.OpType (conses (count ts) (say_word word.Nil x)))
+        (write_types-each ts named ∙ ap (λ l. write_each write_type l named) (sym listing))
         ∙ ap (λ m. say_word word.OpType (conses m (say_word word.Nil (write_each write_type (drop 0 (arguments (type_at trees id.0))) named)))) (sym counted) in
         let first : IsTypeJob trees (o.room + 1) (length o.jobs) id = r.jobs.0 in
         let fits = first.fits in
@@ -181,7 +200,10 @@ module _ (trees : Trees) (q : ℕ) where
             omega (arith, fits, positive),
             (
               record { known = first.known; fits = omega (arith, fits) },
-              (omega (arith, fits, positive), (omega (arith, fits, positive), (omega (arith, fits, positive), subst (AreJobs trees q o.room o.binders o.jobs) e r.jobs.1))),
+              (
+                omega (arith, fits, positive),
+                (omega (arith, fits, positive), (omega (arith, fits, positive), subst (AreJobs trees q o.room o.binders o.jobs) e r.jobs.1)),
+              ),
             ),
           );
           known = r.known;
@@ -190,24 +212,40 @@ module _ (trees : Trees) (q : ℕ) where
           less = omega (arith, whole, parts, counted);
         }
 
-    pub arguments-end : (id : TypeId) (i : ℕ) → IsReady trees q (pushed (job.Arguments id i) o) keys → drop i (arguments (type_at trees id.0)) ≡ [] → Steps trees q (pushed (job.Arguments id i) o) keys [] o keys
+    pub arguments-end : (id : TypeId) (i : ℕ) → IsReady trees q (pushed (job.Arguments id i) o) keys → drop i (arguments (type_at trees id.0)) ≡ []
+        → Steps trees q (pushed (job.Arguments id i) o) keys [] o keys
     arguments-end id i r none =
         let d : Draft = fresh (kept_of trees keys) in
         let e : write_each write_type (drop i (arguments (type_at trees id.0))) d ≡ d = ap (λ l. write_each write_type l d) none in
-        record { rest = ap (do_jobs trees q o.binders o.jobs) e; jobs = subst (AreJobs trees q o.room o.binders o.jobs) e r.jobs.1; known = r.known; count = refl; room = refl; less = omega arith }
+        record {
+          rest = ap (do_jobs trees q o.binders o.jobs) e;
+          jobs = subst (AreJobs trees q o.room o.binders o.jobs) e r.jobs.1;
+          known = r.known;
+          count =
+              refl;
+          room = refl;
+          less = omega arith;
+        }
 
     pub arguments-next : (id : TypeId) (i : ℕ) (a : TypeId) → IsReady trees q (pushed (job.Arguments id i) o) keys → a.0 < length trees.types
-        → drop i (arguments (type_at trees id.0)) ≡ type_at trees a.0 ∷ drop (i + 1) (arguments (type_at trees id.0)) → type_depth (type_at trees a.0) + 1 ≤ type_depth (type_at trees id.0)
+        → drop i (arguments (type_at trees id.0)) ≡ type_at trees a.0 ∷ drop (i + 1) (arguments (type_at trees id.0))
+        → type_depth (type_at trees a.0) + 1 ≤ type_depth (type_at trees id.0)
         → Steps trees q (pushed (job.Arguments id i) o) keys [] (pushed (job.Type a) (pushed (job.Arguments id (i + 1)) o)) keys
     arguments-next id i a r known is lower =
         let d : Draft = fresh (kept_of trees keys) in
-        let e : write_each write_type (drop i (arguments (type_at trees id.0))) d ≡ write_each write_type (drop (i + 1) (arguments (type_at trees id.0))) (write_type (type_at trees a.0) d) = ap (λ l. write_each write_type l d) is in
+        let e : write_each write_type (drop i (arguments (type_at trees id.0))) d
+        ≡ write_each write_type (drop (i + 1) (arguments (type_at trees id.0))) (write_type (type_at trees a.0) d) =
+        ap (λ l. write_each write_type l d) is in
         let first : IsTypeJob trees (o.room + 4) (length o.jobs) id = r.jobs.0 in
         let fits = first.fits in
-        let parts : works (drop i (arguments (type_at trees id.0))) ≡ 3 + parts_work (type_at trees a.0) + works (drop (i + 1) (arguments (type_at trees id.0))) = ap works is in
+        let parts : works (drop i (arguments (type_at trees id.0)))
+        ≡ 3 + parts_work (type_at trees a.0) + works (drop (i + 1) (arguments (type_at trees id.0))) = ap works is in
         record {
           rest = ap (do_jobs trees q o.binders o.jobs) e;
-          jobs = (record { known = known; fits = omega (arith, fits, lower) }, (record { known = first.known; fits = fits }, subst (AreJobs trees q o.room o.binders o.jobs) e r.jobs.1));
+          jobs = (
+            record { known = known; fits = omega (arith, fits, lower) },
+            (record { known = first.known; fits = fits }, subst (AreJobs trees q o.room o.binders o.jobs) e r.jobs.1),
+          );
           known = r.known;
           count = refl;
           room = refl;
@@ -222,13 +260,30 @@ module _ (trees : Trees) (q : ℕ) where
     conses-end k z r =
         let d : Draft = fresh (kept_of trees keys) in
         let e : conses k d ≡ d = ap (λ n. conses n d) z in
-        record { rest = ap (do_jobs trees q o.binders o.jobs) e; jobs = subst (AreJobs trees q o.room o.binders o.jobs) e r.jobs.1; known = r.known; count = refl; room = refl; less = omega arith }
+        record {
+          rest = ap (do_jobs trees q o.binders o.jobs) e;
+          jobs = subst (AreJobs trees q o.room o.binders o.jobs) e r.jobs.1;
+          known = r.known;
+          count =
+              refl;
+          room = refl;
+          less = omega arith;
+        }
 
-    pub conses-next : (k less : ℕ) → k ≡ suc less → IsReady trees q (pushed (job.Conses k) o) keys → Steps trees q (pushed (job.Conses k) o) keys (item.Word word.Cons ∷ []) (pushed (job.Conses less) o) keys
+    pub conses-next : (k less : ℕ) → k ≡ suc less → IsReady trees q (pushed (job.Conses k) o) keys
+        → Steps trees q (pushed (job.Conses k) o) keys (item.Word word.Cons ∷ []) (pushed (job.Conses less) o) keys
     conses-next k less is r =
         let d : Draft = fresh (kept_of trees keys) in
         let e : conses k d ≡ conses less (say_word word.Cons d) = ap (λ n. conses n d) is in
-        record { rest = ap (do_jobs trees q o.binders o.jobs) e; jobs = (r.jobs.0, subst (AreJobs trees q o.room o.binders o.jobs) e r.jobs.1); known = r.known; count = refl; room = refl; less = omega (arith, is) }
+        record {
+          rest = ap (do_jobs trees q o.binders o.jobs) e;
+          jobs = (r.jobs.0, subst (AreJobs trees q o.room o.binders o.jobs) e r.jobs.1);
+          known =
+              r.known;
+          count = refl;
+          room = refl;
+          less = omega (arith, is);
+        }
 
     pub thing-more : (count : ℕ) (x : Thing) → IsThing trees 0 x → IsThing trees count x
     thing-more count (thing.Type a) h = h
@@ -247,7 +302,14 @@ module _ (trees : Trees) (q : ℕ) where
         record {
           rest = ap (do_jobs trees q o.binders o.jobs) e;
           jobs = subst (AreJobs trees q o.room o.binders o.jobs) e r.jobs.1;
-          known = record { types = r.known.types; terms = r.known.terms; things = All-append (IsThing trees keys.theorems) keys.things (x ∷ []) r.known.things (thing-more keys.theorems x first.known, tt); distinct = r.known.distinct };
+          known = record {
+            types = r.known.types;
+            terms = r.known.terms;
+            things =
+                All-append (IsThing trees keys.theorems) keys.things (x ∷ []) r.known.things (thing-more keys.theorems x first.known, tt);
+            distinct =
+                r.known.distinct;
+          };
           count = refl;
           room = refl;
           less = omega arith;
@@ -257,30 +319,45 @@ module _ (trees : Trees) (q : ℕ) where
     binder-ends r = record { rest = refl; jobs = r.jobs.1; known = r.known; count = refl; room = refl; less = omega arith }
 
     -- Terms
-    pub term-known : (id : TermId) (k : ℕ) → IsReady trees q (pushed (job.Term id) o) keys → (loose (term_at trees id.0) == 0) ≡ true → key_in (kept_of trees keys) (kept_at trees (thing.Term id)) ≡ Some k
+    pub term-known : (id : TermId) (k : ℕ) → IsReady trees q (pushed (job.Term id) o) keys → (loose (term_at trees id.0) == 0) ≡ true
+        → key_in (kept_of trees keys) (kept_at trees (thing.Term id)) ≡ Some k
         → Steps trees q (pushed (job.Term id) o) keys (item.Number (pos k) ∷ item.Word word.Ref ∷ []) o keys
     term-known id k r closed known =
         let t : Term = term_at trees id.0 in
         let vs = variables trees q o.binders in
         let d : Draft = fresh (kept_of trees keys) in
         let e : write_under q vs t d ≡ refer k d =
-        write_under-shared q vs t d ∙ ap (λ b. once_closed b t (build_under q vs t) d) closed ∙ ap (λ x. once_at x (Kept.term t) (build_under q vs t) d) known in
-        record { rest = ap (do_jobs trees q o.binders o.jobs) e; jobs = subst (AreJobs trees q o.room o.binders o.jobs) e r.jobs.1; known = r.known; count = refl; room = refl; less = omega arith }
+        write_under-shared q vs t d ∙ ap (λ b. once_closed b t (build_under q vs t) d) closed
+        ∙ ap (λ x. once_at x (Kept.term t) (build_under q vs t) d) known in
+        record {
+          rest = ap (do_jobs trees q o.binders o.jobs) e;
+          jobs = subst (AreJobs trees q o.room o.binders o.jobs) e r.jobs.1;
+          known = r.known;
+          count =
+              refl;
+          room = refl;
+          less = omega arith;
+        }
 
-    pub term-new : (id : TermId) (a : HolType) → IsReady trees q (pushed (job.Term id) o) keys → type_of (term_at trees id.0) ≡ Some a → key_in (kept_of trees keys) (kept_at trees (thing.Term id)) ≡ None
+    pub term-new : (id : TermId) (a : HolType) → IsReady trees q (pushed (job.Term id) o) keys → type_of (term_at trees id.0) ≡ Some a
+        → key_in (kept_of trees keys) (kept_at trees (thing.Term id)) ≡ None
         → Steps trees q (pushed (job.Term id) o) keys [] (pushed (job.TermParts id) (pushed (job.Keep (thing.Term id)) o)) keys
     term-new id a r typed none =
         let t : Term = term_at trees id.0 in
         let vs = variables trees q o.binders in
         let d : Draft = fresh (kept_of trees keys) in
         let e : write_under q vs t d ≡ keep (Kept.term t) (build_under q vs t d) =
-        write_under-shared q vs t d ∙ ap (λ b. once_closed b t (build_under q vs t) d) (closed-test t a typed) ∙ ap (λ x. once_at x (Kept.term t) (build_under q vs t) d) none in
+        write_under-shared q vs t d ∙ ap (λ b. once_closed b t (build_under q vs t) d) (closed-test t a typed)
+        ∙ ap (λ x. once_at x (Kept.term t) (build_under q vs t) d) none in
         let first : IsTermJob trees o.room 0 (length o.jobs) o.binders id = r.jobs.0 in
         record {
           rest = ap (do_jobs trees q o.binders o.jobs) e;
           jobs = (
             record { known = first.known; typed = first.typed; fits = omega (arith, first.fits); bound = first.bound; binds = omega (arith, first.binds) },
-            (record { known = first.known; new = term-none q vs t d (closed-typed t a typed) none }, subst (AreJobs trees q o.room o.binders o.jobs) e r.jobs.1),
+            (
+              record { known = first.known; new = term-none q vs t d (closed-typed t a typed) none },
+              subst (AreJobs trees q o.room o.binders o.jobs) e r.jobs.1,
+            ),
           );
           known = r.known;
           count = refl;
@@ -288,16 +365,28 @@ module _ (trees : Trees) (q : ℕ) where
           less = omega arith;
         }
 
-    pub term-open : (id : TermId) → IsReady trees q (pushed (job.Term id) o) keys → type_of (term_at trees id.0) ≡ None → Steps trees q (pushed (job.Term id) o) keys [] (pushed (job.TermParts id) o) keys
+    pub term-open : (id : TermId) → IsReady trees q (pushed (job.Term id) o) keys → type_of (term_at trees id.0) ≡ None
+        → Steps trees q (pushed (job.Term id) o) keys [] (pushed (job.TermParts id) o) keys
     term-open id r none =
         let t : Term = term_at trees id.0 in
         let vs = variables trees q o.binders in
         let d : Draft = fresh (kept_of trees keys) in
         let first : IsTermJob trees o.room 0 (length o.jobs) o.binders id = r.jobs.0 in
-        let e : write_under q vs t d ≡ build_under q vs t d = write_under-shared q vs t d ∙ ap (λ b. once_closed b t (build_under q vs t) d) (open-untyped o.binders t first.typed none) in
+        let e : write_under q vs t d ≡ build_under q vs t d =
+        write_under-shared q vs t d ∙ ap (λ b. once_closed b t (build_under q vs t) d) (open-untyped o.binders t first.typed none) in
         record {
           rest = ap (do_jobs trees q o.binders o.jobs) e;
-          jobs = (record { known = first.known; typed = first.typed; fits = omega (arith, first.fits); bound = first.bound; binds = omega (arith, first.binds) }, subst (AreJobs trees q o.room o.binders o.jobs) e r.jobs.1);
+          jobs = (
+            record {
+              known = first.known;
+              typed = first.typed;
+              fits = omega (arith, first.fits);
+              bound = first.bound;
+              binds =
+                  omega (arith, first.binds);
+            },
+            subst (AreJobs trees q o.room o.binders o.jobs) e r.jobs.1,
+          );
           known = r.known;
           count = refl;
           room = refl;
@@ -305,7 +394,8 @@ module _ (trees : Trees) (q : ℕ) where
         }
 
     -- a type behind two jobs more
-    behind-two : (id : TermId) (a : TypeId) → IsReady trees q (pushed (job.TermParts id) o) keys → a.0 < length trees.types → IsTypeJob trees o.room (length o.jobs + 2) a
+    behind-two : (id : TermId) (a : TypeId) → IsReady trees q (pushed (job.TermParts id) o) keys → a.0 < length trees.types
+        → IsTypeJob trees o.room (length o.jobs + 2) a
     behind-two id a r known =
         let first : IsTermJob trees o.room 2 (length o.jobs) o.binders id = r.jobs.0 in
         let fits = first.fits in
@@ -325,7 +415,8 @@ module _ (trees : Trees) (q : ℕ) where
     as-variable : (id : TermId) (n : Name) (a : TypeId) → IsReady trees q (pushed (job.TermParts id) o) keys → a.0 < length trees.types
         → ((d : Draft) → build_under q (variables trees q o.binders) (term_at trees id.0) d ≡ say_word word.VarTerm (write_variable (n, type_at trees a.0) d))
         → term_parts_work (types_of_binders trees o.binders) (term_at trees id.0) ≡ 5 + parts_work (type_at trees a.0)
-        → Steps trees q (pushed (job.TermParts id) o) keys (item.Name n ∷ []) (pushed (job.Type a) (pushed (job.Word word.Var) (pushed (job.Word word.VarTerm) o))) keys
+        → Steps trees q (pushed (job.TermParts id) o) keys (item.Name n ∷ [])
+        (pushed (job.Type a) (pushed (job.Word word.Var) (pushed (job.Word word.VarTerm) o))) keys
     as-variable id n a r known is works =
         let d : Draft = fresh (kept_of trees keys) in
         let four = behind-four id r in
@@ -333,17 +424,23 @@ module _ (trees : Trees) (q : ℕ) where
         let fits = two.fits in
         record {
           rest = ap (do_jobs trees q o.binders o.jobs) (is d);
-          jobs = (record { known = known; fits = omega (arith, fits) }, (omega (arith, four), (omega (arith, four), subst (AreJobs trees q o.room o.binders o.jobs) (is d) r.jobs.1)));
+          jobs = (
+            record { known = known; fits = omega (arith, fits) },
+            (omega (arith, four), (omega (arith, four), subst (AreJobs trees q o.room o.binders o.jobs) (is d) r.jobs.1)),
+          );
           known = r.known;
           count = refl;
           room = refl;
           less = omega (arith, works);
         }
 
-    pub parts-free : (id : TermId) (n : Name) (a : TypeId) → IsReady trees q (pushed (job.TermParts id) o) keys → a.0 < length trees.types → term_at trees id.0 ≡ Term.free n (type_at trees a.0)
-        → Steps trees q (pushed (job.TermParts id) o) keys (item.Name n ∷ []) (pushed (job.Type a) (pushed (job.Word word.Var) (pushed (job.Word word.VarTerm) o))) keys
+    pub parts-free : (id : TermId) (n : Name) (a : TypeId) → IsReady trees q (pushed (job.TermParts id) o) keys → a.0 < length trees.types → term_at trees id.0
+        ≡ Term.free n (type_at trees a.0)
+        → Steps trees q (pushed (job.TermParts id) o) keys (item.Name n ∷ [])
+        (pushed (job.Type a) (pushed (job.Word word.Var) (pushed (job.Word word.VarTerm) o))) keys
     parts-free id n a r known is =
-        let works : term_parts_work (types_of_binders trees o.binders) (term_at trees id.0) ≡ 3 + (2 + parts_work (type_at trees a.0)) = ap (term_parts_work (types_of_binders trees o.binders)) is in
+        let works : term_parts_work (types_of_binders trees o.binders) (term_at trees id.0) ≡ 3 + (2 + parts_work (type_at trees a.0)) =
+        ap (term_parts_work (types_of_binders trees o.binders)) is in
         as-variable id n a r known (λ d. ap (λ t. build_under q (variables trees q o.binders) t d) is) (omega (arith, works))
 
     binder-known : (binders : List TypeId) (k : ℕ) (a : TypeId) → type.AreKnown trees.types binders → slice_get binders k ≡ Some a → a.0 < length trees.types
@@ -351,14 +448,17 @@ module _ (trees : Trees) (q : ℕ) where
     binder-known (b ∷ binders) zero a h e = let one : b ≡ a = cc in subst (λ (c : TypeId). c.0 < length trees.types) one h.0
     binder-known (b ∷ binders) (suc k) a h e = binder-known binders k a h.1 e
 
-    type-binder : (binders : List TypeId) (k : ℕ) (a : TypeId) → slice_get binders k ≡ Some a → slice_index_or (types_of_binders trees binders) k bool ≡ type_at trees a.0
+    type-binder : (binders : List TypeId) (k : ℕ) (a : TypeId) → slice_get binders k ≡ Some a → slice_index_or (types_of_binders trees binders) k bool
+        ≡ type_at trees a.0
     type-binder [] k a e = absurd (cc)
     type-binder (b ∷ binders) zero a e = let one : b ≡ a = cc in ap (λ (c : TypeId). type_at trees c.0) one
     type-binder (b ∷ binders) (suc k) a e = type-binder binders k a e
 
-    pub parts-bound : (id : TermId) (k m : ℕ) (a : TypeId) → IsReady trees q (pushed (job.TermParts id) o) keys → term_at trees id.0 ≡ Term.bound k → slice_get o.binders k ≡ Some a
+    pub parts-bound : (id : TermId) (k m : ℕ) (a : TypeId) → IsReady trees q (pushed (job.TermParts id) o) keys → term_at trees id.0 ≡ Term.bound k
+        → slice_get o.binders k ≡ Some a
         → m ≡ length o.binders - suc k
-        → Steps trees q (pushed (job.TermParts id) o) keys (item.Name (binder_name q m) ∷ []) (pushed (job.Type a) (pushed (job.Word word.Var) (pushed (job.Word word.VarTerm) o))) keys
+        → Steps trees q (pushed (job.TermParts id) o) keys (item.Name (binder_name q m) ∷ [])
+        (pushed (job.Type a) (pushed (job.Word word.Var) (pushed (job.Word word.VarTerm) o))) keys
     parts-bound id k m a r is at number =
         let first : IsTermJob trees o.room 2 (length o.jobs) o.binders id = r.jobs.0 in
         let known : a.0 < length trees.types = binder-known o.binders k a first.bound at in
@@ -366,21 +466,30 @@ module _ (trees : Trees) (q : ℕ) where
         ap (term_parts_work (types_of_binders trees o.binders)) is ∙ ap (λ b. 3 + (2 + parts_work b)) (type-binder o.binders k a at) in
         as-variable id (binder_name q m) a r known
         (λ d. ap (λ t. build_under q (variables trees q o.binders) t d) is
-        ∙ ap (λ v. say_word word.VarTerm (write_variable v d)) (binder_at-variables trees q o.binders k a at ∙ ap (λ n. (binder_name q n, type_at trees a.0)) (sym number)))
+        ∙ ap (λ v. say_word word.VarTerm (write_variable v d))
+        (binder_at-variables trees q o.binders k a at ∙ ap (λ n. (binder_name q n, type_at trees a.0)) (sym number)))
         (omega (arith, works))
 
-    pub parts-constant : (id : TermId) (n : Name) (a : TypeId) → IsReady trees q (pushed (job.TermParts id) o) keys → a.0 < length trees.types → term_at trees id.0 ≡ Term.constant n (type_at trees a.0)
-        → Steps trees q (pushed (job.TermParts id) o) keys (item.Name n ∷ []) (pushed (job.Word word.Const) (pushed (job.Type a) (pushed (job.Word word.ConstTerm) o))) keys
+    pub parts-constant : (id : TermId) (n : Name) (a : TypeId) → IsReady trees q (pushed (job.TermParts id) o) keys → a.0 < length trees.types
+        → term_at trees id.0 ≡ Term.constant n (type_at trees a.0)
+        → Steps trees q (pushed (job.TermParts id) o) keys (item.Name n ∷ [])
+        (pushed (job.Word word.Const) (pushed (job.Type a) (pushed (job.Word word.ConstTerm) o))) keys
     parts-constant id n a r known is =
         let d : Draft = fresh (kept_of trees keys) in
-        let e : build_under q (variables trees q o.binders) (term_at trees id.0) d ≡ say_word word.ConstTerm (write_type (type_at trees a.0) (say_word word.Const (say_name n d))) = ap (λ t. build_under q (variables trees q o.binders) t d) is in
-        let works : term_parts_work (types_of_binders trees o.binders) (term_at trees id.0) ≡ 3 + (2 + parts_work (type_at trees a.0)) = ap (term_parts_work (types_of_binders trees o.binders)) is in
+        let e : build_under q (variables trees q o.binders) (term_at trees id.0) d
+        ≡ say_word word.ConstTerm (write_type (type_at trees a.0) (say_word word.Const (say_name n d))) =
+        ap (λ t. build_under q (variables trees q o.binders) t d) is in
+        let works : term_parts_work (types_of_binders trees o.binders) (term_at trees id.0) ≡ 3 + (2 + parts_work (type_at trees a.0)) =
+        ap (term_parts_work (types_of_binders trees o.binders)) is in
         let four = behind-four id r in
         let two = behind-two id a r known in
         let fits = two.fits in
         record {
           rest = ap (do_jobs trees q o.binders o.jobs) e;
-          jobs = (omega (arith, four), (record { known = known; fits = omega (arith, fits) }, (omega (arith, four), subst (AreJobs trees q o.room o.binders o.jobs) e r.jobs.1)));
+          jobs = (
+            omega (arith, four),
+            (record { known = known; fits = omega (arith, fits) }, (omega (arith, four), subst (AreJobs trees q o.room o.binders o.jobs) e r.jobs.1)),
+          );
           known = r.known;
           count = refl;
           room = refl;
@@ -403,11 +512,14 @@ module _ (trees : Trees) (q : ℕ) where
         let d : Draft = fresh (kept_of trees keys) in
         let vs = variables trees q o.binders in
         let types = types_of_binders trees o.binders in
-        let e : build_under q vs (term_at trees id.0) d ≡ say_word word.AppTerm (write_under q vs (term_at trees x.0) (write_under q vs (term_at trees f.0) d)) = ap (λ t. build_under q vs t d) is in
+        let e : build_under q vs (term_at trees id.0) d
+        ≡ say_word word.AppTerm (write_under q vs (term_at trees x.0) (write_under q vs (term_at trees f.0) d)) = ap (λ t. build_under q vs t d) is in
         let first : IsTermJob trees o.room 2 (length o.jobs) o.binders id = r.jobs.0 in
-        let works : term_parts_work types (term_at trees id.0) ≡ 6 + term_parts_work types (term_at trees f.0) + term_parts_work types (term_at trees x.0) = ap (term_parts_work types) is in
+        let works : term_parts_work types (term_at trees id.0) ≡ 6 + term_parts_work types (term_at trees f.0) + term_parts_work types (term_at trees x.0) =
+        ap (term_parts_work types) is in
         let deep : term_depth (term_at trees id.0) ≡ term_depth (Term.app (term_at trees f.0) (term_at trees x.0)) = ap term_depth is in
-        let typed = typed-parts (type_under types (term_at trees f.0)) (type_under types (term_at trees x.0)) (subst (λ t. IsSome (type_under types t)) is first.typed) in
+        let typed = typed-parts (type_under types (term_at trees f.0)) (type_under types (term_at trees x.0))
+        (subst (λ t. IsSome (type_under types t)) is first.typed) in
         let fits = first.fits in
         let binds = first.binds in
         let four = behind-four id r in
@@ -415,7 +527,10 @@ module _ (trees : Trees) (q : ℕ) where
           rest = ap (do_jobs trees q o.binders o.jobs) e;
           jobs = (
             record { known = one; typed = typed.0; fits = omega (arith, fits, deep); bound = first.bound; binds = omega (arith, binds, deep) },
-            (record { known = two; typed = typed.1; fits = omega (arith, fits, deep); bound = first.bound; binds = omega (arith, binds, deep) }, (omega (arith, four), subst (AreJobs trees q o.room o.binders o.jobs) e r.jobs.1)),
+            (
+              record { known = two; typed = typed.1; fits = omega (arith, fits, deep); bound = first.bound; binds = omega (arith, binds, deep) },
+              (omega (arith, four), subst (AreJobs trees q o.room o.binders o.jobs) e r.jobs.1),
+            ),
           );
           known = r.known;
           count = refl;
@@ -423,7 +538,8 @@ module _ (trees : Trees) (q : ℕ) where
           less = omega (arith, works);
         }
 
-    pub parts-abstraction : (id : TermId) (a : TypeId) (b : TermId) → IsReady trees q (pushed (job.TermParts id) o) keys → a.0 < length trees.types → b.0 < length trees.terms
+    pub parts-abstraction : (id : TermId) (a : TypeId) (b : TermId) → IsReady trees q (pushed (job.TermParts id) o) keys → a.0 < length trees.types
+        → b.0 < length trees.terms
         → term_at trees id.0 ≡ Term.lam (type_at trees a.0) (term_at trees b.0)
         → Steps trees q (pushed (job.TermParts id) o) keys (item.Name (binder_name q (length o.binders)) ∷ [])
         (bound_by a (pushed (job.Type a) (pushed (job.Word word.Var) (pushed (job.Term b) (pushed job.Unbind (pushed (job.Word word.AbsTerm) o)))))) keys
@@ -433,13 +549,18 @@ module _ (trees : Trees) (q : ℕ) where
         let types = types_of_binders trees o.binders in
         let v : Variable = next_binder q vs (type_at trees a.0) in
         let named : Draft = record { commands = item.Name (binder_name q (length o.binders)) ∷ []; kept = kept_of trees keys } in
-        let e : build_under q vs (term_at trees id.0) d ≡ say_word word.AbsTerm (write_under q (v ∷ vs) (term_at trees b.0) (say_word word.Var (write_type (type_at trees a.0) named))) =
+        let e : build_under q vs (term_at trees id.0) d
+        ≡ say_word word.AbsTerm (write_under q (v ∷ vs) (term_at trees b.0) (say_word word.Var (write_type (type_at trees a.0) named))) =
         ap (λ t. build_under q vs t d) is
-        ∙ ap (λ n. say_word word.AbsTerm (write_under q (v ∷ vs) (term_at trees b.0) (say_word word.Var (write_type (type_at trees a.0) (say_name (binder_name q n) d))))) (length-variables trees q o.binders) in
+        ∙ ap (λ n. say_word word.AbsTerm
+        (write_under q (v ∷ vs) (term_at trees b.0) (say_word word.Var (write_type (type_at trees a.0) (say_name (binder_name q n) d)))))
+        (length-variables trees q o.binders) in
         let first : IsTermJob trees o.room 2 (length o.jobs) o.binders id = r.jobs.0 in
-        let works : term_parts_work types (term_at trees id.0) ≡ 6 + (2 + parts_work (type_at trees a.0)) + term_parts_work (type_at trees a.0 ∷ types) (term_at trees b.0) = ap (term_parts_work types) is in
+        let works : term_parts_work types (term_at trees id.0)
+        ≡ 6 + (2 + parts_work (type_at trees a.0)) + term_parts_work (type_at trees a.0 ∷ types) (term_at trees b.0) = ap (term_parts_work types) is in
         let deep : term_depth (term_at trees id.0) ≡ term_depth (Term.lam (type_at trees a.0) (term_at trees b.0)) = ap term_depth is in
-        let typed = typed-body (type_at trees a.0) (type_under (type_at trees a.0 ∷ types) (term_at trees b.0)) (subst (λ t. IsSome (type_under types t)) is first.typed) in
+        let typed = typed-body (type_at trees a.0) (type_under (type_at trees a.0 ∷ types) (term_at trees b.0))
+        (subst (λ t. IsSome (type_under types t)) is first.typed) in
         let fits = first.fits in
         let binds = first.binds in
         let roomy = r.roomy.types a.0 one in
@@ -448,7 +569,13 @@ module _ (trees : Trees) (q : ℕ) where
           rest = ap (do_jobs trees q o.binders o.jobs) e;
           jobs = (
             record { known = one; fits = omega (arith, fits, deep, roomy) },
-            (omega (arith, four), (record { known = two; typed = typed; fits = omega (arith, fits, deep); bound = (one, first.bound); binds = omega (arith, binds, deep) }, (omega (arith, four), (omega (arith, four), subst (AreJobs trees q o.room o.binders o.jobs) e r.jobs.1)))),
+            (
+              omega (arith, four),
+              (
+                record { known = two; typed = typed; fits = omega (arith, fits, deep); bound = (one, first.bound); binds = omega (arith, binds, deep) },
+                (omega (arith, four), (omega (arith, four), subst (AreJobs trees q o.room o.binders o.jobs) e r.jobs.1)),
+              ),
+            ),
           );
           known = r.known;
           count = refl;
@@ -463,21 +590,27 @@ module _ (trees : Trees) (q : ℕ) where
 
     -- Room
     pub type-room : (id : TypeId) → IsReady trees q (pushed (job.Type id) o) keys → length o.jobs + 5 < o.room
-    type-room id r = let first : IsTypeJob trees o.room (length o.jobs) id = r.jobs.0 in let fits = first.fits in let positive = type_depth-positive (type_at trees id.0) in omega (arith, fits, positive)
+    type-room id r = let first : IsTypeJob trees o.room (length o.jobs) id = r.jobs.0 in let fits = first.fits in let positive =
+        type_depth-positive (type_at trees id.0) in omega (arith, fits, positive)
 
     pub type_parts-room : (id : TypeId) → IsReady trees q (pushed (job.TypeParts id) o) keys → length o.jobs + 4 < o.room
-    type_parts-room id r = let first : IsTypeJob trees (o.room + 1) (length o.jobs) id = r.jobs.0 in let fits = first.fits in let positive = type_depth-positive (type_at trees id.0) in omega (arith, fits, positive)
+    type_parts-room id r = let first : IsTypeJob trees (o.room + 1) (length o.jobs) id = r.jobs.0 in let fits = first.fits in let positive =
+        type_depth-positive (type_at trees id.0) in omega (arith, fits, positive)
 
     pub arguments-room : (id : TypeId) (i : ℕ) → IsReady trees q (pushed (job.Arguments id i) o) keys → length o.jobs + 1 < o.room
-    arguments-room id i r = let first : IsTypeJob trees (o.room + 4) (length o.jobs) id = r.jobs.0 in let fits = first.fits in let positive = type_depth-positive (type_at trees id.0) in omega (arith, fits, positive)
+    arguments-room id i r = let first : IsTypeJob trees (o.room + 4) (length o.jobs) id = r.jobs.0 in let fits = first.fits in let positive =
+        type_depth-positive (type_at trees id.0) in omega (arith, fits, positive)
 
     pub term-room : (id : TermId) → IsReady trees q (pushed (job.Term id) o) keys → length o.jobs + 5 < o.room
-    term-room id r = let first : IsTermJob trees o.room 0 (length o.jobs) o.binders id = r.jobs.0 in let fits = first.fits in let positive = term_depth-positive (term_at trees id.0) in omega (arith, fits, positive)
+    term-room id r = let first : IsTermJob trees o.room 0 (length o.jobs) o.binders id = r.jobs.0 in let fits = first.fits in let positive =
+        term_depth-positive (term_at trees id.0) in omega (arith, fits, positive)
 
     -- Arguments
-    pub argument-next : (id : TypeId) (i : ℕ) (n : Name) (ids : List TypeId) → type.Holds trees.types id.0 (HolType.operator n (types_of (type.types_at trees.types ids))) → AreBelow id.0 ids → i < length ids
+    pub argument-next : (id : TypeId) (i : ℕ) (n : Name) (ids : List TypeId)
+        → type.Holds trees.types id.0 (HolType.operator n (types_of (type.types_at trees.types ids))) → AreBelow id.0 ids → i < length ids
         → IsReady trees q (pushed (job.Arguments id i) o) keys
-        → Steps trees q (pushed (job.Arguments id i) o) keys [] (pushed (job.Type (slice_index_or ids i (record { 0 = 0 }))) (pushed (job.Arguments id (i + 1)) o)) keys
+        → Steps trees q (pushed (job.Arguments id i) o) keys []
+        (pushed (job.Type (slice_index_or ids i (record { 0 = 0 }))) (pushed (job.Arguments id (i + 1)) o)) keys
     argument-next id i n ids holds below h r =
         let d : TypeId = record { 0 = 0 } in
         let ts = trees.types in
@@ -489,9 +622,11 @@ module _ (trees : Trees) (q : ℕ) where
         let low = argument-lower ts ids i d h in
         let under : a.0 < id.0 = argument-below id.0 ids i d below h in
         let known = first.known in
-        arguments-next id i a r (omega (arith, under, known)) (ap (drop i) all ∙ drop-argument ts ids i d h ∙ ap (λ l. type_at trees a.0 ∷ drop (i + 1) l) (sym all)) (omega (arith, deep, low))
+        arguments-next id i a r (omega (arith, under, known))
+        (ap (drop i) all ∙ drop-argument ts ids i d h ∙ ap (λ l. type_at trees a.0 ∷ drop (i + 1) l) (sym all)) (omega (arith, deep, low))
 
-    pub argument-none : (id : TypeId) (i : ℕ) (n : Name) (ids : List TypeId) → type.Holds trees.types id.0 (HolType.operator n (types_of (type.types_at trees.types ids))) → length ids ≤ i
+    pub argument-none : (id : TypeId) (i : ℕ) (n : Name) (ids : List TypeId)
+        → type.Holds trees.types id.0 (HolType.operator n (types_of (type.types_at trees.types ids))) → length ids ≤ i
         → IsReady trees q (pushed (job.Arguments id i) o) keys → Steps trees q (pushed (job.Arguments id i) o) keys [] o keys
     argument-none id i n ids holds h r =
         let ts = trees.types in
@@ -507,5 +642,6 @@ module _ (trees : Trees) (q : ℕ) where
         none zero = refl
         none (suc k) = refl
 
-  pub steps-on : (old new is : Agenda) (keys keys_now : Keyed) (items : List Item) → new ≡ is → Steps trees q old keys items is keys_now → Steps trees q old keys items new keys_now
+  pub steps-on : (old new is : Agenda) (keys keys_now : Keyed) (items : List Item) → new ≡ is → Steps trees q old keys items is keys_now
+      → Steps trees q old keys items new keys_now
   steps-on old new is keys keys_now items e s = subst (λ a. Steps trees q old keys items a keys_now) (sym e) s

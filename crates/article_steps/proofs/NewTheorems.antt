@@ -74,7 +74,8 @@ module _ (j : ℕ) where
 
   others-variable : (v : Variable) → KeepsOthers (write_variable v)
   others-variable v =
-      others-then (λ d. write_type v.1 (say_name v.0 d)) (say_word word.Var) (others-then (say_name v.0) (write_type v.1) (others-name v.0) (others-type v.1)) (others-said (say_word word.Var) (λ d. refl))
+      others-then (λ d. write_type v.1 (say_name v.0 d)) (say_word word.Var) (others-then (say_name v.0) (write_type v.1) (others-name v.0) (others-type v.1))
+      (others-said (say_word word.Var) (λ d. refl))
 
   others-each : {A : Type 0} (write : A → Draft → Draft) → ((x : A) → KeepsOthers (write x)) → (xs : List A) → KeepsOthers (write_each write xs)
   others-each write h [] = others-said (λ d. d) (λ d. refl)
@@ -84,7 +85,8 @@ module _ (j : ℕ) where
   others-listed k = others-said (λ d. conses k (say_word word.Nil d)) (λ d. kept-conses k (say_word word.Nil d))
 
   others-list : {A : Type 0} (write : A → Draft → Draft) → ((x : A) → KeepsOthers (write x)) → (xs : List A) → KeepsOthers (write_list write xs)
-  others-list write h xs = others-then (write_each write xs) (λ d. conses (length xs) (say_word word.Nil d)) (others-each write h xs) (others-listed (length xs))
+  others-list write h xs = others-then (write_each write xs) (λ d. conses (length xs) (say_word word.Nil d)) (others-each write h xs)
+      (others-listed (length xs))
 
   others-pair : (one two : Draft → Draft) → KeepsOthers one → KeepsOthers two → KeepsOthers (write_pair one two)
   others-pair one two a b = others-then (λ d. two (one d)) (λ d. conses 2 (say_word word.Nil d)) (others-then one two a b) (others-listed 2)
@@ -95,15 +97,21 @@ module _ (j : ℕ) where
   others-given q (Parameters.term t) = others-term q t
   others-given q (Parameters.variable v) = others-variable v
   others-given q (Parameters.substitution types terms) =
-      others-pair (write_list (λ p. write_pair (say_name p.0) (write_type p.1)) types) (write_list (λ p. write_pair (write_variable p.0) (write_term q p.1)) terms)
-      (others-list (λ (p : Name × HolType). write_pair (say_name p.0) (write_type p.1)) (λ p. others-pair (say_name p.0) (write_type p.1) (others-name p.0) (others-type p.1)) types)
-      (others-list (λ (p : Variable × Term). write_pair (write_variable p.0) (write_term q p.1)) (λ p. others-pair (write_variable p.0) (write_term q p.1) (others-variable p.0) (others-term q p.1)) terms)
-  others-given q (Parameters.sequent s) = others-then (write_list (write_term q) s.hypotheses) (write_term q s.conclusion) (others-list (write_term q) (others-term q) s.hypotheses) (others-term q s.conclusion)
+      others-pair (write_list (λ p. write_pair (say_name p.0) (write_type p.1)) types)
+      (write_list (λ p. write_pair (write_variable p.0) (write_term q p.1)) terms)
+      (others-list (λ (p : Name × HolType). write_pair (say_name p.0) (write_type p.1))
+      (λ p. others-pair (say_name p.0) (write_type p.1) (others-name p.0) (others-type p.1)) types)
+      (others-list (λ (p : Variable × Term). write_pair (write_variable p.0) (write_term q p.1))
+      (λ p. others-pair (write_variable p.0) (write_term q p.1) (others-variable p.0) (others-term q p.1)) terms)
+  others-given q (Parameters.sequent s) = others-then (write_list (write_term q) s.hypotheses) (write_term q s.conclusion)
+      (others-list (write_term q) (others-term q) s.hypotheses) (others-term q s.conclusion)
   others-given q (Parameters.constant n t) = others-then (say_name n) (write_term q t) (others-name n) (others-term q t)
-  others-given q (Parameters.constants pairs) = others-list (λ (p : Name × Variable). write_pair (say_name p.0) (write_variable p.1)) (λ p. others-pair (say_name p.0) (write_variable p.1) (others-name p.0) (others-variable p.1)) pairs
+  others-given q (Parameters.constants pairs) = others-list (λ (p : Name × Variable). write_pair (say_name p.0) (write_variable p.1))
+      (λ p. others-pair (say_name p.0) (write_variable p.1) (others-name p.0) (others-variable p.1)) pairs
   others-given q (Parameters.type_operator names version) =
       others-then (λ d. say_name names.representation (say_name names.abstraction (say_name names.operator d))) (write_list say_name names.variables)
-      (others-said (λ d. say_name names.representation (say_name names.abstraction (say_name names.operator d))) (λ d. refl)) (others-list say_name others-name names.variables)
+      (others-said (λ d. say_name names.representation (say_name names.abstraction (say_name names.operator d))) (λ d. refl))
+      (others-list say_name others-name names.variables)
 
   -- the theorems of a step
   others-theorem : (i : ℕ) → i < j → KeepsOthers (keep_theorem i)
@@ -116,7 +124,8 @@ module _ (j : ℕ) where
   others-made DefineConst i h = others-then (keep_theorem i) (pops 1) (others-theorem i h) (others-pops 1)
   others-made DefineConstList i h = others-then (keep_theorem i) (pops 1) (others-theorem i h) (others-pops 1)
   others-made FirstLaw i h =
-      others-then (λ d. keep_theorem i (keep_theorem (suc i) d)) (pops 3) (others-then (keep_theorem (suc i)) (keep_theorem i) (others-theorem (suc i) h) (others-theorem i (omega (arith, h)))) (others-pops 3)
+      others-then (λ d. keep_theorem i (keep_theorem (suc i) d)) (pops 3)
+      (others-then (keep_theorem (suc i)) (keep_theorem i) (others-theorem (suc i) h) (others-theorem i (omega (arith, h)))) (others-pops 3)
   others-made kind i h = others-theorem i h
 
   behind-first : (kind : StepKind) (i : ℕ) → IsBehind kind i j → i < j
@@ -127,19 +136,22 @@ module _ (j : ℕ) where
   others-export : (q : ℕ) (x : Step) → KeepsOthers (write_export q x)
   others-export q x =
       others-then (λ d. write_given q x.parameters (write_each write_premise x.premises d)) (say_word word.Thm)
-      (others-then (write_each write_premise x.premises) (write_given q x.parameters) (others-said (write_each write_premise x.premises) (kept-premises x.premises)) (others-given q x.parameters))
+      (others-then (write_each write_premise x.premises) (write_given q x.parameters)
+      (others-said (write_each write_premise x.premises) (kept-premises x.premises)) (others-given q x.parameters))
       (others-said (say_word word.Thm) (λ d. refl))
 
   others-assumption : (q i : ℕ) (x : Step) → i < j → KeepsOthers (write_assumption q i x)
   others-assumption q i x h =
       others-then (λ d. say_word word.Axiom (write_given q x.parameters d)) (keep_theorem i)
-      (others-then (write_given q x.parameters) (say_word word.Axiom) (others-given q x.parameters) (others-said (say_word word.Axiom) (λ d. refl))) (others-theorem i h)
+      (others-then (write_given q x.parameters) (say_word word.Axiom) (others-given q x.parameters) (others-said (say_word word.Axiom) (λ d. refl)))
+      (others-theorem i h)
 
   others-inferred : (q i : ℕ) (x : Step) → IsBehind x.kind i j → KeepsOthers (write_inferred q i x)
   others-inferred q i x h =
       others-then (λ d. say_word (word_of x.kind) (write_each write_premise x.premises (write_given q x.parameters d))) (keep_made x.kind i)
       (others-then (λ d. write_each write_premise x.premises (write_given q x.parameters d)) (say_word (word_of x.kind))
-      (others-then (write_given q x.parameters) (write_each write_premise x.premises) (others-given q x.parameters) (others-said (write_each write_premise x.premises) (kept-premises x.premises)))
+      (others-then (write_given q x.parameters) (write_each write_premise x.premises) (others-given q x.parameters)
+      (others-said (write_each write_premise x.premises) (kept-premises x.premises)))
       (others-said (say_word (word_of x.kind)) (λ d. refl)))
       (others-made x.kind i h)
 
@@ -155,29 +167,35 @@ module _ (j : ℕ) where
   others-if false write h = others-said (λ d. d) (λ d. refl)
 
   -- so a theorem that had no key has none then
-  pub given-none : (q : ℕ) (g : Parameters) (kept : List Kept) → key_in kept (Kept.theorem j) ≡ None → key_in (kept_by (write_given q g) kept) (Kept.theorem j) ≡ None
+  pub given-none : (q : ℕ) (g : Parameters) (kept : List Kept) → key_in kept (Kept.theorem j) ≡ None → key_in (kept_by (write_given q g) kept) (Kept.theorem j)
+      ≡ None
   unfolding kept_by
   given-none q g kept none = still-no-key IsOther (Kept.theorem j) (fresh kept) (write_given q g (fresh kept)) none (others-given q g (fresh kept)) (λ y h. h)
 
-  pub step-none : (b : Bool) (q : ℕ) (kind : StepKind) (e : Bool) (i : ℕ) (x : Step) (kept : List Kept) → IsBehind x.kind i j → key_in kept (Kept.theorem j) ≡ None
+  pub step-none : (b : Bool) (q : ℕ) (kind : StepKind) (e : Bool) (i : ℕ) (x : Step) (kept : List Kept) → IsBehind x.kind i j → key_in kept (Kept.theorem j)
+      ≡ None
       → key_in (kept_by (written_if b (write_by q kind e i x)) kept) (Kept.theorem j) ≡ None
   unfolding kept_by
   step-none b q kind e i x kept h none =
-      still-no-key IsOther (Kept.theorem j) (fresh kept) (written_if b (write_by q kind e i x) (fresh kept)) none (others-if b (write_by q kind e i x) (others-by q kind e i x h) (fresh kept)) (λ y k. k)
+      still-no-key IsOther (Kept.theorem j) (fresh kept) (written_if b (write_by q kind e i x) (fresh kept)) none
+      (others-if b (write_by q kind e i x) (others-by q kind e i x h) (fresh kept)) (λ y k. k)
 
 -- Keys by the numbers of theorems
 module _ (trees : Trees) where
-  pub theorem-key : (keys : Keyed) (i : ℕ) → AreKeysOf trees keys → i < keys.theorems → key_in (kept_of trees keys) (Kept.theorem i) ≡ thing_key keys (thing.Theorem i)
+  pub theorem-key : (keys : Keyed) (i : ℕ) → AreKeysOf trees keys → i < keys.theorems → key_in (kept_of trees keys) (Kept.theorem i)
+      ≡ thing_key keys (thing.Theorem i)
   theorem-key keys i known low = key_in-thing trees keys.theorems keys.things (thing.Theorem i) known.distinct known.things low
 
   -- a theorem that has no key among what was kept more
-  pub new-still : (write : Draft → Draft) (k l : Keyed) (i : ℕ) → AreKeysOf trees k → AreKeysOf trees l → l.theorems ≡ k.theorems → i < k.theorems → kept_of trees l ≡ kept_by write (kept_of trees k)
+  pub new-still : (write : Draft → Draft) (k l : Keyed) (i : ℕ) → AreKeysOf trees k → AreKeysOf trees l → l.theorems ≡ k.theorems → i < k.theorems
+      → kept_of trees l ≡ kept_by write (kept_of trees k)
       → (key_in (kept_of trees k) (Kept.theorem i) ≡ None → key_in (kept_by write (kept_of trees k)) (Kept.theorem i) ≡ None) → IsNew k i → IsNew l i
   new-still write k l i known later count low same still new =
       sym (theorem-key l i later (omega (arith, count, low))) ∙ ap (λ kept. key_in kept (Kept.theorem i)) same ∙ still (theorem-key k i known low ∙ new)
 
   -- what a rule was given gives no key to a theorem, nor does a step to one behind its own
-  pub new-given : {T E : Type 0} (q : ℕ) (g : Parameters) (k l : Keyed) (p o : ℕ) (a b : Option (List ℕ)) (f h : ℕ) (r : Result T E) (v : T) (kind : StepKind) (i : ℕ) → r ≡ Ok v → IsOpen trees k p → Adds trees (write_given q g) k a f l o b h r
+  pub new-given : {T E : Type 0} (q : ℕ) (g : Parameters) (k l : Keyed) (p o : ℕ) (a b : Option (List ℕ)) (f h : ℕ) (r : Result T E) (v : T) (kind : StepKind)
+      (i : ℕ) → r ≡ Ok v → IsOpen trees k p → Adds trees (write_given q g) k a f l o b h r
       → i < k.theorems → IsNewStep k kind i → IsNewStep l kind i
   new-given q g k l p o a b f h r v kind i e ready adds low new = go kind new
     where
@@ -185,14 +203,17 @@ module _ (trees : Trees) where
       count = count-of trees (write_given q g) k l o a b f h r v e adds
 
       one : (j : ℕ) → j < k.theorems → IsNew k j → IsNew l j
-      one j less = new-still (write_given q g) k l j ready.known (open-of trees (write_given q g) k l o a b f h r v e adds).known count less (keeps-of trees (write_given q g) k l o a b f h r v e adds) (given-none j q g (kept_of trees k))
+      one j less = new-still (write_given q g) k l j ready.known (open-of trees (write_given q g) k l o a b f h r v e adds).known count less
+          (keeps-of trees (write_given q g) k l o a b f h r v e adds) (given-none j q g (kept_of trees k))
 
       go : (kind : StepKind) → IsNewStep k kind i → IsNewStep l kind i
-      go FirstLaw n = record { first = one i low n.first; second = one (suc i) n.next n.second; next = (let c = count in let m = n.next in omega (arith, c, m)) }
+      go FirstLaw n = record
+          { first = one i low n.first; second = one (suc i) n.next n.second; next = (let c = count in let m = n.next in omega (arith, c, m)) }
       go SecondLaw n = tt
       go kind n = one i low n
 
-  pub new-written : {T E : Type 0} (t : Bool) (q : ℕ) (kind : StepKind) (e : Bool) (i : ℕ) (x : Step) (k l : Keyed) (p o : ℕ) (a b : Option (List ℕ)) (f h : ℕ) (r : Result T E) (v : T) (j : ℕ) → r ≡ Ok v → IsOpen trees k p
+  pub new-written : {T E : Type 0} (t : Bool) (q : ℕ) (kind : StepKind) (e : Bool) (i : ℕ) (x : Step) (k l : Keyed) (p o : ℕ) (a b : Option (List ℕ)) (f h : ℕ)
+      (r : Result T E) (v : T) (j : ℕ) → r ≡ Ok v → IsOpen trees k p
       → Adds trees (written_if t (write_by q kind e i x)) k a f l o b h r → j < k.theorems → IsBehind x.kind i j → IsNew k j → IsNew l j
   new-written t q kind e i x k l p o a b f h r v j is ready adds low behind =
       let write = written_if t (write_by q kind e i x) in
@@ -200,11 +221,13 @@ module _ (trees : Trees) where
       (keeps-of trees write k l o a b f h r v is adds) (step-none j t q kind e i x (kept_of trees k) behind)
 
 -- Another theorem has no key either
-not-last : (x y : Thing) (start : ℕ) (xs : List Thing) → position_from (thing_eq x) start xs ≡ None → thing_eq x y ≡ false → position_from (thing_eq x) start (xs ++ y ∷ []) ≡ None
+not-last : (x y : Thing) (start : ℕ) (xs : List Thing) → position_from (thing_eq x) start xs ≡ None → thing_eq x y ≡ false
+    → position_from (thing_eq x) start (xs ++ y ∷ []) ≡ None
 not-last x y start [] e h = ap (λ b. cond b (Some start) None) h
 not-last x y start (z ∷ xs) e h = go (thing_eq x z) e (not-last x y (start + 1) xs)
   where
-    go : (b : Bool) → cond b (Some start) (position_from (thing_eq x) (start + 1) xs) ≡ None → (position_from (thing_eq x) (start + 1) xs ≡ None → thing_eq x y ≡ false → position_from (thing_eq x) (start + 1) (xs ++ y ∷ []) ≡ None)
+    go : (b : Bool) → cond b (Some start) (position_from (thing_eq x) (start + 1) xs) ≡ None
+        → (position_from (thing_eq x) (start + 1) xs ≡ None → thing_eq x y ≡ false → position_from (thing_eq x) (start + 1) (xs ++ y ∷ []) ≡ None)
         → cond b (Some start) (position_from (thing_eq x) (start + 1) (xs ++ y ∷ [])) ≡ None
     go true f g = absurd (cc)
     go false f g = g f h

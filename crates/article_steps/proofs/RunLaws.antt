@@ -14,7 +14,8 @@ use Rattle.article_steps.specs.Agendas.{pushed, do_jobs, IsRoomy}
 use Rattle.article_steps.specs.Left.{Gained, kept_of, IsReady, left_text, Goes, Adds}
 
 -- what was gone over, and what is left
-pub record Running (trees : Trees) (q : ℕ) (first : Agenda) (keys_first : Keyed) (got_first : Option (List ℕ)) (faults_first : ℕ) (a : Agenda) (keys : Keyed) (got : Option (List ℕ)) (faults : ℕ) : Type 0 where
+pub record Running (trees : Trees) (q : ℕ) (first : Agenda) (keys_first : Keyed) (got_first : Option (List ℕ)) (faults_first : ℕ) (a : Agenda) (keys : Keyed)
+    (got : Option (List ℕ)) (faults : ℕ) : Type 0 where
   pub text : Gained got_first (left_text trees q first keys_first) (left_text trees q a keys) got
   pub keeps : kept_by (do_jobs trees q a.binders a.jobs) (kept_of trees keys) ≡ kept_by (do_jobs trees q first.binders first.jobs) (kept_of trees keys_first)
   pub ready : IsReady trees q a keys
@@ -51,11 +52,13 @@ module _ (trees : Trees) (q : ℕ) where
     running-first r = record { text = gained-none got_first (left_text trees q first keys_first); keeps = refl; ready = r; count = refl; later = omega arith }
 
     -- the next job is taken off
-    pub running-popped : (a b : Agenda) (j : Job) (keys : Keyed) (got : Option (List ℕ)) (faults : ℕ) → a ≡ pushed j b → Running trees q first keys_first got_first faults_first a keys got faults
+    pub running-popped : (a b : Agenda) (j : Job) (keys : Keyed) (got : Option (List ℕ)) (faults : ℕ) → a ≡ pushed j b
+        → Running trees q first keys_first got_first faults_first a keys got faults
         → Running trees q first keys_first got_first faults_first (pushed j b) keys got faults
     running-popped a b j keys got faults e h = subst (λ x. Running trees q first keys_first got_first faults_first x keys got faults) e h
 
-    pub running-on : {T E : Type 0} (a n : Agenda) (keys keys_now : Keyed) (got got_now : Option (List ℕ)) (faults faults_now : ℕ) (r : Result T E) (v : T) → r ≡ Ok v
+    pub running-on : {T E : Type 0} (a n : Agenda) (keys keys_now : Keyed) (got got_now : Option (List ℕ)) (faults faults_now : ℕ) (r : Result T E) (v : T) → r
+        ≡ Ok v
         → Running trees q first keys_first got_first faults_first a keys got faults → Goes trees q a keys got faults n keys_now got_now faults_now r
         → Running trees q first keys_first got_first faults_first n keys_now got_now faults_now
     running-on a n keys keys_now got got_now faults faults_now (Ok w) v e h g = record {
@@ -67,7 +70,8 @@ module _ (trees : Trees) (q : ℕ) where
     }
     running-on a n keys keys_now got got_now faults faults_now (Err x) v e h g = absurd (cc)
 
-    pub running-end : {T E : Type 0} (a n : Agenda) (keys : Keyed) (got : Option (List ℕ)) (faults : ℕ) (r : Result T E) (v : T) → r ≡ Ok v → n ≡ a → a.jobs ≡ []
+    pub running-end : {T E : Type 0} (a n : Agenda) (keys : Keyed) (got : Option (List ℕ)) (faults : ℕ) (r : Result T E) (v : T) → r ≡ Ok v → n ≡ a → a.jobs
+        ≡ []
         → Running trees q first keys_first got_first faults_first a keys got faults
         → Adds trees (do_jobs trees q first.binders first.jobs) keys_first got_first faults_first keys n.room got faults r
     unfolding left_text
@@ -85,7 +89,8 @@ module _ (trees : Trees) (q : ℕ) where
     }
     running-end a n keys got faults (Err x) v e same none h = absurd (cc)
 
-    pub running-failed : {T E U F : Type 0} (a n : Agenda) (keys keys_now : Keyed) (got got_now : Option (List ℕ)) (faults faults_now : ℕ) (r : Result T E) (s : Result U F) (x : E) → r ≡ Err x → IsErr s
+    pub running-failed : {T E U F : Type 0} (a n : Agenda) (keys keys_now : Keyed) (got got_now : Option (List ℕ)) (faults faults_now : ℕ) (r : Result T E)
+        (s : Result U F) (x : E) → r ≡ Err x → IsErr s
         → Running trees q first keys_first got_first faults_first a keys got faults → Goes trees q a keys got faults n keys_now got_now faults_now r
         → Adds trees (do_jobs trees q first.binders first.jobs) keys_first got_first faults_first keys_now n.room got_now faults_now s
     unfolding left_text
@@ -94,7 +99,8 @@ module _ (trees : Trees) (q : ℕ) where
         writes = record {
           ok = tt;
           err = gained-front got_first got got_now _ _ h.text g.err;
-          cause = (let l = h.later in let k = g.cause.later in record { later = omega (arith, l, k); failed = rose_after faults_first faults faults_now l g.cause.failed });
+          cause = (let l = h.later in let k = g.cause.later in record
+              { later = omega (arith, l, k); failed = rose_after faults_first faults faults_now l g.cause.failed });
         };
         keeps = tt;
       };

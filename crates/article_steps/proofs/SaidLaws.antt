@@ -32,7 +32,8 @@ appends-say i = record { each = λ items d. ap (λ l. record { commands = l; kep
 pub appends-keep : (x : Kept) → IsAppending (keep x)
 appends-keep x = record {
   each = λ items d. ap (λ (e : Draft). record e { kept = d.kept ++ x ∷ [] })
-      ((appends-then (say (item.Number (pos (length d.kept)))) (say_word word.Def) (appends-say (item.Number (pos (length d.kept)))) (appends-say (item.Word word.Def))).each items d);
+      ((appends-then (say (item.Number (pos (length d.kept)))) (say_word word.Def) (appends-say (item.Number (pos (length d.kept))))
+      (appends-say (item.Word word.Def))).each items d);
 }
 
 pub appends-refer : (k : ℕ) → IsAppending (refer k)
@@ -58,7 +59,8 @@ pub appends-listed : (k : ℕ) → IsAppending (λ d. conses k (say_word word.Ni
 appends-listed k = appends-then (say_word word.Nil) (conses k) (appends-say (item.Word word.Nil)) (appends-conses k)
 
 pub appends-list : {A : Type 0} (write : A → Draft → Draft) → ((x : A) → IsAppending (write x)) → (xs : List A) → IsAppending (write_list write xs)
-appends-list write a xs = appends-then (write_each write xs) (λ d. conses (length xs) (say_word word.Nil d)) (appends-each write a xs) (appends-listed (length xs))
+appends-list write a xs = appends-then (write_each write xs) (λ d. conses (length xs) (say_word word.Nil d)) (appends-each write a xs)
+    (appends-listed (length xs))
 
 pub appends-pair : (one two : Draft → Draft) → IsAppending one → IsAppending two → IsAppending (write_pair one two)
 appends-pair one two a b = appends-then (λ d. two (one d)) (λ d. conses 2 (say_word word.Nil d)) (appends-then one two a b) (appends-listed 2)
@@ -69,7 +71,10 @@ write_type-once (HolType.variable n) d = refl
 write_type-once (HolType.operator n ts) d = refl
 
 appends-built : (t : HolType) → IsAppending (build_type t) → IsAppending (write_type t)
-appends-built t a = record { each = λ items d. write_type-once t (behind items d) ∙ (appends-once (Kept.type t) (build_type t) a).each items d ∙ ap (behind items) (sym (write_type-once t d)) }
+appends-built t a = record {
+  each = λ items d. write_type-once t (behind items d) ∙ (appends-once (Kept.type t) (build_type t) a).each items d
+      ∙ ap (behind items) (sym (write_type-once t d));
+}
 
 mutual
   pub appends-build_type : (t : HolType) → IsAppending (build_type t)
@@ -90,7 +95,8 @@ appends-type t = appends-built t (appends-build_type t)
 
 pub appends-variable : (v : Variable) → IsAppending (write_variable v)
 appends-variable v =
-    appends-then (λ d. write_type v.1 (say_name v.0 d)) (say_word word.Var) (appends-then (say_name v.0) (write_type v.1) (appends-say (item.Name v.0)) (appends-type v.1)) (appends-say (item.Word word.Var))
+    appends-then (λ d. write_type v.1 (say_name v.0 d)) (say_word word.Var)
+    (appends-then (say_name v.0) (write_type v.1) (appends-say (item.Name v.0)) (appends-type v.1)) (appends-say (item.Word word.Var))
 
 appends-shared : (t : Term) (build : Draft → Draft) → IsAppending build → IsAppending (shared t build)
 appends-shared t build a = go (loose t == 0)
@@ -112,18 +118,25 @@ write_under-shared q vs (Term.app f x) d = refl
 write_under-shared q vs (Term.lam a b) d = refl
 
 appends-part : (q : ℕ) (vs : List Variable) (t : Term) → IsAppending (build_under q vs t) → IsAppending (write_under q vs t)
-appends-part q vs t a = record { each = λ items d. write_under-shared q vs t (behind items d) ∙ (appends-shared t (build_under q vs t) a).each items d ∙ ap (behind items) (sym (write_under-shared q vs t d)) }
+appends-part q vs t a = record {
+  each = λ items d. write_under-shared q vs t (behind items d) ∙ (appends-shared t (build_under q vs t) a).each items d
+      ∙ ap (behind items) (sym (write_under-shared q vs t d));
+}
 
 pub appends-build_under : (q : ℕ) (t : Term) (vs : List Variable) → IsAppending (build_under q vs t)
-appends-build_under q (Term.free n a) vs = appends-then (write_variable (n, a)) (say_word word.VarTerm) (appends-variable (n, a)) (appends-say (item.Word word.VarTerm))
-appends-build_under q (Term.bound k) vs = appends-then (write_variable (binder_at vs k)) (say_word word.VarTerm) (appends-variable (binder_at vs k)) (appends-say (item.Word word.VarTerm))
+appends-build_under q (Term.free n a) vs = appends-then (write_variable (n, a)) (say_word word.VarTerm) (appends-variable (n, a))
+    (appends-say (item.Word word.VarTerm))
+appends-build_under q (Term.bound k) vs = appends-then (write_variable (binder_at vs k)) (say_word word.VarTerm) (appends-variable (binder_at vs k))
+    (appends-say (item.Word word.VarTerm))
 appends-build_under q (Term.constant n a) vs =
     appends-then (λ e. write_type a (say_word word.Const (say_name n e))) (say_word word.ConstTerm)
-    (appends-then (λ e. say_word word.Const (say_name n e)) (write_type a) (appends-then (say_name n) (say_word word.Const) (appends-say (item.Name n)) (appends-say (item.Word word.Const))) (appends-type a))
+    (appends-then (λ e. say_word word.Const (say_name n e)) (write_type a)
+    (appends-then (say_name n) (say_word word.Const) (appends-say (item.Name n)) (appends-say (item.Word word.Const))) (appends-type a))
     (appends-say (item.Word word.ConstTerm))
 appends-build_under q (Term.app f x) vs =
     appends-then (λ e. write_under q vs x (write_under q vs f e)) (say_word word.AppTerm)
-    (appends-then (write_under q vs f) (write_under q vs x) (appends-part q vs f (appends-build_under q f vs)) (appends-part q vs x (appends-build_under q x vs)))
+    (appends-then (write_under q vs f) (write_under q vs x) (appends-part q vs f (appends-build_under q f vs))
+    (appends-part q vs x (appends-build_under q x vs)))
     (appends-say (item.Word word.AppTerm))
 appends-build_under q (Term.lam a b) vs =
     let v : Variable = next_binder q vs a in
@@ -151,7 +164,8 @@ kept-same g d e a same = ap (λ (x : Draft). x.kept) (appended g d a) ∙ ap (λ
 
 pub said-then : (f g : Draft → Draft) (kept : List Kept) → IsAppending g → said (λ d. g (f d)) kept ≡ said f kept ++ said g (kept_by f kept)
 unfolding said kept_by
-said-then f g kept a = ap (λ (x : Draft). text_of x.commands) (appended g (f (fresh kept)) a) ∙ text-append (f (fresh kept)).commands (g (fresh (f (fresh kept)).kept)).commands
+said-then f g kept a = ap (λ (x : Draft). text_of x.commands) (appended g (f (fresh kept)) a) ∙ text-append (f (fresh kept)).commands
+    (g (fresh (f (fresh kept)).kept)).commands
 
 pub kept_by-then : (f g : Draft → Draft) (kept : List Kept) → IsAppending g → kept_by (λ d. g (f d)) kept ≡ kept_by g (kept_by f kept)
 unfolding kept_by
@@ -165,9 +179,11 @@ pub said-say : (i : Item) (kept : List Kept) → said (say i) kept ≡ line i
 unfolding said
 said-say i kept = append-nil (line i)
 
-pub said-behind : (g : Draft → Draft) (items : List Item) (kept : List Kept) → IsAppending g → text_of (g (record { commands = items; kept = kept })).commands ≡ text_of items ++ said g kept
+pub said-behind : (g : Draft → Draft) (items : List Item) (kept : List Kept) → IsAppending g → text_of (g (record { commands = items; kept = kept })).commands
+    ≡ text_of items ++ said g kept
 unfolding said
-said-behind g items kept a = ap (λ (x : Draft). text_of x.commands) (appended g (record { commands = items; kept = kept }) a) ∙ text-append items (g (fresh kept)).commands
+said-behind g items kept a = ap (λ (x : Draft). text_of x.commands) (appended g (record { commands = items; kept = kept }) a) ∙ text-append items
+    (g (fresh kept)).commands
 
 pub on_ok : {U F P Q : Type 0} (s : Result U F) → (P → Q) → OnOk s P → OnOk s Q
 on_ok (Ok v) f h = f h
@@ -178,7 +194,8 @@ module _ {T U E F : Type 0} where
   pub tells-then : (f g : Draft → Draft) (k l m : List Kept) (a b c : Option (List ℕ)) (i j n : ℕ) (r : Result T E) (s : Result U F) (v : T)
       → IsAppending g → r ≡ Ok v → Tells f k a i l b j r → Tells g l b j m c n s → Tells (λ d. g (f d)) k a i m c n s
   tells-then f g k l m a b c i j n (Ok w) s v h e first second = record {
-    writes = writes_same _ _ (said-then f g k h ∙ ap (λ x. said f k ++ said g x) (sym first.keeps)) (writes_then a b c i j n (said f k) (said g l) (Ok w) s w refl first.writes second.writes);
+    writes = writes_same _ _ (said-then f g k h ∙ ap (λ x. said f k ++ said g x) (sym first.keeps))
+        (writes_then a b c i j n (said f k) (said g l) (Ok w) s w refl first.writes second.writes);
     keeps = on_ok s (λ same. same ∙ ap (kept_by g) first.keeps ∙ sym (kept_by-then f g k h)) second.keeps;
   }
   tells-then f g k l m a b c i j n (Err x) s v h e first second = absurd (cc)
@@ -186,12 +203,17 @@ module _ {T U E F : Type 0} where
   -- the first of two failed
   pub tells-stop : (f g : Draft → Draft) (k l m : List Kept) (a b : Option (List ℕ)) (i j : ℕ) (r : Result T E) (s : Result U F) (x : E)
       → IsAppending g → r ≡ Err x → IsErr s → Tells f k a i l b j r → Tells (λ d. g (f d)) k a i m b j s
-  tells-stop f g k l m a b i j (Err y) (Err z) x h e u first = record { writes = writes_same _ _ (said-then f g k h) (writes_stop a b i j (said f k) (said g (kept_by f k)) (Err y) (Err z) y refl u first.writes); keeps = tt }
+  tells-stop f g k l m a b i j (Err y) (Err z) x h e u first =
+      record {
+        writes = writes_same _ _ (said-then f g k h) (writes_stop a b i j (said f k) (said g (kept_by f k)) (Err y) (Err z) y refl u first.writes);
+        keeps = tt;
+      }
   tells-stop f g k l m a b i j (Err y) (Ok z) x h e u first = absurd (cc)
   tells-stop f g k l m a b i j (Ok y) s x h e u first = absurd (cc)
 
 -- one command
-pub tells-say : {T E : Type 0} (i : Item) (k : List Kept) (a b : Option (List ℕ)) (f g : ℕ) (r : Result T E) → Writes a f (line i) b g r → Tells (say i) k a f k b g r
+pub tells-say : {T E : Type 0} (i : Item) (k : List Kept) (a b : Option (List ℕ)) (f g : ℕ) (r : Result T E) → Writes a f (line i) b g r
+    → Tells (say i) k a f k b g r
 unfolding kept_by
 tells-say i k a b f g (Ok v) w = record { writes = writes_same _ _ (said-say i k) w; keeps = refl }
 tells-say i k a b f g (Err x) w = record { writes = writes_same _ _ (said-say i k) w; keeps = tt }

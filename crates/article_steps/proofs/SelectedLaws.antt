@@ -20,16 +20,19 @@ use Rattle.article_steps.specs.TheoremKeys.{IsBehind, AreNewFrom}
 use Rattle.article_steps.proofs.SaidLaws.{appends-none}
 
 -- Selected steps
-pub each-selected : (told : ℕ → Bool) (write : Numbered → Draft → Draft) (i : ℕ) (xs : List Step) (d : Draft) → write_each (told_writer told write) (numbered_from i xs) d ≡ write_each write (selected told i xs) d
+pub each-selected : (told : ℕ → Bool) (write : Numbered → Draft → Draft) (i : ℕ) (xs : List Step) (d : Draft)
+    → write_each (told_writer told write) (numbered_from i xs) d ≡ write_each write (selected told i xs) d
 each-selected told write i [] d = refl
 each-selected told write i (x ∷ xs) d = go (told i) (each-selected told write (suc i) xs)
   where
     go : (b : Bool) → ((e : Draft) → write_each (told_writer told write) (numbered_from (suc i) xs) e ≡ write_each write (selected told (suc i) xs) e)
-        → write_each (told_writer told write) (numbered_from (suc i) xs) (written_if b (write (record { number = i; step = x })) d) ≡ write_each write (cond b (record { number = i; step = x } ∷ selected told (suc i) xs) (selected told (suc i) xs)) d
+        → write_each (told_writer told write) (numbered_from (suc i) xs) (written_if b (write (record { number = i; step = x })) d)
+        ≡ write_each write (cond b (record { number = i; step = x } ∷ selected told (suc i) xs) (selected told (suc i) xs)) d
     go true same = same (write (record { number = i; step = x }) d)
     go false same = same d
 
-pub appends-told : (told : ℕ → Bool) (write : Numbered → Draft → Draft) → ((x : Numbered) → IsAppending (write x)) → (x : Numbered) → IsAppending (told_writer told write x)
+pub appends-told : (told : ℕ → Bool) (write : Numbered → Draft → Draft) → ((x : Numbered) → IsAppending (write x)) → (x : Numbered)
+    → IsAppending (told_writer told write x)
 appends-told told write a x = go (told x.number)
   where
     go : (b : Bool) → IsAppending (written_if b (write x))
@@ -37,7 +40,8 @@ appends-told told write a x = go (told x.number)
     go false = appends-none
 
 -- the flags of exports are those that the article tells
-pub each-exports : (q : ℕ) (flags : List Bool) (exports : List ℕ) (told : ℕ → Bool) → AreExports flags exports → (i : ℕ) (xs : List Step) → i + length xs ≤ length flags
+pub each-exports : (q : ℕ) (flags : List Bool) (exports : List ℕ) (told : ℕ → Bool) → AreExports flags exports → (i : ℕ) (xs : List Step)
+    → i + length xs ≤ length flags
     → (d : Draft) → write_each (flagged_writer q (flag flags)) (selected told i xs) d ≡ write_each (write_step q exports) (selected told i xs) d
 each-exports q flags exports told are i [] low d = refl
 each-exports q flags exports told are i (x ∷ xs) low d = go (told i) (each-exports q flags exports told are (suc i) xs (omega (arith, low)))
@@ -45,7 +49,8 @@ each-exports q flags exports told are i (x ∷ xs) low d = go (told i) (each-exp
     here : (e : Draft) → write_by q x.kind (flag flags i) i x e ≡ write_by q x.kind (list_any (λ k. i == k) exports) i x e
     here e = ap (λ b. write_by q x.kind b i x e) (are i (omega (arith, low)))
 
-    go : (b : Bool) → ((e : Draft) → write_each (flagged_writer q (flag flags)) (selected told (suc i) xs) e ≡ write_each (write_step q exports) (selected told (suc i) xs) e)
+    go : (b : Bool) → ((e : Draft) → write_each (flagged_writer q (flag flags)) (selected told (suc i) xs) e ≡ write_each (write_step q exports)
+        (selected told (suc i) xs) e)
         → write_each (flagged_writer q (flag flags)) (cond b (record { number = i; step = x } ∷ selected told (suc i) xs) (selected told (suc i) xs)) d
         ≡ write_each (write_step q exports) (cond b (record { number = i; step = x } ∷ selected told (suc i) xs) (selected told (suc i) xs)) d
     go true same = same (write_by q x.kind (flag flags i) i x d) ∙ ap (write_each (write_step q exports) (selected told (suc i) xs)) (here d)
@@ -62,7 +67,8 @@ step-is [] i d x e = absurd (cc)
 step-is (y ∷ xs) zero d x e = cc
 step-is (y ∷ xs) (suc i) d x e = step-is xs i d x e
 
-numbered-at : (k : ℕ) (xs : List Step) (i : ℕ) (x : Step) → slice_get xs i ≡ Some x → slice_get (numbered_from k xs) i ≡ Some (record { number = k + i; step = x })
+numbered-at : (k : ℕ) (xs : List Step) (i : ℕ) (x : Step) → slice_get xs i ≡ Some x → slice_get (numbered_from k xs) i
+    ≡ Some (record { number = k + i; step = x })
 numbered-at k [] i x e = absurd (cc)
 numbered-at k (y ∷ xs) zero x e =
     let same : y ≡ x = cc in
@@ -73,7 +79,8 @@ numbered-at k (y ∷ xs) (suc i) x e =
     numbered-at (suc k) xs i x e ∙ ap (λ n. Some (record { number = n; step = x })) next
 
 pub numbered-step : (xs : List Step) (i : ℕ) → i < length xs → slice_get (numbered_from 0 xs) i ≡ Some (record { number = i; step = step_in xs i })
-numbered-step xs i h = let same : 0 + i ≡ i = omega arith in numbered-at 0 xs i (step_in xs i) (step-here xs i _ h) ∙ ap (λ n. Some (record { number = n; step = step_in xs i })) same
+numbered-step xs i h = let same : 0 + i ≡ i = omega arith in numbered-at 0 xs i (step_in xs i) (step-here xs i _ h) ∙ ap
+    (λ n. Some (record { number = n; step = step_in xs i })) same
 
 pub length-numbered : (k : ℕ) (xs : List Step) → length (numbered_from k xs) ≡ length xs
 length-numbered k [] = refl
@@ -104,12 +111,18 @@ module _ (steps : List Step) (pairs : ArePairs steps) where
       go : (kind : StepKind) → (step_in steps i).kind ≡ kind → IsNewStep keys kind i
       go FirstLaw e =
           let second = second-behind i low e in
-          record { first = n.here low (λ f. absurd (let g = sym e ∙ f in cc)); second = n.behind (suc i) (omega arith) second.0; next = omega (arith, count, second.0) }
+          record {
+            first = n.here low (λ f. absurd (let g = sym e ∙ f in cc));
+            second = n.behind (suc i) (omega arith) second.0;
+            next =
+                omega (arith, count, second.0);
+          }
       go SecondLaw e = tt
       go kind e = n.here low (λ f. absurd (let g = sym e ∙ f in cc))
 
   -- a step that is told: the theorems behind it that had no key have none
-  pub new-told : (old new : Keyed) (i : ℕ) → i < length steps → ((j : ℕ) → j < length steps → IsBehind (step_in steps i).kind i j → IsNew old j → IsNew new j) → AreNewFrom steps old i → AreNewFrom steps new (i + 1)
+  pub new-told : (old new : Keyed) (i : ℕ) → i < length steps → ((j : ℕ) → j < length steps → IsBehind (step_in steps i).kind i j → IsNew old j → IsNew new j)
+      → AreNewFrom steps old i → AreNewFrom steps new (i + 1)
   new-told old new i low still n = go (step_in steps i).kind refl
     where
       rest : (j : ℕ) → i + 1 < j → j < length steps → IsNew new j

@@ -33,14 +33,17 @@ appends-given q Parameters.nothing = appends-none
 appends-given q (Parameters.term t) = appends-under q [] t
 appends-given q (Parameters.variable v) = appends-variable v
 appends-given q (Parameters.substitution types terms) =
-    appends-pair (write_list type_pair_writer types) (write_list (term_pair_writer q) terms) (appends-list type_pair_writer appends-type_pair types) (appends-list (term_pair_writer q) (appends-term_pair q) terms)
-appends-given q (Parameters.sequent s) = appends-then (write_list (write_term q) s.hypotheses) (write_term q s.conclusion) (appends-list (write_term q) (appends-under q []) s.hypotheses) (appends-under q [] s.conclusion)
+    appends-pair (write_list type_pair_writer types) (write_list (term_pair_writer q) terms) (appends-list type_pair_writer appends-type_pair types)
+    (appends-list (term_pair_writer q) (appends-term_pair q) terms)
+appends-given q (Parameters.sequent s) = appends-then (write_list (write_term q) s.hypotheses) (write_term q s.conclusion)
+    (appends-list (write_term q) (appends-under q []) s.hypotheses) (appends-under q [] s.conclusion)
 appends-given q (Parameters.constant n t) = appends-then (say_name n) (write_term q t) (appends-say (item.Name n)) (appends-under q [] t)
 appends-given q (Parameters.constants pairs) = appends-list constant_pair_writer appends-constant_pair pairs
 appends-given q (Parameters.type_operator names version) =
     appends-then (λ d. say_name names.representation (say_name names.abstraction (say_name names.operator d))) (write_list say_name names.variables)
     (appends-then (λ d. say_name names.abstraction (say_name names.operator d)) (say_name names.representation)
-    (appends-then (say_name names.operator) (say_name names.abstraction) (appends-say (item.Name names.operator)) (appends-say (item.Name names.abstraction))) (appends-say (item.Name names.representation)))
+    (appends-then (say_name names.operator) (say_name names.abstraction) (appends-say (item.Name names.operator)) (appends-say (item.Name names.abstraction)))
+    (appends-say (item.Name names.representation)))
     (appends-list say_name (λ n. appends-say (item.Name n)) names.variables)
 
 pub appends-premise : (i : ℕ) → IsAppending (write_premise i)
@@ -63,23 +66,27 @@ pub appends-made : (kind : StepKind) (i : ℕ) → IsAppending (keep_made kind i
 appends-made DefineConst i = appends-then (keep_theorem i) (pops 1) (appends-theorem i) (appends-pops 1)
 appends-made DefineConstList i = appends-then (keep_theorem i) (pops 1) (appends-theorem i) (appends-pops 1)
 appends-made FirstLaw i =
-    appends-then (λ d. keep_theorem i (keep_theorem (suc i) d)) (pops 3) (appends-then (keep_theorem (suc i)) (keep_theorem i) (appends-theorem (suc i)) (appends-theorem i)) (appends-pops 3)
+    appends-then (λ d. keep_theorem i (keep_theorem (suc i) d)) (pops 3)
+    (appends-then (keep_theorem (suc i)) (keep_theorem i) (appends-theorem (suc i)) (appends-theorem i)) (appends-pops 3)
 appends-made kind i = appends-theorem i
 
 appends-export : (q : ℕ) (x : Step) → IsAppending (write_export q x)
 appends-export q x =
     appends-then (λ d. write_given q x.parameters (write_each write_premise x.premises d)) (say_word word.Thm)
-    (appends-then (write_each write_premise x.premises) (write_given q x.parameters) (appends-premises x.premises) (appends-given q x.parameters)) (appends-word word.Thm)
+    (appends-then (write_each write_premise x.premises) (write_given q x.parameters) (appends-premises x.premises) (appends-given q x.parameters))
+    (appends-word word.Thm)
 
 appends-assumption : (q i : ℕ) (x : Step) → IsAppending (write_assumption q i x)
 appends-assumption q i x =
-    appends-then (λ d. say_word word.Axiom (write_given q x.parameters d)) (keep_theorem i) (appends-then (write_given q x.parameters) (say_word word.Axiom) (appends-given q x.parameters) (appends-word word.Axiom)) (appends-theorem i)
+    appends-then (λ d. say_word word.Axiom (write_given q x.parameters d)) (keep_theorem i)
+    (appends-then (write_given q x.parameters) (say_word word.Axiom) (appends-given q x.parameters) (appends-word word.Axiom)) (appends-theorem i)
 
 appends-inferred : (q i : ℕ) (x : Step) → IsAppending (write_inferred q i x)
 appends-inferred q i x =
     appends-then (λ d. say_word (word_of x.kind) (write_each write_premise x.premises (write_given q x.parameters d))) (keep_made x.kind i)
     (appends-then (λ d. write_each write_premise x.premises (write_given q x.parameters d)) (say_word (word_of x.kind))
-    (appends-then (write_given q x.parameters) (write_each write_premise x.premises) (appends-given q x.parameters) (appends-premises x.premises)) (appends-word (word_of x.kind)))
+    (appends-then (write_given q x.parameters) (write_each write_premise x.premises) (appends-given q x.parameters) (appends-premises x.premises))
+    (appends-word (word_of x.kind)))
     (appends-made x.kind i)
 
 pub appends-by : (q : ℕ) (kind : StepKind) (e : Bool) (i : ℕ) (x : Step) → IsAppending (write_by q kind e i x)
@@ -95,13 +102,15 @@ new-plain keys FirstLaw i a b h = absurd (a refl)
 new-plain keys SecondLaw i a b h = absurd (b refl)
 new-plain keys kind i a b h = h
 
-pub made-plain : (kind : StepKind) (i : ℕ) → (kind ≡ DefineConst → ⊥) → (kind ≡ DefineConstList → ⊥) → (kind ≡ FirstLaw → ⊥) → (d : Draft) → keep_theorem i d ≡ keep_made kind i d
+pub made-plain : (kind : StepKind) (i : ℕ) → (kind ≡ DefineConst → ⊥) → (kind ≡ DefineConstList → ⊥) → (kind ≡ FirstLaw → ⊥) → (d : Draft) → keep_theorem i d
+    ≡ keep_made kind i d
 made-plain DefineConst i a b c d = absurd (a refl)
 made-plain DefineConstList i a b c d = absurd (b refl)
 made-plain FirstLaw i a b c d = absurd (c refl)
 made-plain kind i a b c d = refl
 
-pub by-plain : (q : ℕ) (kind : StepKind) (e : Bool) (i : ℕ) (x : Step) → (kind ≡ Axiom → ⊥) → (kind ≡ Restate → ⊥) → (kind ≡ SecondLaw → ⊥) → (d : Draft) → write_inferred q i x d ≡ write_by q kind e i x d
+pub by-plain : (q : ℕ) (kind : StepKind) (e : Bool) (i : ℕ) (x : Step) → (kind ≡ Axiom → ⊥) → (kind ≡ Restate → ⊥) → (kind ≡ SecondLaw → ⊥) → (d : Draft)
+    → write_inferred q i x d ≡ write_by q kind e i x d
 by-plain q Axiom e i x a b c d = absurd (a refl)
 by-plain q Restate e i x a b c d = absurd (b refl)
 by-plain q SecondLaw e i x a b c d = absurd (c refl)
@@ -110,11 +119,13 @@ by-plain q kind e i x a b c d = refl
 -- What is written of a theorem
 module _ (trees : Trees) where
   -- its key
-  pub adds-premise : {T E : Type 0} (i key : ℕ) (k : Keyed) (p : ℕ) (a b : Option (List ℕ)) (f g : ℕ) (r : Result T E) → key ≡ unwrap_or (thing_key k (thing.Theorem i)) 0 → i < k.theorems → IsOpen trees k p
+  pub adds-premise : {T E : Type 0} (i key : ℕ) (k : Keyed) (p : ℕ) (a b : Option (List ℕ)) (f g : ℕ) (r : Result T E) → key
+      ≡ unwrap_or (thing_key k (thing.Theorem i)) 0 → i < k.theorems → IsOpen trees k p
       → Writes a f (text_of (item.Number (pos key) ∷ item.Word word.Ref ∷ [])) b g r → Adds trees (write_premise i) k a f k p b g r
   unfolding said kept_by
   adds-premise i key k p a b f g r is low o w =
-      let same : text_of (write_premise i (record { commands = []; kept = kept_of trees k })).commands ≡ text_of (item.Number (pos key) ∷ item.Word word.Ref ∷ []) =
+      let same : text_of (write_premise i (record { commands = []; kept = kept_of trees k })).commands
+      ≡ text_of (item.Number (pos key) ∷ item.Word word.Ref ∷ []) =
       ap (λ n. text_of (item.Number (pos n) ∷ item.Word word.Ref ∷ [])) (ap (λ z. unwrap_or z 0) (theorem-key trees k i o.known low) ∙ sym is) in
       record {
         tells = record { writes = writes_same _ _ same w; keeps = on_ok r (λ u. refl) w.ok };
@@ -131,14 +142,20 @@ module _ (trees : Trees) where
     distinct = known.distinct;
   }
 
-  pub adds-kept : {T E : Type 0} (i : ℕ) (k l : Keyed) (p : ℕ) (a b : Option (List ℕ)) (f g : ℕ) (r : Result T E) → l ≡ with_thing (thing.Theorem i) k → i < k.theorems → IsOpen trees k p
+  pub adds-kept : {T E : Type 0} (i : ℕ) (k l : Keyed) (p : ℕ) (a b : Option (List ℕ)) (f g : ℕ) (r : Result T E) → l ≡ with_thing (thing.Theorem i) k
+      → i < k.theorems → IsOpen trees k p
       → Writes a f (text_of (item.Number (pos (length k.things)) ∷ item.Word word.Def ∷ [])) b g r → Adds trees (keep (Kept.theorem i)) k a f l p b g r
   unfolding said kept_by
   adds-kept i k l p a b f g r is low o w =
-      let same : text_of (keep (Kept.theorem i) (record { commands = []; kept = kept_of trees k })).commands ≡ text_of (item.Number (pos (length k.things)) ∷ item.Word word.Def ∷ []) =
+      let same : text_of (keep (Kept.theorem i) (record { commands = []; kept = kept_of trees k })).commands
+      ≡ text_of (item.Number (pos (length k.things)) ∷ item.Word word.Def ∷ []) =
       ap (λ n. text_of (item.Number (pos n) ∷ item.Word word.Def ∷ [])) (length-map k.things (kept_at trees)) in
       record {
-        tells = record { writes = writes_same _ _ same w; keeps = on_ok r (λ u. ap (kept_of trees) is ∙ all_kept_at-push trees k.things (thing.Theorem i)) w.ok };
+        tells = record {
+          writes = writes_same _ _ same w;
+          keeps =
+              on_ok r (λ u. ap (kept_of trees) is ∙ all_kept_at-push trees k.things (thing.Theorem i)) w.ok;
+        };
         ready = on_ok r (λ u. subst (λ (z : Keyed). IsOpen trees z p) (sym is) (record { known = with-theorem i k o.known low; roomy = o.roomy })) w.ok;
         count = on_ok r (λ u. ap (λ (z : Keyed). z.theorems) is) w.ok;
       }

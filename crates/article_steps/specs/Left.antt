@@ -44,7 +44,8 @@ module _ (trees : Trees) (q : ℕ) where
 
   -- with these commands one agenda goes over into another, which is less
   pub record Steps (old : Agenda) (keys : Keyed) (items : List Item) (new : Agenda) (keys_now : Keyed) : Type 0 where
-    pub rest : do_jobs trees q old.binders old.jobs (fresh (kept_of trees keys)) ≡ do_jobs trees q new.binders new.jobs (record { commands = items; kept = kept_of trees keys_now })
+    pub rest : do_jobs trees q old.binders old.jobs (fresh (kept_of trees keys))
+        ≡ do_jobs trees q new.binders new.jobs (record { commands = items; kept = kept_of trees keys_now })
     pub jobs : AreJobs trees q new.room new.binders new.jobs (record { commands = items; kept = kept_of trees keys_now })
     pub known : AreKeysOf trees keys_now
     pub count : keys_now.theorems ≡ keys.theorems
@@ -52,9 +53,11 @@ module _ (trees : Trees) (q : ℕ) where
     pub less : work trees q new.binders new.jobs < work trees q old.binders old.jobs
 
   -- of what was left the sink got a first part, and the rest is left; where the call failed the sink got a front of it, and its count of faults rose
-  pub record Goes {T E : Type 0} (old : Agenda) (keys : Keyed) (got : Option (List ℕ)) (faults : ℕ) (new : Agenda) (keys_now : Keyed) (got_now : Option (List ℕ)) (faults_now : ℕ) (result : Result T E) : Type 0 where
+  pub record Goes {T E : Type 0} (old : Agenda) (keys : Keyed) (got : Option (List ℕ)) (faults : ℕ) (new : Agenda) (keys_now : Keyed)
+      (got_now : Option (List ℕ)) (faults_now : ℕ) (result : Result T E) : Type 0 where
     pub ok : OnOk result (Gained got (left_text old keys) (left_text new keys_now) got_now)
-    pub keeps : OnOk result (kept_by (do_jobs trees q new.binders new.jobs) (kept_of trees keys_now) ≡ kept_by (do_jobs trees q old.binders old.jobs) (kept_of trees keys))
+    pub keeps : OnOk result (kept_by (do_jobs trees q new.binders new.jobs) (kept_of trees keys_now)
+        ≡ kept_by (do_jobs trees q old.binders old.jobs) (kept_of trees keys))
     pub ready : OnOk result (IsReady new keys_now)
     pub count : OnOk result (keys_now.theorems ≡ keys.theorems)
     pub less : OnOk result (work trees q new.binders new.jobs < work trees q old.binders old.jobs)
@@ -68,7 +71,8 @@ pub record IsOpen (trees : Trees) (keys : Keyed) (room : ℕ) : Type 0 where
   pub roomy : IsRoomy trees room
 
 -- The writer's text was written, and its keys given; where the call failed the sink got a front of the text, and its count of faults rose.
-pub record Adds {T E : Type 0} (trees : Trees) (write : Draft → Draft) (keys : Keyed) (got : Option (List ℕ)) (faults : ℕ) (keys_now : Keyed) (room_now : ℕ) (got_now : Option (List ℕ)) (faults_now : ℕ) (result : Result T E) : Type 0 where
+pub record Adds {T E : Type 0} (trees : Trees) (write : Draft → Draft) (keys : Keyed) (got : Option (List ℕ)) (faults : ℕ) (keys_now : Keyed) (room_now : ℕ)
+    (got_now : Option (List ℕ)) (faults_now : ℕ) (result : Result T E) : Type 0 where
   pub tells : Tells write (kept_of trees keys) got faults (kept_of trees keys_now) got_now faults_now result
   pub ready : OnOk result (IsOpen trees keys_now room_now)
   pub count : OnOk result (keys_now.theorems ≡ keys.theorems)

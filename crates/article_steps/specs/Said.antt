@@ -24,6 +24,7 @@ pub record IsAppending (write : Draft → Draft) : Type 0 where
   pub each : (items : List Item) (d : Draft) → write (behind items d) ≡ behind items (write d)
 
 -- the sink got what is said, and these things have keys then; where the call failed the sink got a front of it, and its count of faults rose
-pub record Tells {T E : Type 0} (write : Draft → Draft) (kept : List Kept) (old : Option (List ℕ)) (faults : ℕ) (kept_now : List Kept) (new : Option (List ℕ)) (faults_now : ℕ) (result : Result T E) : Type 0 where
+pub record Tells {T E : Type 0} (write : Draft → Draft) (kept : List Kept) (old : Option (List ℕ)) (faults : ℕ) (kept_now : List Kept) (new : Option (List ℕ))
+    (faults_now : ℕ) (result : Result T E) : Type 0 where
   pub writes : Writes old faults (said write kept) new faults_now result
   pub keeps : OnOk result (kept_now ≡ kept_by write kept)

@@ -49,4 +49,5 @@ module _ (source : Source) where
 
   abbrev pub told_text : Version → List ℕ → List ℕ
   told_text version exports =
-      text_of (write_each (write_step source.number exports) (selected (flag source.told.now) 0 (steps_of source.proof.now.made)) (version_draft version)).commands
+      text_of (write_each (write_step source.number exports) (selected (flag source.told.now) 0 (steps_of source.proof.now.made))
+      (version_draft version)).commands

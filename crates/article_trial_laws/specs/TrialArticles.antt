@@ -31,10 +31,12 @@ Says-ending = record { lines = refl; means = refl }
 
 -- the words of a block behind its name: of the first block, and of a later one
 abbrev first_words : List (List ℕ)
-first_words = words (codes "4 ref 5 ref 4 ref varTerm appTerm absTerm 6 def defineConst 3 ref appThm 6 ref 2 ref appTerm betaConv trans 7 def pop 1 ref constTerm 5 def pop")
+first_words = words (codes
+    "4 ref 5 ref 4 ref varTerm appTerm absTerm 6 def defineConst 3 ref appThm 6 ref 2 ref appTerm betaConv trans 7 def pop 1 ref constTerm 5 def pop")
 
 abbrev later_words : List (List ℕ)
-later_words = words (codes "4 ref 5 ref 4 ref varTerm appTerm absTerm 6 def defineConst 3 ref appThm 6 ref 2 ref appTerm betaConv trans 7 ref trans 7 def pop 1 ref constTerm 5 def pop")
+later_words = words (codes
+    "4 ref 5 ref 4 ref varTerm appTerm absTerm 6 def defineConst 3 ref appThm 6 ref 2 ref appTerm betaConv trans 7 ref trans 7 def pop 1 ref constTerm 5 def pop")
 
 Says-first : Says first_words (items_in first_words)
 Says-first = record { lines = refl; means = refl }
@@ -68,7 +70,8 @@ abbrev trial_items : ℕ → List Item
 trial_items n = beginning_items ++ (blocks_items n ++ ending_items)
 
 Says-trial : (n : ℕ) → n ≤ 100000 → Says (beginning ++ (blocks n ++ ending)) (trial_items n)
-Says-trial n h = Says-append beginning (blocks n ++ ending) beginning_items (blocks_items n ++ ending_items) Says-beginning (Says-append (blocks n) ending (blocks_items n) ending_items (Says-blocks n h) Says-ending)
+Says-trial n h = Says-append beginning (blocks n ++ ending) beginning_items (blocks_items n ++ ending_items) Says-beginning
+    (Says-append (blocks n) ending (blocks_items n) ending_items (Says-blocks n h) Says-ending)
 
 -- How long they are
 length-chained : (i : ℕ) → length (lines (chained i)) ≤ 12
@@ -83,7 +86,8 @@ length-block i h =
     let middle : List ℕ = codes "\"\n" ++ lines defining_words in
     let end : List ℕ = lines (chained i) ++ lines keeping_words in
     let whole : length (lines (block i)) ≡ length (codes "\"c" ++ (decimal i ++ (middle ++ end))) = ap length (block_parts i (decimal i) refl) in
-    let one : length (codes "\"c" ++ (decimal i ++ (middle ++ end))) ≡ 2 + length (decimal i ++ (middle ++ end)) = length-append (codes "\"c") (decimal i ++ (middle ++ end)) in
+    let one : length (codes "\"c" ++ (decimal i ++ (middle ++ end))) ≡ 2 + length (decimal i ++ (middle ++ end)) =
+    length-append (codes "\"c") (decimal i ++ (middle ++ end)) in
     let two : length (decimal i ++ (middle ++ end)) ≡ length (decimal i) + length (middle ++ end) = length-append (decimal i) (middle ++ end) in
     let three : length (middle ++ end) ≡ length middle + length end = length-append middle end in
     let four : length end ≡ length (lines (chained i)) + length (lines keeping_words) = length-append (lines (chained i)) (lines keeping_words) in
@@ -95,13 +99,16 @@ length-block i h =
 length-blocks : (n : ℕ) → n ≤ 100000 → length (lines (blocks n)) ≤ 400 * n
 length-blocks zero h = omega arith
 length-blocks (suc i) h =
-    let parts : length (lines (blocks (suc i))) ≡ length (lines (blocks i)) + length (lines (block (suc i))) = ap length (lines-append (blocks i) (block (suc i))) ∙ length-append (lines (blocks i)) (lines (block (suc i))) in
+    let parts : length (lines (blocks (suc i))) ≡ length (lines (blocks i)) + length (lines (block (suc i))) =
+    ap length (lines-append (blocks i) (block (suc i))) ∙ length-append (lines (blocks i)) (lines (block (suc i))) in
     omega (arith, parts, length-blocks i (omega (arith, h)), length-block (suc i) h)
 
 length-trial : (n : ℕ) → n ≤ 100000 → length (trial_text n) < max_article
 length-trial n h =
-    let whole : length (trial_text n) ≡ length (lines beginning) + length (lines (blocks n ++ ending)) = ap length (lines-append beginning (blocks n ++ ending)) ∙ length-append (lines beginning) (lines (blocks n ++ ending)) in
-    let rest : length (lines (blocks n ++ ending)) ≡ length (lines (blocks n)) + length (lines ending) = ap length (lines-append (blocks n) ending) ∙ length-append (lines (blocks n)) (lines ending) in
+    let whole : length (trial_text n) ≡ length (lines beginning) + length (lines (blocks n ++ ending)) =
+    ap length (lines-append beginning (blocks n ++ ending)) ∙ length-append (lines beginning) (lines (blocks n ++ ending)) in
+    let rest : length (lines (blocks n ++ ending)) ≡ length (lines (blocks n)) + length (lines ending) =
+    ap length (lines-append (blocks n) ending) ∙ length-append (lines (blocks n)) (lines ending) in
     let front : length (lines beginning) ≤ 1000 = omega arith in
     let back : length (lines ending) ≤ 1000 = omega arith in
     omega (arith, whole, rest, front, back, length-blocks n h, h)
@@ -116,14 +123,16 @@ record After (i : ℕ) : Type 0 where
   chained : Chained (suc i) dictionary made
 
 after : (i : ℕ) → suc i ≤ 100000 → After i
-after zero h = let b = first_leads d_5 made_5 ready_at_first in record { dictionary = b.dictionary; made = b.after; leads = b.leads; ready = b.ready; chained = b.chained }
+after zero h = let b = first_leads d_5 made_5 ready_at_first in record
+    { dictionary = b.dictionary; made = b.after; leads = b.leads; ready = b.ready; chained = b.chained }
 after (suc i) h =
     let a = after i (omega (arith, h)) in
     let b = next_leads i a.dictionary a.made h a.ready a.chained in
     record {
       dictionary = b.dictionary;
       made = b.after;
-      leads = obeyed-then (blocks_items (suc i)) (block_items (suc i)) (state d_5 made_5 []) (state a.dictionary a.made []) (Ok (state b.dictionary b.after [])) a.leads b.leads;
+      leads = obeyed-then (blocks_items (suc i)) (block_items (suc i)) (state d_5 made_5 []) (state a.dictionary a.made []) (Ok (state b.dictionary b.after []))
+          a.leads b.leads;
       ready = b.ready;
       chained = b.chained;
     }
@@ -137,8 +146,10 @@ accepts i h =
     let read = lines_of (beginning ++ (blocks (suc i) ++ ending)) (trial_items (suc i)) says (length-trial (suc i) h) in
     let obeys : obeyed initial (trial_items (suc i)) ≡ Ok last =
     obeyed-then beginning_items (blocks_items (suc i) ++ ending_items) initial (state d_5 made_5 []) (Ok last) begins
-    (obeyed-then (blocks_items (suc i)) ending_items (state d_5 made_5 []) (state a.dictionary a.made []) (Ok last) a.leads (ending_exports (suc i) a.dictionary a.made a.ready a.chained)) in
-    let ends : obey_article machine initial (numbered 1 (trial_items (suc i))) (ended read.0) ≡ Ok (record last { stack = []; dictionary = entries.empty; place = start (version_at last.place); pool = last.exports }) =
+    (obeyed-then (blocks_items (suc i)) ending_items (state d_5 made_5 []) (state a.dictionary a.made []) (Ok last) a.leads
+    (ending_exports (suc i) a.dictionary a.made a.ready a.chained)) in
+    let ends : obey_article machine initial (numbered 1 (trial_items (suc i))) (ended read.0)
+    ≡ Ok (record last { stack = []; dictionary = entries.empty; place = start (version_at last.place); pool = last.exports }) =
     ap (λ r. r >>= (λ s. end_article machine s (ended read.0))) (obey_all-numbered (trial_items (suc i)) 1 initial last obeys) in (
       accepted_state last,
       record {

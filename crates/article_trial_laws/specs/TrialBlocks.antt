@@ -84,7 +84,8 @@ module _ (n m : Name) (d : Dictionary) (made : List Made) where
       ∙ refers 4 (object.variable x) d made (object.term (Term.constant m truths) ∷ object.variable x ∷ own) (said (codes "varTerm appTerm absTerm 6 def")) four
 
   pub defines : is_taken_constant (symbols_of made) n ≡ false
-      → Concludes d made (object.term (wrapped m) ∷ object.name n ∷ []) define (object.constant n ∷ []) (symbols_of made ++ defined (Definition.constant n (wrapped m)) ∷ []) (is_wrapped n m)
+      → Concludes d made (object.term (wrapped m) ∷ object.name n ∷ []) define (object.constant n ∷ [])
+      (symbols_of made ++ defined (Definition.constant n (wrapped m)) ∷ []) (is_wrapped n m)
   defines new =
       defining d made _ _ (object.constant n ∷ []) (defined (Definition.constant n (wrapped m)) ∷ [])
       (step_by by_rule.DefineConst [] (Parameters.constant n (wrapped m)) (is_wrapped n m)) (rw new refl)
@@ -119,5 +120,7 @@ module _ (n : Name) (d : Dictionary) (made : List Made) where
       → obeyed (state d made (theorem i ∷ object.constant n ∷ [])) keep ≡ Ok (state (kept n d i) made [])
   keeps i one generic =
       let with_theorem : Dictionary = entries.insert d (pos 7) (theorem i) in
-      refers 1 (object.type truths) with_theorem made (object.constant n ∷ []) (said (codes "constTerm 5 def pop")) (Has-other d 7 (theorem i) 1 (object.type truths) refl one)
-      ∙ follows_word word.ConstTerm with_theorem made (object.type truths ∷ object.constant n ∷ []) _ (said (codes "5 def pop")) (uses n with_theorem made [] generic)
+      refers 1 (object.type truths) with_theorem made (object.constant n ∷ []) (said (codes "constTerm 5 def pop"))
+      (Has-other d 7 (theorem i) 1 (object.type truths) refl one)
+      ∙ follows_word word.ConstTerm with_theorem made (object.type truths ∷ object.constant n ∷ []) _ (said (codes "5 def pop"))
+      (uses n with_theorem made [] generic)

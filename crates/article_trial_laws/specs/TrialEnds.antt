@@ -129,7 +129,8 @@ pub ready_at_first : Ready 0 d_5 made_5
 ready_at_first = record {
   at_0 = stays_5 0 (object.type bool) has_3 refl refl;
   at_1 = stays_5 1 (object.type truths) types_3 refl refl;
-  at_2 = stays_5 2 (object.term p) (Has-other (entries.insert d_1 (pos 2) (object.term p)) 3 (theorem 0) 2 (object.term p) refl (Has-own d_1 2 (object.term p) refl)) refl refl;
+  at_2 = stays_5 2 (object.term p)
+      (Has-other (entries.insert d_1 (pos 2) (object.term p)) 3 (theorem 0) 2 (object.term p) refl (Has-own d_1 2 (object.term p) refl)) refl refl;
   reflexive = 0;
   at_3 = stays_5 3 (theorem 0) (Has-own (entries.insert d_1 (pos 2) (object.term p)) 3 (theorem 0) refl) refl refl;
   says = refl;
@@ -163,7 +164,8 @@ module _ (d : Dictionary) (made : List Made) where
   makes_type rest = rw (append-nil made) refl
 
   makes_equality : (rest : List Object)
-      → obey (state d made (object.type (equality_type bool) ∷ object.constant equality_name ∷ rest)) word.ConstTerm ≡ Ok (state d made (object.term equality ∷ rest))
+      → obey (state d made (object.type (equality_type bool) ∷ object.constant equality_name ∷ rest)) word.ConstTerm
+      ≡ Ok (state d made (object.term equality ∷ rest))
   makes_equality rest = rw (append-nil made) refl
 
   gives_equality : (k : ℕ) → Has d 7 (theorem k) → Has d 0 (object.type bool) → Has d 1 (object.type truths)
@@ -175,7 +177,8 @@ module _ (d : Dictionary) (made : List Made) where
       refers 7 (theorem k) d made [] (said (codes "nil \"=\" const \"->\" typeOp 0 ref 1 ref nil cons cons opType constTerm")) at_7
       ∙ refers 0 (object.type bool) d made typed (said (codes "1 ref nil cons cons opType constTerm")) at_0
       ∙ refers 1 (object.type truths) d made (object.type bool ∷ typed) (said (codes "nil cons cons opType constTerm")) at_1
-      ∙ follows_word word.OpType d made (object.list (more (object.type bool) (more (object.type truths) none)) ∷ typed) _ (said (codes "constTerm")) (makes_type named)
+      ∙ follows_word word.OpType d made (object.list (more (object.type bool) (more (object.type truths) none)) ∷ typed) _ (said (codes "constTerm"))
+      (makes_type named)
       ∙ follows_word word.ConstTerm d made (object.type (equality_type bool) ∷ named) _ [] (makes_equality rest)
 
   makes_f : (rest : List Object) → generic_type (symbols_of made) f ≡ None → list_any (is_input_constant f) (symbols_of made) ≡ true
@@ -184,12 +187,16 @@ module _ (d : Dictionary) (made : List Made) where
 
   gives_sides : (n : Name) (rest : List Object) → Has d 5 (object.term (Term.constant n truths)) → Has d 2 (object.term p) → Has d 1 (object.type truths)
       → generic_type (symbols_of made) f ≡ None → list_any (is_input_constant f) (symbols_of made) ≡ true
-      → obeyed (state d made (object.term equality ∷ rest)) to_sides ≡ Ok (state d made (object.term (Term.constant f truths) ∷ object.term (app equality (at_p n)) ∷ rest))
+      → obeyed (state d made (object.term equality ∷ rest)) to_sides
+      ≡ Ok (state d made (object.term (Term.constant f truths) ∷ object.term (app equality (at_p n)) ∷ rest))
   gives_sides n rest at_5 at_2 at_1 generic input =
-      refers 5 (object.term (Term.constant n truths)) d made (object.term equality ∷ rest) (said (codes "2 ref appTerm appTerm \"f\" const 1 ref constTerm")) at_5
-      ∙ refers 2 (object.term p) d made (object.term (Term.constant n truths) ∷ object.term equality ∷ rest) (said (codes "appTerm appTerm \"f\" const 1 ref constTerm")) at_2
+      refers 5 (object.term (Term.constant n truths)) d made (object.term equality ∷ rest) (said (codes "2 ref appTerm appTerm \"f\" const 1 ref constTerm"))
+      at_5
+      ∙ refers 2 (object.term p) d made (object.term (Term.constant n truths) ∷ object.term equality ∷ rest)
+      (said (codes "appTerm appTerm \"f\" const 1 ref constTerm")) at_2
       ∙ refers 1 (object.type truths) d made (object.constant f ∷ object.term (app equality (at_p n)) ∷ rest) (said (codes "constTerm")) at_1
-      ∙ follows_word word.ConstTerm d made (object.type truths ∷ object.constant f ∷ object.term (app equality (at_p n)) ∷ rest) _ [] (makes_f (object.term (app equality (at_p n)) ∷ rest) generic input)
+      ∙ follows_word word.ConstTerm d made (object.type truths ∷ object.constant f ∷ object.term (app equality (at_p n)) ∷ rest) _ []
+      (makes_f (object.term (app equality (at_p n)) ∷ rest) generic input)
 
   -- the state behind the export of a theorem
   abbrev pub exported : ℕ → Name → State
@@ -200,9 +207,11 @@ module _ (d : Dictionary) (made : List Made) where
   exports k n says = rw (sequent_at-is made k _ says, name_eq-refl n) refl
 
   gives_export : (k : ℕ) (n : Name) → Has d 2 (object.term p) → IsAt made k (are_alike n f)
-      → obeyed (state d made (object.term (Term.constant f truths) ∷ object.term (app equality (at_p n)) ∷ object.list none ∷ theorem k ∷ [])) to_export ≡ Ok (exported k n)
+      → obeyed (state d made (object.term (Term.constant f truths) ∷ object.term (app equality (at_p n)) ∷ object.list none ∷ theorem k ∷ [])) to_export
+      ≡ Ok (exported k n)
   gives_export k n at_2 says =
-      refers 2 (object.term p) d made (object.term (Term.constant f truths) ∷ object.term (app equality (at_p n)) ∷ object.list none ∷ theorem k ∷ []) (said (codes "appTerm appTerm thm")) at_2
+      refers 2 (object.term p) d made (object.term (Term.constant f truths) ∷ object.term (app equality (at_p n)) ∷ object.list none ∷ theorem k ∷ [])
+      (said (codes "appTerm appTerm thm")) at_2
       ∙ follows_word word.Thm d made (object.term (equation bool (at_p n) (at_p f)) ∷ object.list none ∷ theorem k ∷ []) _ [] (exports k n says)
 
 -- after n blocks the ending exports that the last constant is f at p
@@ -212,8 +221,10 @@ ending_exports n d made r c =
     let generic : generic_type (symbols_of made) f ≡ None = ap (λ symbols. generic_type symbols f) r.taken ∙ f-undefined n in
     let input : list_any (is_input_constant f) (symbols_of made) ≡ true = ap (list_any (is_input_constant f)) r.taken ∙ f-input n in
     let stated : State = state d made (object.term equality ∷ object.list none ∷ theorem c.number ∷ []) in
-    let sided : State = state d made (object.term (Term.constant f truths) ∷ object.term (app equality (at_p (constant_name n))) ∷ object.list none ∷ theorem c.number ∷ []) in
-    obeyed-then to_equality (to_sides ++ to_export) (state d made []) stated (Ok (exported d made c.number (constant_name n))) (gives_equality d made c.number c.at_7 r.at_0 r.at_1)
+    let sided : State = state d made
+    (object.term (Term.constant f truths) ∷ object.term (app equality (at_p (constant_name n))) ∷ object.list none ∷ theorem c.number ∷ []) in
+    obeyed-then to_equality (to_sides ++ to_export) (state d made []) stated (Ok (exported d made c.number (constant_name n)))
+    (gives_equality d made c.number c.at_7 r.at_0 r.at_1)
     (obeyed-then to_sides to_export stated sided (Ok (exported d made c.number (constant_name n)))
     (gives_sides d made (constant_name n) (object.list none ∷ theorem c.number ∷ []) r.at_5 r.at_2 r.at_1 generic input)
     (gives_export d made c.number (constant_name n) r.at_2 c.says))

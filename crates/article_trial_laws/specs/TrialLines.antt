@@ -66,7 +66,8 @@ lines-AreBytes [] e = tt
 lines-AreBytes (w ∷ ws) e =
     let tests = and_parts (is_line w) (list_all is_line ws) e in
     let end : AreBytes (newline ∷ []) = (omega arith, tt) in
-    All-append (λ b. b < 256) (w ++ newline ∷ []) (lines ws) (All-append (λ b. b < 256) w (newline ∷ []) (all-AreBytes w (and_parts (list_all can_stand w) (nat_le (length w) 100) tests.0).0) end)
+    All-append (λ b. b < 256) (w ++ newline ∷ []) (lines ws)
+    (All-append (λ b. b < 256) w (newline ∷ []) (all-AreBytes w (and_parts (list_all can_stand w) (nat_le (length w) 100) tests.0).0) end)
     (lines-AreBytes ws tests.1)
 
 -- the commands of lines, from line n on
@@ -89,7 +90,8 @@ reads (w ∷ ws) [] n o h small = absurd (let e = h.means in cc)
 reads (w ∷ ws) (i ∷ is) n o h small =
     let tests = and_parts (is_line w) (list_all is_line ws) h.lines in
     let own = and_parts (list_all can_stand w) (nat_le (length w) 100) tests.0 in
-    let long : length (lines (w ∷ ws)) ≡ length w + 1 + length (lines ws) = length-append (w ++ newline ∷ []) (lines ws) ∙ ap (λ k. k + length (lines ws)) (length-append w (newline ∷ [])) in
+    let long : length (lines (w ∷ ws)) ≡ length w + 1 + length (lines ws) =
+    length-append (w ++ newline ∷ []) (lines ws) ∙ ap (λ k. k + length (lines ws)) (length-append w (newline ∷ [])) in
     let short : length w ≤ 100 = grind (arith, nat_tests, own.1) in
     let e : content w ∷ map content ws ≡ command i ∷ map command is = h.means in
     let says : content w ≡ command i = cc in

@@ -40,7 +40,8 @@ digits-on_line (d ∷ ds) h =
 -- a text between quotes has no blanks at its ends
 trimmed-quoted : (text : List ℕ) → trimmed (34 ∷ (text ++ 34 ∷ [])) ≡ 34 ∷ (text ++ 34 ∷ [])
 trimmed-quoted text =
-    ap (λ l. reverse (drop_blanks l)) (reverse-append (34 ∷ text) (34 ∷ [])) ∙ ap reverse (sym (reverse-append (34 ∷ text) (34 ∷ []))) ∙ reverse-reverse (34 ∷ (text ++ 34 ∷ []))
+    ap (λ l. reverse (drop_blanks l)) (reverse-append (34 ∷ text) (34 ∷ [])) ∙ ap reverse (sym (reverse-append (34 ∷ text) (34 ∷ [])))
+    ∙ reverse-reverse (34 ∷ (text ++ 34 ∷ []))
 
 small : (i : ℕ) → i ≤ 100000 → i < 2 ^ 64
 small i h = omega (arith, h)
@@ -52,7 +53,8 @@ digits i h = (decimal_is_IsNumeral i (small i h)).0.1
 content-name_line : (i : ℕ) → i ≤ 100000 → content (name_line i) ≡ command (item.Name ((99 ∷ decimal i) ∷ []))
 content-name_line i h =
     ap said (trimmed-quoted (99 ∷ decimal i))
-    ∙ ap (λ o. unwrap_or (option_or None (option_or (option_map (λ name. command (item.Name name)) (option_map (with_byte 99) o)) (as_word (name_line i)))) (faulty kind.BadLine)) (name_from-digits (decimal i) (digits i h))
+    ∙ ap (λ o. unwrap_or (option_or None (option_or (option_map (λ name. command (item.Name name)) (option_map (with_byte 99) o)) (as_word (name_line i))))
+    (faulty kind.BadLine)) (name_from-digits (decimal i) (digits i h))
 
 name-is_line : (i : ℕ) → i ≤ 100000 → is_line (name_line i) ≡ true
 name-is_line i h =
@@ -81,7 +83,8 @@ length-name_line i h =
 pub names-apart : (i j : ℕ) → i < j → j ≤ 100000 → name_eq (constant_name j) (constant_name i) ≡ false
 names-apart i zero l h = absurd (omega arith)
 names-apart zero (suc j) l h = refl
-names-apart (suc i) (suc j) l h = go (name_eq (constant_name (suc j)) (constant_name (suc i))) (name_eq-Decides (constant_name (suc j)) (constant_name (suc i))).0
+names-apart (suc i) (suc j) l h = go (name_eq (constant_name (suc j)) (constant_name (suc i)))
+    (name_eq-Decides (constant_name (suc j)) (constant_name (suc i))).0
   where
     go : (b : Bool) → (b ≡ true → constant_name (suc j) ≡ constant_name (suc i)) → b ≡ false
     go false f = refl

@@ -60,8 +60,10 @@ proves i d made h r =
     let own : List Object = object.constant n ∷ [] in
     let new : is_taken_constant (symbols_of made) n ≡ false = ap (λ symbols. is_taken_constant symbols n) r.taken ∙ new_name i h in
     let one = defines n m e made new in
-    let two = applies n m e one.after own one.number r.reflexive (Has-other d 6 (object.term (wrapped m)) 3 (theorem r.reflexive) refl r.at_3) (one.keeps r.reflexive p_is_p r.says) one.says in
-    let three = contracts n m e two.after (theorem two.number ∷ own) (Has-own d 6 (object.term (wrapped m)) refl) (Has-other d 6 (object.term (wrapped m)) 2 (object.term p) refl r.at_2) in
+    let two = applies n m e one.after own one.number r.reflexive (Has-other d 6 (object.term (wrapped m)) 3 (theorem r.reflexive) refl r.at_3)
+    (one.keeps r.reflexive p_is_p r.says) one.says in
+    let three = contracts n m e two.after (theorem two.number ∷ own) (Has-own d 6 (object.term (wrapped m)) refl)
+    (Has-other d 6 (object.term (wrapped m)) 2 (object.term p) refl r.at_2) in
     let four = joins n m e three.after own two.number three.number (three.keeps two.number _ two.says) three.says in
     concludes_then one (concludes_then two (concludes_then three four))
 
@@ -118,7 +120,8 @@ ends i d made items h r c is =
       ready = ready_after i d made c.after c.number r taken (c.keeps r.reflexive p_is_p r.says);
       chained = record {
         number = c.number;
-        at_7 = Has-other (entries.insert e (pos 7) (theorem c.number)) 5 (object.term (Term.constant n truths)) 7 (theorem c.number) refl (Has-own e 7 (theorem c.number) refl);
+        at_7 = Has-other (entries.insert e (pos 7) (theorem c.number)) 5 (object.term (Term.constant n truths)) 7 (theorem c.number) refl
+            (Has-own e 7 (theorem c.number) refl);
         says = c.says;
       };
     }

@@ -104,7 +104,8 @@ IsAt-new made x =
     ∙ slice_get-last (sequents_of made) x.sequent
 
 -- commands lead to one theorem more on this stack, which says this; these symbols are then taken, and the earlier steps say what they said
-pub record Concludes (d : Dictionary) (made : List Made) (stack : List Object) (items : List Item) (rest : List Object) (symbols : List Symbol) (s : Sequent) : Type 0 where
+pub record Concludes (d : Dictionary) (made : List Made) (stack : List Object) (items : List Item) (rest : List Object) (symbols : List Symbol)
+    (s : Sequent) : Type 0 where
   pub after : List Made
   pub number : ℕ
   pub leads : obeyed (state d made stack) items ≡ Ok (state d after (theorem number ∷ rest))
@@ -126,7 +127,8 @@ inferred d made stack items rest x e = record {
 
 -- a step by which symbols are taken
 pub defining : (d : Dictionary) (made : List Made) (stack : List Object) (items : List Item) (rest : List Object) (symbols : List Symbol) (x : Step)
-    → obeyed (state d made stack) items ≡ Ok (with_theorem (state d (made ++ map Made.symbol symbols) rest) x) → Concludes d made stack items rest (symbols_of made ++ symbols) x.sequent
+    → obeyed (state d made stack) items ≡ Ok (with_theorem (state d (made ++ map Made.symbol symbols) rest) x)
+    → Concludes d made stack items rest (symbols_of made ++ symbols) x.sequent
 defining d made stack items rest symbols x e =
     let grown = made ++ map Made.symbol symbols in
     record {
@@ -139,12 +141,15 @@ defining d made stack items rest symbols x e =
     }
 
 -- one theorem more, and then another from there
-pub concludes_then : {d : Dictionary} {made : List Made} {stack : List Object} {is js : List Item} {rest last : List Object} {symbols : List Symbol} {s t : Sequent}
-    → (one : Concludes d made stack is rest symbols s) → Concludes d one.after (theorem one.number ∷ rest) js last (symbols_of one.after) t → Concludes d made stack (is ++ js) last symbols t
+pub concludes_then : {d : Dictionary} {made : List Made} {stack : List Object} {is js : List Item} {rest last : List Object} {symbols : List Symbol}
+    {s t : Sequent}
+    → (one : Concludes d made stack is rest symbols s) → Concludes d one.after (theorem one.number ∷ rest) js last (symbols_of one.after) t
+    → Concludes d made stack (is ++ js) last symbols t
 concludes_then {d = d} {made = made} {stack = stack} {is = is} {js = js} {rest = rest} {last = last} one two = record {
   after = two.after;
   number = two.number;
-  leads = obeyed-then is js (state d made stack) (state d one.after (theorem one.number ∷ rest)) (Ok (state d two.after (theorem two.number ∷ last))) one.leads two.leads;
+  leads = obeyed-then is js (state d made stack) (state d one.after (theorem one.number ∷ rest)) (Ok (state d two.after (theorem two.number ∷ last))) one.leads
+      two.leads;
   says = two.says;
   taken = two.taken ∙ one.taken;
   keeps = λ k u h. two.keeps k u (one.keeps k u h);

@@ -22,16 +22,19 @@ no_input : (i j : ℕ) → i < j → list_any (is_input_constant (constant_name 
 no_input i zero l = absurd (omega arith)
 no_input zero (suc j) l = refl
 no_input (suc i) (suc j) l =
-    list_any-append (is_input_constant (constant_name (suc j))) (symbols_after i) (definition_of i ∷ []) ∙ ap (λ b. b || false) (no_input i (suc j) (omega (arith, l)))
+    list_any-append (is_input_constant (constant_name (suc j))) (symbols_after i) (definition_of i ∷ [])
+    ∙ ap (λ b. b || false) (no_input i (suc j) (omega (arith, l)))
 
 pub new_name : (i : ℕ) → suc i ≤ 100000 → is_taken_constant (symbols_after i) (constant_name (suc i)) ≡ false
 new_name i h =
-    ap (λ b. b || list_any (is_input_constant (constant_name (suc i))) (symbols_after i)) (undefined i (suc i) (omega arith) h) ∙ no_input i (suc i) (omega arith)
+    ap (λ b. b || list_any (is_input_constant (constant_name (suc i))) (symbols_after i)) (undefined i (suc i) (omega arith) h)
+    ∙ no_input i (suc i) (omega arith)
 
 -- the constant of a block has its type from then on
 pub type_of_constant : (i : ℕ) → suc i ≤ 100000 → generic_type (symbols_after (suc i)) (constant_name (suc i)) ≡ Some truths
 type_of_constant i h =
-    generic_type-new (symbols_after i) (definition_of i ∷ []) (constant_name (suc i)) (undefined i (suc i) (omega arith) h) ∙ (rw (name_eq-refl (constant_name (suc i))) refl)
+    generic_type-new (symbols_after i) (definition_of i ∷ []) (constant_name (suc i)) (undefined i (suc i) (omega arith) h)
+    ∙ (rw (name_eq-refl (constant_name (suc i))) refl)
 
 -- f stays an input
 pub f-undefined : (i : ℕ) → generic_type (symbols_after i) f ≡ None

@@ -12,7 +12,8 @@ all-append : (test : Numbered → Bool) (xs ys : List Numbered) → list_all tes
 all-append test [] ys h = refl
 all-append test (x ∷ xs) ys h = go (test x) h (all-append test xs ys)
   where
-    go : (b : Bool) → (b && list_all test xs) ≡ true → (list_all test xs ≡ true → list_all test (xs ++ ys) ≡ list_all test ys) → (b && list_all test (xs ++ ys)) ≡ list_all test ys
+    go : (b : Bool) → (b && list_all test xs) ≡ true → (list_all test xs ≡ true → list_all test (xs ++ ys) ≡ list_all test ys) → (b && list_all test (xs ++ ys))
+        ≡ list_all test ys
     go true e again = again e
     go false e again = absurd (cc)
 
@@ -27,21 +28,25 @@ all-at test (y ∷ xs) (suc i) x at e = go (test y) (all-at test xs i x at e)
 
 module _ (test : Numbered → Bool) (told : List Bool) where
   -- one step more, that isn't told or passes
-  pub next-told : (xs : List Step) (i : ℕ) (d : Step) → i < length xs → list_all test (selected (flag told) 0 (take i xs)) ≡ true → (flag told i ≡ true → test (record { number = i; step = slice_index_or xs i d }) ≡ true)
+  pub next-told : (xs : List Step) (i : ℕ) (d : Step) → i < length xs → list_all test (selected (flag told) 0 (take i xs)) ≡ true
+      → (flag told i ≡ true → test (record { number = i; step = slice_index_or xs i d }) ≡ true)
       → list_all test (selected (flag told) 0 (take (i + 1) xs)) ≡ true
   next-told xs i d low h passes =
       let x = slice_index_or xs i d in
       let long = length-take i xs in
       let count : 0 + length (take i xs) ≡ i = omega (arith, long, low) in
-      ap (λ l. list_all test (selected (flag told) 0 l)) (take_more xs i d low) ∙ ap (list_all test) (selected-push (flag told) 0 (take i xs) x) ∙ all-append test (selected (flag told) 0 (take i xs)) (selected (flag told) (0 + length (take i xs)) (x ∷ [])) h
+      ap (λ l. list_all test (selected (flag told) 0 l)) (take_more xs i d low) ∙ ap (list_all test) (selected-push (flag told) 0 (take i xs) x)
+      ∙ all-append test (selected (flag told) 0 (take i xs)) (selected (flag told) (0 + length (take i xs)) (x ∷ [])) h
       ∙ ap (λ k. list_all test (selected (flag told) k (x ∷ []))) count ∙ go (flag told i) passes x
     where
-      go : (b : Bool) → (b ≡ true → test (record { number = i; step = slice_index_or xs i d }) ≡ true) → (x : Step) → list_all test (cond b (record { number = i; step = slice_index_or xs i d } ∷ []) []) ≡ true
+      go : (b : Bool) → (b ≡ true → test (record { number = i; step = slice_index_or xs i d }) ≡ true) → (x : Step)
+          → list_all test (cond b (record { number = i; step = slice_index_or xs i d } ∷ []) []) ≡ true
       go true f x = ap (λ b. b && true) (f refl)
       go false f x = refl
 
   -- a told step that doesn't pass
-  pub not-told : (xs : List Step) (i : ℕ) (d : Step) → i < length xs → flag told i ≡ true → test (record { number = i; step = slice_index_or xs i d }) ≡ false → list_all test (selected (flag told) 0 xs) ≡ false
+  pub not-told : (xs : List Step) (i : ℕ) (d : Step) → i < length xs → flag told i ≡ true → test (record { number = i; step = slice_index_or xs i d }) ≡ false
+      → list_all test (selected (flag told) 0 xs) ≡ false
   not-told xs i d low on fails =
       let r = place-of (flag told) xs i (slice_index_or xs i d) (there xs i low) on in
       all-at test (selected (flag told) 0 xs) r.0 (record { number = i; step = slice_index_or xs i d }) r.1 fails
@@ -51,7 +56,8 @@ module _ (test : Numbered → Bool) (told : List Bool) where
       there (y ∷ ys) zero l = refl
       there (y ∷ ys) (suc k) l = there ys k (omega (arith, l))
 
-  pub all-told : (xs : List Step) (i : ℕ) → i ≡ length xs → list_all test (selected (flag told) 0 (take i xs)) ≡ true → list_all test (selected (flag told) 0 xs) ≡ true
+  pub all-told : (xs : List Step) (i : ℕ) → i ≡ length xs → list_all test (selected (flag told) 0 (take i xs)) ≡ true
+      → list_all test (selected (flag told) 0 xs) ≡ true
   all-told xs i e h = ap (λ l. list_all test (selected (flag told) 0 l)) (sym (whole xs i e)) ∙ h
     where
       whole : (ys : List Step) (k : ℕ) → k ≡ length ys → take k ys ≡ ys

@@ -75,27 +75,31 @@ first (x ∷ xs) = x
 module _ (old begun got : Option (List ℕ)) (waiting text : List ℕ) where
   -- what is told since the beginning, without the number
   gains_since : Gains (told_since old old []) text (told_since begun got waiting) → Gains old text (told_with got waiting)
-  gains_since g = elim old as (λ o. Gains (numbered (told_length o) (told_with o [])) text (told_since begun got waiting) → Gains o text (told_with got waiting)) [
-    | None ↦ none got
-    | Some a ↦ some a got
-  ] g
+  gains_since g = elim old as (λ o. Gains (numbered (told_length o) (told_with o [])) text (told_since begun got waiting)
+      → Gains o text (told_with got waiting)) [
+        | None ↦ none got
+        | Some a ↦ some a got
+      ] g
     where
       none : (s : Option (List ℕ)) → Gains None text (told_since begun s waiting) → Gains None text (told_with s waiting)
       none None h = tt
       none (Some t) h = absurd h
 
-      some : (a : List ℕ) (s : Option (List ℕ)) → Gains (Some (length a ∷ (a ++ []))) text (told_since begun s waiting) → Gains (Some a) text (told_with s waiting)
+      some : (a : List ℕ) (s : Option (List ℕ)) → Gains (Some (length a ∷ (a ++ []))) text (told_since begun s waiting)
+          → Gains (Some a) text (told_with s waiting)
       some a None h = absurd h
       some a (Some t) h = ap others h ∙ ap (λ l. l ++ text) (append-nil a)
 
   -- the number is that of the beginning
   long_since : told_length begun ≤ told_length got → Gains (told_since old old []) text (told_since begun got waiting) → told_length old ≤ told_length got
-  long_since grown g = elim old as (λ o. Gains (numbered (told_length o) (told_with o [])) text (told_since begun got waiting) → told_length o ≤ told_length got) [
-    | None ↦ (λ _. omega arith)
-    | Some a ↦ some a got grown
-  ] g
+  long_since grown g = elim old as
+      (λ o. Gains (numbered (told_length o) (told_with o [])) text (told_since begun got waiting) → told_length o ≤ told_length got) [
+        | None ↦ (λ _. omega arith)
+        | Some a ↦ some a got grown
+      ] g
     where
-      some : (a : List ℕ) (s : Option (List ℕ)) → told_length begun ≤ told_length s → Gains (Some (length a ∷ (a ++ []))) text (told_since begun s waiting) → length a ≤ told_length s
+      some : (a : List ℕ) (s : Option (List ℕ)) → told_length begun ≤ told_length s → Gains (Some (length a ∷ (a ++ []))) text (told_since begun s waiting)
+          → length a ≤ told_length s
       some a None h k = absurd k
       some a (Some t) h k = let same : told_length begun ≡ length a = ap first k in omega (arith, same, h)
 
@@ -105,7 +109,8 @@ front_of a t waiting text e h =
     let far : length t ≡ length a + (length t - length a) = omega (arith, h) in
     sym (take-append_seam t waiting) ∙ ap (take (length t)) e ∙ ap (λ n. take n (a ++ text)) far ∙ take-append-add a text (length t - length a)
 
-front_since : (old got : Option (List ℕ)) (waiting text : List ℕ) → Gains old text (told_with got waiting) → told_length old ≤ told_length got → GainsFront old text got
+front_since : (old got : Option (List ℕ)) (waiting text : List ℕ) → Gains old text (told_with got waiting) → told_length old ≤ told_length got
+    → GainsFront old text got
 front_since None None waiting text g h = (0, omega arith, tt)
 front_since (Some a) (Some t) waiting text g h =
     let within : length t - length a ≤ length text =
@@ -122,8 +127,10 @@ front_front old new text k f =
 
 module _ {E : Type 0} (old begun got : Option (List ℕ)) (waiting text : List ℕ) (faults i j : ℕ) where
   -- all was taken, and then what was waiting was given
-  pub writes_given : (new : Option (List ℕ)) (left : List ℕ) (result : Result Unit E) → told_length begun ≤ told_length got → Writes {T = Unit} {E = E} (told_since old old []) faults text (told_since begun got waiting) i (Ok tt)
-      → OnOk result (new ≡ told_with got waiting) → told_with new left ≡ told_with got waiting → told_length got ≤ told_length new → HasCause i j result → Writes old faults text new j result
+  pub writes_given : (new : Option (List ℕ)) (left : List ℕ) (result : Result Unit E) → told_length begun ≤ told_length got
+      → Writes {T = Unit} {E = E} (told_since old old []) faults text (told_since begun got waiting) i (Ok tt)
+      → OnOk result (new ≡ told_with got waiting) → told_with new left ≡ told_with got waiting → told_length got ≤ told_length new → HasCause i j result
+      → Writes old faults text new j result
   writes_given new left (Ok v) grown w ok kept more cause = record {
     ok = subst (Gains old text) (sym ok) (gains_since old begun got waiting text w.ok);
     err = tt;
@@ -137,18 +144,23 @@ module _ {E : Type 0} (old begun got : Option (List ℕ)) (waiting text : List �
   }
 
   -- a call failed before
-  pub writes_failed : (x : E) → told_length begun ≤ told_length got → Writes {T = Unit} {E = E} (told_since old old []) faults text (told_since begun got waiting) i (Err x) → Writes {T = Unit} {E = E} old faults text got i (Err x)
+  pub writes_failed : (x : E) → told_length begun ≤ told_length got
+      → Writes {T = Unit} {E = E} (told_since old old []) faults text (told_since begun got waiting) i (Err x)
+      → Writes {T = Unit} {E = E} old faults text got i (Err x)
   writes_failed x grown w = record {
     ok = tt;
     err = let f = w.err in
         front_front old got text f.0
-        (front_since old got waiting (take f.0 text) (gains_since old begun got waiting (take f.0 text) f.2) (long_since old begun got waiting (take f.0 text) grown f.2));
+        (front_since old got waiting (take f.0 text) (gains_since old begun got waiting (take f.0 text) f.2)
+        (long_since old begun got waiting (take f.0 text) grown f.2));
     cause = w.cause;
   }
 
 -- what is written from the beginning
-pub writes_begun : {T E : Type 0} (a b s : Option (List ℕ)) (waiting : List ℕ) (i faults : ℕ) (text : List ℕ) (new : Option (List ℕ)) (now : ℕ) (r : Result T E) → b ≡ a → s ≡ a → waiting ≡ [] → faults ≡ i
+pub writes_begun : {T E : Type 0} (a b s : Option (List ℕ)) (waiting : List ℕ) (i faults : ℕ) (text : List ℕ) (new : Option (List ℕ)) (now : ℕ) (r : Result T E)
+    → b ≡ a → s ≡ a → waiting ≡ [] → faults ≡ i
     → Writes (told_since b s waiting) faults text new now r → Writes (told_since a a []) i text new now r
 writes_begun a b s waiting i faults text new now r e f g h w =
     subst (λ x. Writes (told_since x a []) i text new now r) e
-    (subst (λ x. Writes (told_since b x []) i text new now r) f (subst (λ x. Writes (told_since b s x) i text new now r) g (subst (λ x. Writes (told_since b s waiting) x text new now r) h w)))
+    (subst (λ x. Writes (told_since b x []) i text new now r) f
+    (subst (λ x. Writes (told_since b s x) i text new now r) g (subst (λ x. Writes (told_since b s waiting) x text new now r) h w)))

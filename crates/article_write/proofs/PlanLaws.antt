@@ -47,14 +47,19 @@ module _ (version : Version) (run : Accepted) (r : Told) (h : IsReach run.made r
   reach-fits = ap (list_all (fits_step version run.exports)) (h.reached run refl refl)
 
   pub reach-tally : count_each (count_step r.number run.exports) steps (record { kept = []; length = items_length (version_items version) }) ≡ tally version run
-  reach-tally = ap₂ (λ (q : ℕ) (ys : List Numbered). count_each (count_step q run.exports) ys (record { kept = []; length = items_length (version_items version) })) (h.number run refl refl) (h.reached run refl refl)
+  reach-tally = ap₂ (λ (q : ℕ) (ys : List Numbered). count_each (count_step q run.exports) ys
+      (record { kept = []; length = items_length (version_items version) })) (h.number run refl refl) (h.reached run refl refl)
 
   pub reach-draft : write_each (write_step r.number run.exports) steps (version_draft version) ≡ draft version run
-  reach-draft = ap₂ (λ (q : ℕ) (ys : List Numbered). write_each (write_step q run.exports) ys (version_draft version)) (h.number run refl refl) (h.reached run refl refl)
+  reach-draft = ap₂ (λ (q : ℕ) (ys : List Numbered). write_each (write_step q run.exports) ys (version_draft version)) (h.number run refl refl)
+      (h.reached run refl refl)
 
 -- what is written of a plan is the article of its run
 pub plan-text : (p : Kept) (version : Version) (run : Accepted) (plan : Planned) → IsPlanOf p version run plan
-    → text_of (write_each (write_step plan.reach.number run.exports) (selected (flag plan.reach.told) 0 (steps_of p.made)) (version_draft plan.version)).commands ≡ article version run
+    → text_of (write_each (write_step plan.reach.number run.exports) (selected (flag plan.reach.told) 0 (steps_of p.made))
+    (version_draft plan.version)).commands ≡ article version run
 plan-text p version run plan h =
-    ap₂ (λ v made. text_of (write_each (write_step plan.reach.number run.exports) (selected (flag plan.reach.told) 0 (steps_of made)) (version_draft v)).commands) h.of_version (sym h.made)
+    ap₂ (λ v made. text_of
+    (write_each (write_step plan.reach.number run.exports) (selected (flag plan.reach.told) 0 (steps_of made)) (version_draft v)).commands) h.of_version
+    (sym h.made)
     ∙ ap (λ (d : Draft). text_of d.commands) (reach-draft version run plan.reach h.reach)

@@ -57,16 +57,21 @@ module _ (version : Version) (run : Accepted) where
       let flag = is_told run in
       let number = binder_number (reached_steps run) in
       let items = ap (λ (d : Draft). d.commands) draft-is in
-      let r = retelling number version flag (is_export run) tale (subst (AllByRecursion IsWritable) items writable) (subst (λ l. length (text_of l) ≤ max_article) items small) in
+      let r = retelling number version flag (is_export run) tale (subst (AllByRecursion IsWritable) items writable)
+      (subst (λ l. length (text_of l) ≤ max_article) items small) in
       let a = r.0 in
       let chosen = selected flag 0 (steps_of run.made) in
-      let exported : AllByRecursion (λ j. flag j ≡ true) run.exports = All-weaker _ (λ j. flag j ≡ true) (λ j k. k.1) run.exports (retold number version flag (is_export run) tale).exports in
+      let exported : AllByRecursion (λ j. flag j ≡ true) run.exports =
+      All-weaker _ (λ j. flag j ≡ true) (λ j k. k.1) run.exports (retold number version flag (is_export run) tale).exports in
       let all_closed = closed number version flag (is_export run) tale in
-      let back = again flag (map Need.step run.exports) (map Need.step (map (count flag) run.exports)) (other-premise flag run.exports) 0 (steps_of run.made) (λ k low. refl) all_closed in
+      let back = again flag (map Need.step run.exports) (map Need.step (map (count flag) run.exports)) (other-premise flag run.exports) 0 (steps_of run.made)
+      (λ k low. refl) all_closed in
       let reached_again : reached_steps a ≡ map (new_numbered flag) chosen =
       ap₂ (λ e l. (reached_from (map Need.step e) 0 l).steps) r.1.exports r.1.steps ∙ back.steps in
-      let same_number : binder_number (reached_steps a) ≡ number = ap binder_number reached_again ∙ same-binder_number flag chosen ∙ ap binder_number (sym reached-is) in
-      let drafts = same-steps flag number run.exports exported chosen all_closed (version_draft version) (version_draft version) (record { commands = refl; kept = refl; flagged = tt {0} }) in
+      let same_number : binder_number (reached_steps a) ≡ number =
+      ap binder_number reached_again ∙ same-binder_number flag chosen ∙ ap binder_number (sym reached-is) in
+      let drafts = same-steps flag number run.exports exported chosen all_closed (version_draft version) (version_draft version)
+      (record { commands = refl; kept = refl; flagged = tt {0} }) in
       let again_items : article_items version a ≡ article_items version run =
       ap₂ (λ k e. (write_each (write_step k e) (reached_steps a) (version_draft version)).commands) same_number r.1.exports
       ∙ ap (λ l. (write_each (write_step number (map (count flag) run.exports)) l (version_draft version)).commands) reached_again

@@ -25,12 +25,14 @@ at_second s [] t e = let f : in_body Five s ≡ t = cc in record { after = recor
 at_second s (item.Number z ∷ is) t e = record { after = t; obeys = e; ends = refl }
 at_second s (item.Name n ∷ is) t e = record { after = t; obeys = e; ends = refl }
 at_second s (item.Word w ∷ is) t e = elim (second_word-cases (record s { place = version }) w) [
-  | inl f ↦ absurd (let g : obeyed (in_body Five s) (item.Word word.Version ∷ is) ≡ Ok t = ap (λ u. obeyed (in_body Five s) (item.Word u ∷ is)) (sym f) ∙ e in cc)
+  | inl f ↦ absurd (let g : obeyed (in_body Five s) (item.Word word.Version ∷ is) ≡ Ok t =
+      ap (λ u. obeyed (in_body Five s) (item.Word u ∷ is)) (sym f) ∙ e in cc)
   | inr f ↦ record { after = t; obeys = ap (λ r. r >>= (λ next. obeyed next is)) f ∙ e; ends = refl }
 ]
 
 -- what the body of an article of version 5 obeys is obeyed from its start
-pub start-EndsLike : (v : Version) (s : State) (items : List Item) (t : State) → obeyed (in_body Five s) items ≡ Ok t → EndsLike (record s { place = start v }) items t
+pub start-EndsLike : (v : Version) (s : State) (items : List Item) (t : State) → obeyed (in_body Five s) items ≡ Ok t
+    → EndsLike (record s { place = start v }) items t
 start-EndsLike v s [] t e = let f : in_body Five s ≡ t = cc in record { after = record s { place = start v }; obeys = refl; ends = ap finish f }
 start-EndsLike v s (item.Name n ∷ is) t e = record { after = t; obeys = e; ends = refl }
 start-EndsLike v s (item.Word w ∷ is) t e = record { after = t; obeys = e; ends = refl }

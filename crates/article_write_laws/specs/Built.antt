@@ -39,8 +39,10 @@ digits-are (b ∷ bytes) h e = e
 binder_name-is : (q d : ℕ) → d < 2 ^ 64 → is_binder_name q (binder_name q d) ≡ true
 binder_name-is q d h =
     let value = decimal-HasValue d (omega (arith, h)) in
-    let front = (starts_is {E = nat_eq} Decides-eqb (binder_front q ++ decimal d) (binder_front q) (starts_with nat_eq (binder_front q ++ decimal d) (binder_front q)) refl).1 (decimal d) refl in
-    let rest : are_digits (drop (length (binder_front q)) (binder_front q ++ decimal d)) ≡ true = ap are_digits (drop-append_seam (binder_front q) (decimal d)) ∙ digits-are (decimal d) value.some value.digits in
+    let front = (starts_is {E = nat_eq} Decides-eqb (binder_front q ++ decimal d) (binder_front q)
+    (starts_with nat_eq (binder_front q ++ decimal d) (binder_front q)) refl).1 (decimal d) refl in
+    let rest : are_digits (drop (length (binder_front q)) (binder_front q ++ decimal d)) ≡ true =
+    ap are_digits (drop-append_seam (binder_front q) (decimal d)) ∙ digits-are (decimal d) value.some value.digits in
     rw (front, rest) refl
 
 apart : (q d : ℕ) (n : Name) → d < 2 ^ 64 → is_binder_name q n ≡ false → name_eq n (binder_name q d) ≡ false

@@ -76,16 +76,19 @@ module _ (c : Scene) (apart : AreApart c.symbols) (q : ℕ) where
   operands [] h f k = tt
   operands (t ∷ ts) h f k = (operand t h.0 f.0 k.0, operands ts h.1 f.1 k.1)
 
-  type-pairs : (ps : List (Name × HolType)) → AllByRecursion (λ (p : Name × HolType). TypeWithin p.1) ps → AllByRecursion (λ (p : Name × HolType). TypeTaken c.symbols p.1) ps → AllByRecursion (λ (p : Name × HolType). IsTypeOperand c p.1) ps
+  type-pairs : (ps : List (Name × HolType)) → AllByRecursion (λ (p : Name × HolType). TypeWithin p.1) ps
+      → AllByRecursion (λ (p : Name × HolType). TypeTaken c.symbols p.1) ps → AllByRecursion (λ (p : Name × HolType). IsTypeOperand c p.1) ps
   type-pairs [] h k = tt
   type-pairs (p ∷ ps) h k = (type-operand p.1 h.0 k.0, type-pairs ps h.1 k.1)
 
-  term-pairs : (ps : List (Variable × Term)) → AllByRecursion IsBuiltPair ps → AllByRecursion (λ (p : Variable × Term). HasNoBinderName q p.1) ps → AllByRecursion (λ (p : Variable × Term). TypeTaken c.symbols p.0.1 × TermTaken c.symbols p.1) ps
+  term-pairs : (ps : List (Variable × Term)) → AllByRecursion IsBuiltPair ps → AllByRecursion (λ (p : Variable × Term). HasNoBinderName q p.1) ps
+      → AllByRecursion (λ (p : Variable × Term). TypeTaken c.symbols p.0.1 × TermTaken c.symbols p.1) ps
       → AllByRecursion (IsTermPair c q) ps
   term-pairs [] h f k = tt
   term-pairs (p ∷ ps) h f k = (record { variable = type-operand p.0.1 h.0.variable k.0.0; term = operand p.1 h.0.term f.0 k.0.1 }, term-pairs ps h.1 f.1 k.1)
 
-  constant-pairs : (ps : List (Name × Variable)) → AllByRecursion (λ (p : Name × Variable). TypeWithin p.1.1) ps → AllByRecursion (λ (p : Name × Variable). TypeTaken c.symbols p.1.1) ps → AllByRecursion (λ (p : Name × Variable). IsTypeOperand c p.1.1) ps
+  constant-pairs : (ps : List (Name × Variable)) → AllByRecursion (λ (p : Name × Variable). TypeWithin p.1.1) ps
+      → AllByRecursion (λ (p : Name × Variable). TypeTaken c.symbols p.1.1) ps → AllByRecursion (λ (p : Name × Variable). IsTypeOperand c p.1.1) ps
   constant-pairs [] h k = tt
   constant-pairs (p ∷ ps) h k = (type-operand p.1.1 h.0 k.0, constant-pairs ps h.1 k.1)
 
@@ -94,7 +97,8 @@ module _ (c : Scene) (apart : AreApart c.symbols) (q : ℕ) where
   given-operands (Parameters.term t) h f k = operand t h f k
   given-operands (Parameters.variable v) h f k = type-operand v.1 h k
   given-operands (Parameters.substitution types terms) h f k = (type-pairs types h.0 k.0, term-pairs terms h.1 f k.1)
-  given-operands (Parameters.sequent s) h f k = record { hypotheses = operands s.hypotheses h.hypotheses f.hypotheses k.hypotheses; conclusion = operand s.conclusion h.conclusion f.conclusion k.conclusion }
+  given-operands (Parameters.sequent s) h f k = record
+      { hypotheses = operands s.hypotheses h.hypotheses f.hypotheses k.hypotheses; conclusion = operand s.conclusion h.conclusion f.conclusion k.conclusion }
   given-operands (Parameters.constant n t) h f k = operand t h f k
   given-operands (Parameters.constants pairs) h f k = constant-pairs pairs h k
   given-operands (Parameters.type_operator names version) h f k = tt

@@ -34,7 +34,11 @@ pub counts-conses : {owed : ℕ} (k : ℕ) (m : Tally) (d : Draft) → Counts ow
 counts-conses {owed = owed} zero m d c = record { kept = c.kept; length = omega (arith, c.length) }
 counts-conses {owed = owed} (suc k) m d c =
     let r = counts-conses k (add (word_length word.Cons) m) (say_word word.Cons d) (counts-said (item.Word word.Cons) c) in
-    record { kept = r.kept; length = (let e : suc k * word_length word.Cons ≡ word_length word.Cons + k * word_length word.Cons = omega arith in omega (arith, r.length, e)) }
+    record {
+      kept = r.kept;
+      length =
+          (let e : suc k * word_length word.Cons ≡ word_length word.Cons + k * word_length word.Cons = omega arith in omega (arith, r.length, e));
+    }
 
 -- a list behind its elements
 pub counts-listed : {owed : ℕ} {m : Tally} {d : Draft} (k : ℕ) → Counts owed m d → Counts owed (add (list_length k) m) (conses k (say_word word.Nil d))
@@ -56,7 +60,8 @@ counts-referred k c = counts-two (item.Number (pos k)) (item.Word word.Ref) c
 pub counts-once : {owed : ℕ} {m : Tally} {d : Draft} (x : Kept) (build : Draft → Draft) (built : Tally → Tally) → Counts owed m d
     → Counts owed (built m) (build d) → Counts owed (count_once x built m) (once x build d)
 counts-once {owed = owed} {m = m} {d = d} x build built c b =
-    subst (λ o. Counts owed (count_once_at o x built m) (once x build d)) (ap (λ (l : List Kept). key_in l x) (let e : d.kept ≡ m.kept = cc in e)) (go (key_of x d))
+    subst (λ o. Counts owed (count_once_at o x built m) (once x build d)) (ap (λ (l : List Kept). key_in l x) (let e : d.kept ≡ m.kept = cc in e))
+    (go (key_of x d))
   where
     go : (o : Option ℕ) → Counts owed (count_once_at o x built m) (once_at o x build d)
     go None = counts-noted x b
@@ -84,13 +89,16 @@ counted-name n owed m d c = counts-said (item.Name n) c
 -- Types
 mutual
   pub counted-type : (t : HolType) → Counted (count_type t) (write_type t)
-  counted-type (HolType.variable n) owed m d c = counts-once (Kept.type (HolType.variable n)) (λ e. say_word word.VarType (say_name n e)) (add (name_length n + word_length word.VarType)) c (counts-two (item.Name n) (item.Word word.VarType) c)
+  counted-type (HolType.variable n) owed m d c = counts-once (Kept.type (HolType.variable n)) (λ e. say_word word.VarType (say_name n e))
+      (add (name_length n + word_length word.VarType)) c (counts-two (item.Name n) (item.Word word.VarType) c)
   counted-type (HolType.operator n ts) owed m d c =
       let first = counts-two (item.Name n) (item.Word word.TypeOp) c in
       let parts = counted-types ts owed (add (name_length n + word_length word.TypeOp) m) (say_word word.TypeOp (say_name n d)) first in
       let listed = counts-said (item.Word word.OpType) (counts-listed (count ts) parts) in
-      counts-once (Kept.type (HolType.operator n ts)) (λ e. say_word word.OpType (conses (count ts) (say_word word.Nil (write_types ts (say_word word.TypeOp (say_name n e))))))
-      (λ e. add (word_length word.Nil + count ts * word_length word.Cons + word_length word.OpType) (count_types ts (add (name_length n + word_length word.TypeOp) e))) c
+      counts-once (Kept.type (HolType.operator n ts))
+      (λ e. say_word word.OpType (conses (count ts) (say_word word.Nil (write_types ts (say_word word.TypeOp (say_name n e))))))
+      (λ e. add (word_length word.Nil + count ts * word_length word.Cons + word_length word.OpType)
+      (count_types ts (add (name_length n + word_length word.TypeOp) e))) c
       (record { kept = listed.kept; length = omega (arith, listed.length) })
 
   pub counted-types : (ts : HolTypes) → Counted (count_types ts) (write_types ts)
@@ -98,4 +106,5 @@ mutual
   counted-types (HolTypes.more t ts) owed m d c = counted-types ts owed (count_type t m) (write_type t d) (counted-type t owed m d c)
 
 pub counted-variable : (v : Variable) → Counted (count_variable v.0 v.1) (write_variable v)
-counted-variable v owed m d c = counts-said (item.Word word.Var) (counted-type v.1 owed (add (name_length v.0) m) (say_name v.0 d) (counts-said (item.Name v.0) c))
+counted-variable v owed m d c = counts-said (item.Word word.Var)
+    (counted-type v.1 owed (add (name_length v.0) m) (say_name v.0 d) (counts-said (item.Name v.0) c))

@@ -90,7 +90,8 @@ proof-closed : (m : List Made) → IsProof m → AllByRecursion (λ (x : Step). 
 proof-closed m made.Each.empty = tt
 proof-closed m (made.Each.more {made = before} x p h is) =
     subst (λ (w : List Made). AllByRecursion (λ (y : Step). GivenClosed y.parameters) (steps_of w)) (sym is)
-    (subst (AllByRecursion (λ (y : Step). GivenClosed y.parameters)) (sym (steps_of-append before (x ∷ []))) (All-append (λ (y : Step). GivenClosed y.parameters) (steps_of before) (steps_of (x ∷ [])) (proof-closed before p) (last x h)))
+    (subst (AllByRecursion (λ (y : Step). GivenClosed y.parameters)) (sym (steps_of-append before (x ∷ [])))
+    (All-append (λ (y : Step). GivenClosed y.parameters) (steps_of before) (steps_of (x ∷ [])) (proof-closed before p) (last x h)))
   where
     last : (x : Made) → made.IsMade before x → AllByRecursion (λ (y : Step). GivenClosed y.parameters) (steps_of (x ∷ []))
     last (Made.symbol y) h = tt
@@ -100,7 +101,8 @@ proof-closed m (made.Each.more {made = before} x p h is) =
 -- Steps
 counted-premise : (i : ℕ) → Counted (count_premise i) (write_premise i)
 counted-premise i owed m d c =
-    subst (λ k. Counts owed (add k m) (write_premise i d)) (ap (λ (l : List Kept). key_length l (Kept.theorem i)) (sym c.kept)) (counts-referred (unwrap_or (key_of (Kept.theorem i) d) 0) c)
+    subst (λ k. Counts owed (add k m) (write_premise i d)) (ap (λ (l : List Kept). key_length l (Kept.theorem i)) (sym c.kept))
+    (counts-referred (unwrap_or (key_of (Kept.theorem i) d) 0) c)
 
 counted-theorem : (i : ℕ) → Counted (count_theorem i) (keep_theorem i)
 counted-theorem i owed m d c = counts-said (item.Word word.Pop) (counts-noted (Kept.theorem i) c)
@@ -128,10 +130,13 @@ counted-made kind i = counted-theorem i
 
 module _ (q : ℕ) where
   counted-pairs : (ps : List (Variable × Term)) → AllByRecursion (λ (p : Variable × Term). IsClosedTerm p.1) ps
-      → Counted (count_list (λ p. count_pair (count_variable p.0.0 p.0.1) (count_under q 0 p.1)) ps) (write_list (λ p. write_pair (write_variable p.0) (write_term q p.1)) ps)
+      → Counted (count_list (λ p. count_pair (count_variable p.0.0 p.0.1) (count_under q 0 p.1)) ps)
+      (write_list (λ p. write_pair (write_variable p.0) (write_term q p.1)) ps)
   counted-pairs ps h =
-      counted-list (λ (p : Variable × Term). IsClosedTerm p.1) (λ p. count_pair (count_variable p.0.0 p.0.1) (count_under q 0 p.1)) (λ p. write_pair (write_variable p.0) (write_term q p.1))
-      (λ p k. counted-pair (count_variable p.0.0 p.0.1) (count_under q 0 p.1) (write_variable p.0) (write_term q p.1) (counted-variable p.0) (counted-term q p.1 k)) ps h
+      counted-list (λ (p : Variable × Term). IsClosedTerm p.1) (λ p. count_pair (count_variable p.0.0 p.0.1) (count_under q 0 p.1))
+      (λ p. write_pair (write_variable p.0) (write_term q p.1))
+      (λ p k. counted-pair (count_variable p.0.0 p.0.1) (count_under q 0 p.1) (write_variable p.0) (write_term q p.1) (counted-variable p.0)
+      (counted-term q p.1 k)) ps h
 
   counted-sequent : (s : Sequent) → AllByRecursion IsClosedTerm s.hypotheses → IsClosedTerm s.conclusion → Counted (count_sequent q s) (write_sequent q s)
   counted-sequent s h k owed m d c =
@@ -143,10 +148,13 @@ module _ (q : ℕ) where
   counted-given (Parameters.term t) h = counted-term q t h
   counted-given (Parameters.variable v) h = counted-variable v
   counted-given (Parameters.substitution types terms) h =
-      counted-pair (count_list (λ p. count_pair (add (name_length p.0)) (count_type p.1)) types) (count_list (λ p. count_pair (count_variable p.0.0 p.0.1) (count_under q 0 p.1)) terms)
+      counted-pair (count_list (λ p. count_pair (add (name_length p.0)) (count_type p.1)) types)
+      (count_list (λ p. count_pair (count_variable p.0.0 p.0.1) (count_under q 0 p.1)) terms)
       (write_list (λ p. write_pair (say_name p.0) (write_type p.1)) types) (write_list (λ p. write_pair (write_variable p.0) (write_term q p.1)) terms)
-      (counted-list (λ (p : Name × HolType). Unit {0}) (λ p. count_pair (add (name_length p.0)) (count_type p.1)) (λ p. write_pair (say_name p.0) (write_type p.1))
-      (λ p k. counted-pair (add (name_length p.0)) (count_type p.1) (say_name p.0) (write_type p.1) (counted-name p.0) (counted-type p.1)) types (all types)) (counted-pairs terms h)
+      (counted-list (λ (p : Name × HolType). Unit {0}) (λ p. count_pair (add (name_length p.0)) (count_type p.1))
+      (λ p. write_pair (say_name p.0) (write_type p.1))
+      (λ p k. counted-pair (add (name_length p.0)) (count_type p.1) (say_name p.0) (write_type p.1) (counted-name p.0) (counted-type p.1)) types (all types))
+      (counted-pairs terms h)
     where
       all : (ps : List (Name × HolType)) → AllByRecursion (λ (p : Name × HolType). Unit {0}) ps
       all [] = tt
@@ -154,8 +162,10 @@ module _ (q : ℕ) where
   counted-given (Parameters.sequent s) h = counted-sequent s h.0 h.1
   counted-given (Parameters.constant n t) h = λ owed m d c. counted-term q t h owed (add (name_length n) m) (say_name n d) (counted-name n owed m d c)
   counted-given (Parameters.constants pairs) h =
-      counted-list (λ (p : Name × Variable). Unit {0}) (λ p. count_pair (add (name_length p.0)) (count_variable p.1.0 p.1.1)) (λ p. write_pair (say_name p.0) (write_variable p.1))
-      (λ p k. counted-pair (add (name_length p.0)) (count_variable p.1.0 p.1.1) (say_name p.0) (write_variable p.1) (counted-name p.0) (counted-variable p.1)) pairs (all pairs)
+      counted-list (λ (p : Name × Variable). Unit {0}) (λ p. count_pair (add (name_length p.0)) (count_variable p.1.0 p.1.1))
+      (λ p. write_pair (say_name p.0) (write_variable p.1))
+      (λ p k. counted-pair (add (name_length p.0)) (count_variable p.1.0 p.1.1) (say_name p.0) (write_variable p.1) (counted-name p.0) (counted-variable p.1))
+      pairs (all pairs)
     where
       all : (ps : List (Name × Variable)) → AllByRecursion (λ (p : Name × Variable). Unit {0}) ps
       all [] = tt
@@ -163,7 +173,8 @@ module _ (q : ℕ) where
   counted-given (Parameters.type_operator names version) h = λ owed m d c.
       let said = counts-said (item.Name names.representation) (counts-said (item.Name names.abstraction) (counts-said (item.Name names.operator) c)) in
       counted-list (λ (n : Name). Unit {0}) (λ n. add (name_length n)) say_name (λ n k. counted-name n) names.variables (all names.variables) owed
-      (add (name_length names.operator + name_length names.abstraction + name_length names.representation) m) (say_name names.representation (say_name names.abstraction (say_name names.operator d)))
+      (add (name_length names.operator + name_length names.abstraction + name_length names.representation) m)
+      (say_name names.representation (say_name names.abstraction (say_name names.operator d)))
       (record { kept = said.kept; length = (let l = said.length in omega (arith, l)) })
     where
       all : (ns : List Name) → AllByRecursion (λ (n : Name). Unit {0}) ns
@@ -172,16 +183,21 @@ module _ (q : ℕ) where
 
   counted-export : (x : Step) → GivenClosed x.parameters → Counted (count_export q x) (write_export q x)
   counted-export x h owed m d c =
-      counts-said (item.Word word.Thm) (counted-given x.parameters h owed (count_each count_premise x.premises m) (write_each write_premise x.premises d) (counted-premises x.premises owed m d c))
+      counts-said (item.Word word.Thm)
+      (counted-given x.parameters h owed (count_each count_premise x.premises m) (write_each write_premise x.premises d)
+      (counted-premises x.premises owed m d c))
 
   counted-assumption : (i : ℕ) (x : Step) → GivenClosed x.parameters → Counted (count_assumption q i x) (write_assumption q i x)
   counted-assumption i x h owed m d c =
-      counted-theorem i owed (add (word_length word.Axiom) (count_given q x.parameters m)) (say_word word.Axiom (write_given q x.parameters d)) (counts-said (item.Word word.Axiom) (counted-given x.parameters h owed m d c))
+      counted-theorem i owed (add (word_length word.Axiom) (count_given q x.parameters m)) (say_word word.Axiom (write_given q x.parameters d))
+      (counts-said (item.Word word.Axiom) (counted-given x.parameters h owed m d c))
 
   counted-inferred : (i : ℕ) (x : Step) → GivenClosed x.parameters → Counted (count_inferred q i x) (write_inferred q i x)
   counted-inferred i x h owed m d c =
-      counted-made x.kind i owed (add (word_length (word_of x.kind)) (count_each count_premise x.premises (count_given q x.parameters m))) (say_word (word_of x.kind) (write_each write_premise x.premises (write_given q x.parameters d)))
-      (counts-said (item.Word (word_of x.kind)) (counted-premises x.premises owed (count_given q x.parameters m) (write_given q x.parameters d) (counted-given x.parameters h owed m d c)))
+      counted-made x.kind i owed (add (word_length (word_of x.kind)) (count_each count_premise x.premises (count_given q x.parameters m)))
+      (say_word (word_of x.kind) (write_each write_premise x.premises (write_given q x.parameters d)))
+      (counts-said (item.Word (word_of x.kind))
+      (counted-premises x.premises owed (count_given q x.parameters m) (write_given q x.parameters d) (counted-given x.parameters h owed m d c)))
 
   counted-by : (kind : StepKind) (b : Bool) (i : ℕ) (x : Step) → GivenClosed x.parameters → Counted (count_by q kind b i x) (write_by q kind b i x)
   counted-by Axiom b i x h = counted-assumption i x h
@@ -190,18 +206,24 @@ module _ (q : ℕ) where
   counted-by SecondLaw b i x h = λ owed m d c. c
   counted-by kind b i x h = counted-inferred i x h
 
-  counted-steps : (exports : List ℕ) (ys : List Numbered) → AllByRecursion (λ (y : Numbered). GivenClosed y.step.parameters) ys → Counted (count_each (count_step q exports) ys) (write_each (write_step q exports) ys)
+  counted-steps : (exports : List ℕ) (ys : List Numbered) → AllByRecursion (λ (y : Numbered). GivenClosed y.step.parameters) ys
+      → Counted (count_each (count_step q exports) ys) (write_each (write_step q exports) ys)
   counted-steps exports ys h =
-      counted-each (λ (y : Numbered). GivenClosed y.step.parameters) (count_step q exports) (write_step q exports) (λ y k. counted-by y.step.kind (list_any (λ i. y.number == i) exports) y.number y.step k) ys h
+      counted-each (λ (y : Numbered). GivenClosed y.step.parameters) (count_step q exports) (write_step q exports)
+      (λ y k. counted-by y.step.kind (list_any (λ i. y.number == i) exports) y.number y.step k) ys h
 
 -- The whole article
 pub counted-article : (version : Version) (run : Accepted) → IsProof run.made → (tally version run).length ≡ length (article version run)
 counted-article version run proof =
     let q = binder_number (reached_steps run) in
-    let all = subst (AllByRecursion (λ (y : Numbered). GivenClosed y.step.parameters)) (sym (reached-selected (map Need.step run.exports) 0 (steps_of run.made)))
-    (selected-all (λ x. GivenClosed x.parameters) (is_flagged (map Need.step run.exports) 0 (steps_of run.made)) 0 (steps_of run.made) (proof-closed run.made proof)) in
-    let first : Counts 0 (record { kept = []; length = items_length (version_items version) }) (version_draft version) = record { kept = refl; length = omega arith } in
-    let r = counted-steps q run.exports (reached_steps run) all 0 (record { kept = []; length = items_length (version_items version) }) (version_draft version) first in
+    let all = subst (AllByRecursion (λ (y : Numbered). GivenClosed y.step.parameters))
+    (sym (reached-selected (map Need.step run.exports) 0 (steps_of run.made)))
+    (selected-all (λ x. GivenClosed x.parameters) (is_flagged (map Need.step run.exports) 0 (steps_of run.made)) 0 (steps_of run.made)
+    (proof-closed run.made proof)) in
+    let first : Counts 0 (record { kept = []; length = items_length (version_items version) }) (version_draft version) =
+    record { kept = refl; length = omega arith } in
+    let r = counted-steps q run.exports (reached_steps run) all 0 (record { kept = []; length = items_length (version_items version) }) (version_draft version)
+    first in
     let text = text-length (article_items version run) in
     omega (arith, r.length, text)
 

@@ -30,13 +30,15 @@ notes-none : {P : Kept → Type 0} (xs : List Kept) → Notes P xs xs
 notes-none xs = record { new = []; is = sym (nil-append xs); all = tt {0} }
 
 notes-then : {P : Kept → Type 0} {xs ys zs : List Kept} → Notes P xs ys → Notes P ys zs → Notes P xs zs
-notes-then {P = P} {xs = xs} a b = record { new = a.new ++ b.new; is = b.is ∙ ap (λ l. l ++ b.new) a.is ∙ append_assoc xs a.new b.new; all = All-append P a.new b.new a.all b.all }
+notes-then {P = P} {xs = xs} a b = record
+    { new = a.new ++ b.new; is = b.is ∙ ap (λ l. l ++ b.new) a.is ∙ append_assoc xs a.new b.new; all = All-append P a.new b.new a.all b.all }
 
 notes-weaker : {P Q : Kept → Type 0} {xs ys : List Kept} → ((x : Kept) → P x → Q x) → Notes P xs ys → Notes Q xs ys
 notes-weaker {P = P} {Q = Q} f a = record { new = a.new; is = a.is; all = All-weaker P Q f a.new a.all }
 
 notes-one : {P : Kept → Type 0} {xs ys : List Kept} (x : Kept) → P x → Notes P xs ys → Notes P xs (ys ++ x ∷ [])
-notes-one {P = P} {xs = xs} x p a = record { new = a.new ++ x ∷ []; is = ap (λ l. l ++ x ∷ []) a.is ∙ append_assoc xs a.new (x ∷ []); all = All-append P a.new (x ∷ []) a.all (p, tt {0}) }
+notes-one {P = P} {xs = xs} x p a = record
+    { new = a.new ++ x ∷ []; is = ap (λ l. l ++ x ∷ []) a.is ∙ append_assoc xs a.new (x ∷ []); all = All-append P a.new (x ∷ []) a.all (p, tt {0}) }
 
 notes-once : {P : Kept → Type 0} (m : Tally) (x : Kept) (build : Tally → Tally) → P x → Notes P m.kept (build m).kept
     → Notes P m.kept (count_once x build m).kept
@@ -54,20 +56,25 @@ still-none {P = P} {xs = xs} x none a f = ap (λ l. key_in l x) a.is ∙ no-key 
 -- Types
 mutual
   pub type-notes : (t : HolType) (m : Tally) → Notes (IsTypeUpTo (type_size t)) m.kept (count_type t m).kept
-  type-notes (HolType.variable n) m = notes-once m (Kept.type (HolType.variable n)) (add (name_length n + word_length word.VarType)) (omega arith) (notes-none m.kept)
+  type-notes (HolType.variable n) m = notes-once m (Kept.type (HolType.variable n)) (add (name_length n + word_length word.VarType)) (omega arith)
+      (notes-none m.kept)
   type-notes (HolType.operator n ts) m =
-      notes-once m (Kept.type (HolType.operator n ts)) (λ e. add (word_length word.Nil + count ts * word_length word.Cons + word_length word.OpType) (count_types ts (add (name_length n + word_length word.TypeOp) e))) (omega arith)
+      notes-once m (Kept.type (HolType.operator n ts))
+      (λ e. add (word_length word.Nil + count ts * word_length word.Cons + word_length word.OpType)
+      (count_types ts (add (name_length n + word_length word.TypeOp) e))) (omega arith)
       (notes-weaker (up (types_size ts) (type_size (HolType.operator n ts)) (omega arith)) (types-note ts (add (name_length n + word_length word.TypeOp) m)))
 
   pub types-note : (ts : HolTypes) (m : Tally) → Notes (IsTypeUpTo (types_size ts)) m.kept (count_types ts m).kept
   types-note HolTypes.none m = notes-none m.kept
   types-note (HolTypes.more t ts) m =
-      notes-then (notes-weaker (up (type_size t) (types_size (HolTypes.more t ts)) (omega arith)) (type-notes t m)) (notes-weaker (up (types_size ts) (types_size (HolTypes.more t ts)) (omega arith)) (types-note ts (count_type t m)))
+      notes-then (notes-weaker (up (type_size t) (types_size (HolTypes.more t ts)) (omega arith)) (type-notes t m))
+      (notes-weaker (up (types_size ts) (types_size (HolTypes.more t ts)) (omega arith)) (types-note ts (count_type t m)))
 
 -- so an operator has no key when its arguments are counted
 pub type-unnoted : (n : Name) (ts : HolTypes) (m : Tally) (k : ℕ) → key_in m.kept (Kept.type (HolType.operator n ts)) ≡ None
     → key_in (count_types ts (add k m)).kept (Kept.type (HolType.operator n ts)) ≡ None
-type-unnoted n ts m k none = still-none (Kept.type (HolType.operator n ts)) none (types-note ts (add k m)) (smaller-type (HolType.operator n ts) (types_size ts) (omega arith))
+type-unnoted n ts m k none = still-none (Kept.type (HolType.operator n ts)) none (types-note ts (add k m))
+    (smaller-type (HolType.operator n ts) (types_size ts) (omega arith))
 
 -- Terms
 variable-notes : (k : ℕ) (n : Name) (a : HolType) (m : Tally) → Notes (IsTermUpTo k) m.kept (count_variable n a m).kept
@@ -83,32 +90,39 @@ notes-shared {P = P} m t build p a = go (loose t == 0)
 
 app-from : (f x : Term) {xs ys zs : List Kept} → Notes (IsTermUpTo (term_size f)) xs ys → Notes (IsTermUpTo (term_size x)) ys zs
     → Notes (IsTermUpTo (term_size f + term_size x)) xs zs
-app-from f x a b = notes-then (notes-weaker (term-up (term_size f) (term_size f + term_size x) (omega arith)) a) (notes-weaker (term-up (term_size x) (term_size f + term_size x) (omega arith)) b)
+app-from f x a b = notes-then (notes-weaker (term-up (term_size f) (term_size f + term_size x) (omega arith)) a)
+    (notes-weaker (term-up (term_size x) (term_size f + term_size x) (omega arith)) b)
 
 module _ (q : ℕ) where
   pub term-notes : (t : Term) (d : ℕ) (m : Tally) → Notes (IsTermUpTo (term_size t)) m.kept (count_under q d t m).kept
-  term-notes (Term.free n a) d m = notes-shared m (Term.free n a) (λ e. add (word_length word.VarTerm) (count_variable n a e)) (omega arith) (variable-notes (term_size (Term.free n a)) n a m)
+  term-notes (Term.free n a) d m = notes-shared m (Term.free n a) (λ e. add (word_length word.VarTerm) (count_variable n a e)) (omega arith)
+      (variable-notes (term_size (Term.free n a)) n a m)
   term-notes (Term.bound k) d m = notes-none m.kept
   term-notes (Term.constant n a) d m =
       notes-shared m (Term.constant n a) (λ e. add (word_length word.ConstTerm) (count_type a (add (name_length n + word_length word.Const) e))) (omega arith)
       (notes-weaker (any-type (type_size a) (term_size (Term.constant n a))) (type-notes a (add (name_length n + word_length word.Const) m)))
   term-notes (Term.app f x) d m =
       notes-shared m (Term.app f x) (λ e. add (word_length word.AppTerm) (count_under q d x (count_under q d f e))) (omega arith)
-      (notes-weaker (term-up (term_size f + term_size x) (term_size (Term.app f x)) (omega arith)) (app-from f x (term-notes f d m) (term-notes x d (count_under q d f m))))
+      (notes-weaker (term-up (term_size f + term_size x) (term_size (Term.app f x)) (omega arith))
+      (app-from f x (term-notes f d m) (term-notes x d (count_under q d f m))))
   term-notes (Term.lam a b) d m =
       notes-shared m (Term.lam a b) (λ e. count_binder a b (count_under q (suc d) b (count_variable (binder_name q d) a e))) (omega arith)
-      (notes-weaker (term-up (term_size b) (term_size (Term.lam a b)) (omega arith)) (notes-then (variable-notes (term_size b) (binder_name q d) a m) (term-notes b (suc d) (count_variable (binder_name q d) a m))))
+      (notes-weaker (term-up (term_size b) (term_size (Term.lam a b)) (omega arith))
+      (notes-then (variable-notes (term_size b) (binder_name q d) a m) (term-notes b (suc d) (count_variable (binder_name q d) a m))))
 
   -- so neither has a key when its parts are counted
   pub app-unnoted : (d : ℕ) (f x : Term) (m : Tally) → key_in m.kept (Kept.term (Term.app f x)) ≡ None
       → key_in (count_under q d x (count_under q d f m)).kept (Kept.term (Term.app f x)) ≡ None
   app-unnoted d f x m none =
-      still-none (Kept.term (Term.app f x)) none (app-from f x (term-notes f d m) (term-notes x d (count_under q d f m))) (smaller-term (Term.app f x) (term_size f + term_size x) (omega arith))
+      still-none (Kept.term (Term.app f x)) none (app-from f x (term-notes f d m) (term-notes x d (count_under q d f m)))
+      (smaller-term (Term.app f x) (term_size f + term_size x) (omega arith))
 
   pub lam-unnoted : (d : ℕ) (a : HolType) (b : Term) (m : Tally) → key_in m.kept (Kept.term (Term.lam a b)) ≡ None
       → key_in (count_under q (suc d) b (count_variable (binder_name q d) a m)).kept (Kept.term (Term.lam a b)) ≡ None
   lam-unnoted d a b m none =
-      still-none (Kept.term (Term.lam a b)) none (notes-then (variable-notes (term_size b) (binder_name q d) a m) (term-notes b (suc d) (count_variable (binder_name q d) a m))) (smaller-term (Term.lam a b) (term_size b) (omega arith))
+      still-none (Kept.term (Term.lam a b)) none
+      (notes-then (variable-notes (term_size b) (binder_name q d) a m) (term-notes b (suc d) (count_variable (binder_name q d) a m)))
+      (smaller-term (Term.lam a b) (term_size b) (omega arith))
 
 -- What has keys for all that it tells by keys
 has-key : (kept : List Kept) (x : Kept) → HasKey kept x → (k : ℕ) × (key_in kept x ≡ Some k)
@@ -137,10 +151,12 @@ kept-stay kept new (Term.free n a) h = has-more kept new (Kept.term (Term.free n
 kept-stay kept new (Term.bound k) h = tt
 kept-stay kept new (Term.constant n a) h = has-more kept new (Kept.term (Term.constant n a)) h
 kept-stay kept new (Term.app f x) h =
-    closed-more (loose (Term.app f x) == 0) (HasKey kept (Kept.term (Term.app f x))) (AreKept kept f × AreKept kept x) (HasKey (kept ++ new) (Kept.term (Term.app f x))) (AreKept (kept ++ new) f × AreKept (kept ++ new) x)
+    closed-more (loose (Term.app f x) == 0) (HasKey kept (Kept.term (Term.app f x))) (AreKept kept f × AreKept kept x)
+    (HasKey (kept ++ new) (Kept.term (Term.app f x))) (AreKept (kept ++ new) f × AreKept (kept ++ new) x)
     (has-more kept new (Kept.term (Term.app f x))) (λ p. (kept-stay kept new f p.0, kept-stay kept new x p.1)) h
 kept-stay kept new (Term.lam a b) h =
-    closed-more (loose (Term.lam a b) == 0) (HasKey kept (Kept.term (Term.lam a b))) (HasKey kept (Kept.type a) × AreKept kept b) (HasKey (kept ++ new) (Kept.term (Term.lam a b))) (HasKey (kept ++ new) (Kept.type a) × AreKept (kept ++ new) b)
+    closed-more (loose (Term.lam a b) == 0) (HasKey kept (Kept.term (Term.lam a b))) (HasKey kept (Kept.type a) × AreKept kept b)
+    (HasKey (kept ++ new) (Kept.term (Term.lam a b))) (HasKey (kept ++ new) (Kept.type a) × AreKept (kept ++ new) b)
     (has-more kept new (Kept.term (Term.lam a b))) (λ p. (has-more kept new (Kept.type a) p.0, kept-stay kept new b p.1)) h
 
 module _ (q : ℕ) where
@@ -152,8 +168,10 @@ module _ (q : ℕ) where
   place-stays kept new (Term.app f x) d h = go (loose (Term.app f x) == 0) h (place-stays kept new f d) (place-stays kept new x d)
     where
       go : (b : Bool) → closed_has b (HasKey kept (Kept.term (Term.app f x))) (AreKept kept f × AreKept kept x)
-          → (AreKept kept f → place_length q (kept ++ new) d f ≡ place_length q kept d f) → (AreKept kept x → place_length q (kept ++ new) d x ≡ place_length q kept d x)
-          → closed_or b (key_length (kept ++ new) (Kept.term (Term.app f x))) (place_length q (kept ++ new) d f + place_length q (kept ++ new) d x + word_length word.AppTerm)
+          → (AreKept kept f → place_length q (kept ++ new) d f ≡ place_length q kept d f)
+          → (AreKept kept x → place_length q (kept ++ new) d x ≡ place_length q kept d x)
+          → closed_or b (key_length (kept ++ new) (Kept.term (Term.app f x)))
+          (place_length q (kept ++ new) d f + place_length q (kept ++ new) d x + word_length word.AppTerm)
           ≡ closed_or b (key_length kept (Kept.term (Term.app f x))) (place_length q kept d f + place_length q kept d x + word_length word.AppTerm)
       go true h one two = length-more kept new (Kept.term (Term.app f x)) h
       go false h one two = ap₂ (λ m n. m + n + word_length word.AppTerm) (one h.0) (two h.1)
@@ -162,11 +180,14 @@ module _ (q : ℕ) where
       go : (z : Bool) → closed_has z (HasKey kept (Kept.term (Term.lam a b))) (HasKey kept (Kept.type a) × AreKept kept b)
           → (AreKept kept b → place_length q (kept ++ new) (suc d) b ≡ place_length q kept (suc d) b)
           → closed_or z (key_length (kept ++ new) (Kept.term (Term.lam a b)))
-          (name_length (binder_name q d) + key_length (kept ++ new) (Kept.type a) + word_length word.Var + place_length q (kept ++ new) (suc d) b + binder_length (kept ++ new) a b)
-          ≡ closed_or z (key_length kept (Kept.term (Term.lam a b))) (name_length (binder_name q d) + key_length kept (Kept.type a) + word_length word.Var + place_length q kept (suc d) b + binder_length kept a b)
+          (name_length (binder_name q d) + key_length (kept ++ new) (Kept.type a) + word_length word.Var + place_length q (kept ++ new) (suc d) b +
+          binder_length (kept ++ new) a b)
+          ≡ closed_or z (key_length kept (Kept.term (Term.lam a b)))
+          (name_length (binder_name q d) + key_length kept (Kept.type a) + word_length word.Var + place_length q kept (suc d) b + binder_length kept a b)
       go true h one = length-more kept new (Kept.term (Term.lam a b)) h
       go false h one =
-          ap₂ (λ m n. name_length (binder_name q d) + m + word_length word.Var + n + (uses 0 b * m + word_length word.AbsTerm)) (length-more kept new (Kept.type a) h.0) (one h.1)
+          ap₂ (λ m n. name_length (binder_name q d) + m + word_length word.Var + n + (uses 0 b * m + word_length word.AbsTerm))
+          (length-more kept new (Kept.type a) h.0) (one h.1)
 
   -- A place adds its length, and keeps nothing
   counted-once : (x : Kept) (build : Tally → Tally) (m : Tally) → HasKey m.kept x → count_once x build m ≡ add (key_length m.kept x) m
@@ -188,7 +209,8 @@ module _ (q : ℕ) where
   pub count-placed : (t : Term) (d : ℕ) (m : Tally) → AreKept m.kept t → count_under q d t m ≡ add (place_length q m.kept d t) m
   count-placed (Term.free n a) d m h = free-closed (Term.free n a) (λ e. add (word_length word.VarTerm) (count_variable n a e)) m refl h
   count-placed (Term.bound k) d m h = refl
-  count-placed (Term.constant n a) d m h = free-closed (Term.constant n a) (λ e. add (word_length word.ConstTerm) (count_type a (add (name_length n + word_length word.Const) e))) m refl h
+  count-placed (Term.constant n a) d m h = free-closed (Term.constant n a)
+      (λ e. add (word_length word.ConstTerm) (count_type a (add (name_length n + word_length word.Const) e))) m refl h
   count-placed (Term.app f x) d m h = go (loose (Term.app f x) == 0) h (count-placed f d m) (λ n. count-placed x d (add n m))
     where
       build : Tally → Tally
@@ -198,17 +220,21 @@ module _ (q : ℕ) where
           → (AreKept m.kept f → count_under q d f m ≡ add (place_length q m.kept d f) m)
           → ((n : ℕ) → AreKept m.kept x → count_under q d x (add n m) ≡ add (place_length q m.kept d x) (add n m))
           → count_closed b (Term.app f x) (λ e. add (word_length word.AppTerm) (count_under q d x (count_under q d f e))) m
-          ≡ add (closed_or b (key_length m.kept (Kept.term (Term.app f x))) (place_length q m.kept d f + place_length q m.kept d x + word_length word.AppTerm)) m
+          ≡ add (closed_or b (key_length m.kept (Kept.term (Term.app f x))) (place_length q m.kept d f + place_length q m.kept d x + word_length word.AppTerm))
+          m
       go true h one two = counted-once (Kept.term (Term.app f x)) _ m h
       go false h one two =
           ap (λ e. add (word_length word.AppTerm) (count_under q d x e)) (one h.0) ∙ ap (add (word_length word.AppTerm)) (two (place_length q m.kept d f) h.1)
-          ∙ ap (λ n. record m { length = n }) (let z : m.length + place_length q m.kept d f + place_length q m.kept d x + word_length word.AppTerm ≡ m.length + (place_length q m.kept d f + place_length q m.kept d x + word_length word.AppTerm) = omega arith in z)
+          ∙ ap (λ n. record m { length = n }) (let z : m.length + place_length q m.kept d f + place_length q m.kept d x + word_length word.AppTerm
+          ≡ m.length + (place_length q m.kept d f + place_length q m.kept d x + word_length word.AppTerm) = omega arith in z)
   count-placed (Term.lam a b) d m h = go (loose (Term.lam a b) == 0) h (λ n. count-placed b (suc d) (add n m))
     where
       go : (z : Bool) → closed_has z (HasKey m.kept (Kept.term (Term.lam a b))) (HasKey m.kept (Kept.type a) × AreKept m.kept b)
           → ((n : ℕ) → AreKept m.kept b → count_under q (suc d) b (add n m) ≡ add (place_length q m.kept (suc d) b) (add n m))
           → count_closed z (Term.lam a b) (λ e. count_binder a b (count_under q (suc d) b (count_variable (binder_name q d) a e))) m
-          ≡ add (closed_or z (key_length m.kept (Kept.term (Term.lam a b))) (name_length (binder_name q d) + key_length m.kept (Kept.type a) + word_length word.Var + place_length q m.kept (suc d) b + binder_length m.kept a b)) m
+          ≡ add (closed_or z (key_length m.kept (Kept.term (Term.lam a b)))
+          (name_length (binder_name q d) + key_length m.kept (Kept.type a) + word_length word.Var + place_length q m.kept (suc d) b + binder_length m.kept a
+          b)) m
       go true h one = counted-once (Kept.term (Term.lam a b)) _ m h
       go false h one =
           let i = name_length (binder_name q d) in
@@ -217,7 +243,8 @@ module _ (q : ℕ) where
           let p = place_length q m.kept (suc d) b in
           let w = binder_length m.kept a b in
           let variable : count_variable (binder_name q d) a m ≡ add (i + k + v) m =
-          ap (add v) (type-placed a (add i m) h.0) ∙ ap (λ n. record m { length = n }) (let z : m.length + i + k + v ≡ m.length + (i + k + v) = omega arith in z) in
+          ap (add v) (type-placed a (add i m) h.0)
+          ∙ ap (λ n. record m { length = n }) (let z : m.length + i + k + v ≡ m.length + (i + k + v) = omega arith in z) in
           ap (λ e. count_binder a b (count_under q (suc d) b e)) variable ∙ ap (count_binder a b) (one (i + k + v) h.1)
           ∙ ap (λ n. record m { length = n }) (let z : m.length + (i + k + v) + p + w ≡ m.length + (i + k + v + p + w) = omega arith in z)
 
@@ -244,14 +271,18 @@ own-term t = (term_eq-Decides t t).1 refl
 
 module _ (q : ℕ) where
   pub kept-counted : (t : Term) (d : ℕ) (m : Tally) → AreKept (count_under q d t m).kept t
-  kept-counted (Term.free n a) d m = once-has (Kept.term (Term.free n a)) (λ e. add (word_length word.VarTerm) (count_variable n a e)) m (own-term (Term.free n a))
+  kept-counted (Term.free n a) d m = once-has (Kept.term (Term.free n a)) (λ e. add (word_length word.VarTerm) (count_variable n a e)) m
+      (own-term (Term.free n a))
   kept-counted (Term.bound k) d m = tt
   kept-counted (Term.constant n a) d m =
-      once-has (Kept.term (Term.constant n a)) (λ e. add (word_length word.ConstTerm) (count_type a (add (name_length n + word_length word.Const) e))) m (own-term (Term.constant n a))
+      once-has (Kept.term (Term.constant n a)) (λ e. add (word_length word.ConstTerm) (count_type a (add (name_length n + word_length word.Const) e))) m
+      (own-term (Term.constant n a))
   kept-counted (Term.app f x) d m = go (loose (Term.app f x) == 0) (kept-counted f d m) (kept-counted x d (count_under q d f m))
     where
       go : (b : Bool) → AreKept (count_under q d f m).kept f → AreKept (count_under q d x (count_under q d f m)).kept x
-          → closed_has b (HasKey (count_closed b (Term.app f x) (λ e. add (word_length word.AppTerm) (count_under q d x (count_under q d f e))) m).kept (Kept.term (Term.app f x)))
+          → closed_has b
+          (HasKey (count_closed b (Term.app f x) (λ e. add (word_length word.AppTerm) (count_under q d x (count_under q d f e))) m).kept
+          (Kept.term (Term.app f x)))
           (AreKept (count_closed b (Term.app f x) (λ e. add (word_length word.AppTerm) (count_under q d x (count_under q d f e))) m).kept f
           × AreKept (count_closed b (Term.app f x) (λ e. add (word_length word.AppTerm) (count_under q d x (count_under q d f e))) m).kept x)
       go true one two = once-has (Kept.term (Term.app f x)) _ m (own-term (Term.app f x))
@@ -259,8 +290,11 @@ module _ (q : ℕ) where
   kept-counted (Term.lam a b) d m = go (loose (Term.lam a b) == 0) (kept-counted b (suc d) (count_variable (binder_name q d) a m))
     where
       go : (z : Bool) → AreKept (count_under q (suc d) b (count_variable (binder_name q d) a m)).kept b
-          → closed_has z (HasKey (count_closed z (Term.lam a b) (λ e. count_binder a b (count_under q (suc d) b (count_variable (binder_name q d) a e))) m).kept (Kept.term (Term.lam a b)))
+          → closed_has z
+          (HasKey (count_closed z (Term.lam a b) (λ e. count_binder a b (count_under q (suc d) b (count_variable (binder_name q d) a e))) m).kept
+          (Kept.term (Term.lam a b)))
           (HasKey (count_closed z (Term.lam a b) (λ e. count_binder a b (count_under q (suc d) b (count_variable (binder_name q d) a e))) m).kept (Kept.type a)
           × AreKept (count_closed z (Term.lam a b) (λ e. count_binder a b (count_under q (suc d) b (count_variable (binder_name q d) a e))) m).kept b)
       go true one = once-has (Kept.term (Term.lam a b)) _ m (own-term (Term.lam a b))
-      go false one = (has-after (Kept.type a) (term-notes q b (suc d) (count_variable (binder_name q d) a m)) (type-has a (add (name_length (binder_name q d)) m)), one)
+      go false one =
+          (has-after (Kept.type a) (term-notes q b (suc d) (count_variable (binder_name q d) a m)) (type-has a (add (name_length (binder_name q d)) m)), one)

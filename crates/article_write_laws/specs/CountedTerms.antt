@@ -30,9 +30,13 @@ outer ws (Term.lam a b) = outer (0 ∷ ws) b
 
 at-seam : (xs ys : List ℕ) (v k : ℕ) → slice_index_or (xs ++ v ∷ ys) k 0 ≡ cond (k == length xs) 1 0 * v + slice_index_or (xs ++ 0 ∷ ys) k 0
 at-seam [] ys v zero = omega arith
-at-seam [] ys v (suc k) = let e : (suc k == 0) ≡ false = grind (arith, nat_tests) in (let z : slice_index_or ys k 0 ≡ 0 * v + slice_index_or ys k 0 = omega arith in z) ∙ ap (λ b. cond b 1 0 * v + slice_index_or ys k 0) (sym e)
-at-seam (x ∷ xs) ys v zero = let e : (0 == suc (length xs)) ≡ false = grind (arith, nat_tests) in (let z : x ≡ 0 * v + x = omega arith in z) ∙ ap (λ b. cond b 1 0 * v + x) (sym e)
-at-seam (x ∷ xs) ys v (suc k) = at-seam xs ys v k ∙ ap (λ b. cond b 1 0 * v + slice_index_or (xs ++ 0 ∷ ys) k 0) (let e : (k == length xs) ≡ (suc k == suc (length xs)) = grind (arith, nat_tests) in e)
+at-seam [] ys v (suc k) = let e : (suc k == 0) ≡ false =
+    grind (arith, nat_tests) in (let z : slice_index_or ys k 0 ≡ 0 * v + slice_index_or ys k 0 = omega arith in z)
+    ∙ ap (λ b. cond b 1 0 * v + slice_index_or ys k 0) (sym e)
+at-seam (x ∷ xs) ys v zero = let e : (0 == suc (length xs)) ≡ false =
+    grind (arith, nat_tests) in (let z : x ≡ 0 * v + x = omega arith in z) ∙ ap (λ b. cond b 1 0 * v + x) (sym e)
+at-seam (x ∷ xs) ys v (suc k) = at-seam xs ys v k ∙ ap (λ b. cond b 1 0 * v + slice_index_or (xs ++ 0 ∷ ys) k 0)
+    (let e : (k == length xs) ≡ (suc k == suc (length xs)) = grind (arith, nat_tests) in e)
 
 -- one binder's part
 pub outer-uses : (xs ys : List ℕ) (v : ℕ) (t : Term) → outer (xs ++ v ∷ ys) t ≡ uses (length xs) t * v + outer (xs ++ 0 ∷ ys) t
@@ -145,7 +149,8 @@ counts-shared : {owed : ℕ} {m : Tally} {d : Draft} (t : Term) (more : ℕ) (bu
 counts-shared {owed = owed} {m = m} {d = d} t more build built closed c b = go (loose t == 0) refl
   where
     go : (z : Bool) → (loose t == 0) ≡ z → Counts (owed + more) (count_closed z t built m) (once_closed z t build d)
-    go true e = counts-once (Kept.term t) build built (let n = closed (let l : loose t ≡ 0 = grind (arith, nat_tests, e) in l) in record { kept = c.kept; length = omega (arith, c.length, n) }) b
+    go true e = counts-once (Kept.term t) build built
+        (let n = closed (let l : loose t ≡ 0 = grind (arith, nat_tests, e) in l) in record { kept = c.kept; length = omega (arith, c.length, n) }) b
     go false e = b
 
 grown : {P : Kept → Type 0} {d e : Draft} (q : ℕ) (vs : List Variable) (ws : List ℕ) → Adds P d e → AreBound q d.kept vs ws → AreBound q e.kept vs ws
@@ -163,7 +168,8 @@ module _ (q : ℕ) where
       let told = counts-said (item.Word word.VarTerm) (counts-said (item.Word word.Var) (counts-referred b.key named)) in
       let same : write_type v.1 (say_name v.0 d) ≡ refer b.key (say_name v.0 d) = type-told v.1 (say_name v.0 d) b.key b.at in
       let name : name_length v.0 ≡ name_length (binder_name q n) = ap name_length b.name in
-      subst (λ e. Counts (owed + w) (add (name_length (binder_name q n) + word_length word.Var + word_length word.VarTerm) m) (say_word word.VarTerm (say_word word.Var e))) (sym same)
+      subst (λ e. Counts (owed + w) (add (name_length (binder_name q n) + word_length word.Var + word_length word.VarTerm) m)
+      (say_word word.VarTerm (say_word word.Var e))) (sym same)
       (record { kept = told.kept; length = (let l = told.length in let t = b.told in omega (arith, l, t, name)) })
 
   pub counted-under : (t : Term) (vs : List Variable) (ws : List ℕ) → loose t ≤ length vs → (owed : ℕ) (m : Tally) (d : Draft) → AreBound q d.kept vs ws
@@ -171,19 +177,25 @@ module _ (q : ℕ) where
       → Counts (owed + outer ws t) (count_under q (length vs) t m) (write_under q vs t d)
   counted-under (Term.free n a) vs ws low owed m d h c =
       let z : Counts (owed + 0) m d = record { kept = c.kept; length = omega (arith, c.length) } in
-      counts-shared (Term.free n a) 0 (λ e. say_word word.VarTerm (write_variable (n, a) e)) (λ e. add (word_length word.VarTerm) (count_variable n a e)) (λ e. refl) c
+      counts-shared (Term.free n a) 0 (λ e. say_word word.VarTerm (write_variable (n, a) e)) (λ e. add (word_length word.VarTerm) (count_variable n a e))
+      (λ e. refl) c
       (counts-said (item.Word word.VarTerm) (counted-variable (n, a) (owed + 0) m d z))
-  counted-under (Term.bound k) vs ws low owed m d h c = counts-bound (length vs - suc k) (slice_index_or ws k 0) (binder_at vs k) (bound-at q d.kept vs ws k h (omega (arith, low))) c
+  counted-under (Term.bound k) vs ws low owed m d h c =
+      counts-bound (length vs - suc k) (slice_index_or ws k 0) (binder_at vs k) (bound-at q d.kept vs ws k h (omega (arith, low))) c
   counted-under (Term.constant n a) vs ws low owed m d h c =
       let z : Counts (owed + 0) m d = record { kept = c.kept; length = omega (arith, c.length) } in
-      counts-shared (Term.constant n a) 0 (λ e. say_word word.ConstTerm (write_type a (say_word word.Const (say_name n e)))) (λ e. add (word_length word.ConstTerm) (count_type a (add (name_length n + word_length word.Const) e))) (λ e. refl) c
-      (counts-said (item.Word word.ConstTerm) (counted-type a (owed + 0) (add (name_length n + word_length word.Const) m) (say_word word.Const (say_name n d)) (counts-two (item.Name n) (item.Word word.Const) z)))
+      counts-shared (Term.constant n a) 0 (λ e. say_word word.ConstTerm (write_type a (say_word word.Const (say_name n e))))
+      (λ e. add (word_length word.ConstTerm) (count_type a (add (name_length n + word_length word.Const) e))) (λ e. refl) c
+      (counts-said (item.Word word.ConstTerm)
+      (counted-type a (owed + 0) (add (name_length n + word_length word.Const) m) (say_word word.Const (say_name n d))
+      (counts-two (item.Name n) (item.Word word.Const) z)))
   counted-under (Term.app f x) vs ws low owed m d h c =
       let one = counted-under f vs ws (omega (arith, low)) owed m d h c in
       let d1 = write_under q vs f d in
       let two = counted-under x vs ws (omega (arith, low)) (owed + outer ws f) (count_under q (length vs) f m) d1 (grown q vs ws (term-adds q f vs d) h) one in
       let both = counts-said (item.Word word.AppTerm) two in
-      counts-shared (Term.app f x) (outer ws f + outer ws x) (λ e. say_word word.AppTerm (write_under q vs x (write_under q vs f e))) (λ e. add (word_length word.AppTerm) (count_under q (length vs) x (count_under q (length vs) f e)))
+      counts-shared (Term.app f x) (outer ws f + outer ws x) (λ e. say_word word.AppTerm (write_under q vs x (write_under q vs f e)))
+      (λ e. add (word_length word.AppTerm) (count_under q (length vs) x (count_under q (length vs) f e)))
       (outer-closed ws (Term.app f x)) c (record { kept = both.kept; length = omega (arith, both.length) })
   counted-under (Term.lam a b) vs ws low owed m d h c =
       let v : Variable = next_binder q vs a in
@@ -203,8 +215,10 @@ module _ (q : ℕ) where
       let own : uses 0 b * key_length m2.kept (Kept.type a) ≡ uses 0 b * w = ap (λ k. uses 0 b * k) told in
       let split : outer (w ∷ ws) b ≡ uses 0 b * w + outer (0 ∷ ws) b = outer-uses [] ws w b in
       let said = counts-said (item.Word word.AbsTerm) body in
-      let whole : Counts (owed + outer (0 ∷ ws) b) (count_binder a b m2) (say_word word.AbsTerm d2) = record { kept = said.kept; length = (let l = said.length in omega (arith, l, own, split)) } in
-      counts-shared (Term.lam a b) (outer (0 ∷ ws) b) (λ e. say_word word.AbsTerm (write_under q (v ∷ vs) b (write_variable v e))) (λ e. count_binder a b (count_under q (suc (length vs)) b (count_variable (binder_name q (length vs)) a e)))
+      let whole : Counts (owed + outer (0 ∷ ws) b) (count_binder a b m2) (say_word word.AbsTerm d2) =
+      record { kept = said.kept; length = (let l = said.length in omega (arith, l, own, split)) } in
+      counts-shared (Term.lam a b) (outer (0 ∷ ws) b) (λ e. say_word word.AbsTerm (write_under q (v ∷ vs) b (write_variable v e)))
+      (λ e. count_binder a b (count_under q (suc (length vs)) b (count_variable (binder_name q (length vs)) a e)))
       (outer-closed ws (Term.lam a b)) c whole
 
   -- A term without loose numbers

@@ -52,10 +52,12 @@ module _ (c : Scene) (d : Dictionary) (m : List Made) (stack : List Object) wher
   pub define_const-word : (n : Name) (t : Term) (a : HolType) → is_taken_constant (symbols_of m) n ≡ false → IsDefining a t
       → SequentWithin (derived [] (equation a (Term.constant n a) t))
       → define_const (body_state c d m (Object.term t ∷ Object.name n ∷ stack))
-      ≡ Ok (with_theorem (body_state c d (m ++ Made.symbol (defined (Definition.constant n t)) ∷ []) (Object.constant n ∷ stack)) (step_by by_rule.DefineConst [] (Parameters.constant n t) (derived [] (equation a (Term.constant n a) t))))
+      ≡ Ok (with_theorem (body_state c d (m ++ Made.symbol (defined (Definition.constant n t)) ∷ []) (Object.constant n ∷ stack))
+      (step_by by_rule.DefineConst [] (Parameters.constant n t) (derived [] (equation a (Term.constant n a) t))))
   define_const-word n t a new h w =
       rw (new, truth (is_closed t) h.closed, typed-is t a h.typed, truth (has_type_variables_of a t) h.variables)
-      (concluded (body_state c d (m ++ Made.symbol (defined (Definition.constant n t)) ∷ []) (Object.constant n ∷ stack)) (step_by by_rule.DefineConst [] (Parameters.constant n t) (derived [] (equation a (Term.constant n a) t))) w)
+      (concluded (body_state c d (m ++ Made.symbol (defined (Definition.constant n t)) ∷ []) (Object.constant n ∷ stack))
+      (step_by by_rule.DefineConst [] (Parameters.constant n t) (derived [] (equation a (Term.constant n a) t))) w)
 
   -- A list of constants
   closed-all : (es : TermPairs) → AllByRecursion (λ e. IsDefining e.0.1 e.1) es → list_all (λ e. is_closed e.1) es ≡ true
@@ -70,11 +72,20 @@ module _ (c : Scene) (d : Dictionary) (m : List Made) (stack : List Object) wher
       → AllByRecursion (λ e. IsDefining e.0.1 e.1) (defining_equations pairs (sequent_at m i).hypotheses) → IsTrue (is_definition_list pairs (sequent_at m i))
       → SequentWithin (derived [] (sub [] (constants_put pairs) (sequent_at m i).conclusion))
       → define_const_list (body_state c d m (Object.theorem i ∷ list_object constant_pair pairs ∷ stack))
-      ≡ Ok (with_theorem (body_state c d (m ++ map Made.symbol (map defined (definitions_in pairs (sequent_at m i).hypotheses))) (Object.list (constant_objects (names_of pairs)) ∷ stack))
+      ≡ Ok (with_theorem
+      (body_state c d (m ++ map Made.symbol (map defined (definitions_in pairs (sequent_at m i).hypotheses)))
+      (Object.list (constant_objects (names_of pairs)) ∷ stack))
       (step_by by_rule.DefineConstList (i ∷ []) (rule.constants pairs) (derived [] (sub [] (constants_put pairs) (sequent_at m i).conclusion))))
   define_const_list-word i pairs new h list w =
-      rw (constants-read pairs, new, closed-all (defining_equations pairs (sequent_at m i).hypotheses) h, variables-all (defining_equations pairs (sequent_at m i).hypotheses) h, truth (is_definition_list pairs (sequent_at m i)) list)
-      (concluded (body_state c d (m ++ map Made.symbol (map defined (definitions_in pairs (sequent_at m i).hypotheses))) (Object.list (constant_objects (names_of pairs)) ∷ stack))
+      rw (
+        constants-read pairs,
+        new,
+        closed-all (defining_equations pairs (sequent_at m i).hypotheses) h,
+        variables-all (defining_equations pairs (sequent_at m i).hypotheses) h,
+        truth (is_definition_list pairs (sequent_at m i)) list,
+      )
+      (concluded (body_state c d (m ++ map Made.symbol (map defined (definitions_in pairs (sequent_at m i).hypotheses)))
+      (Object.list (constant_objects (names_of pairs)) ∷ stack))
       (step_by by_rule.DefineConstList (i ∷ []) (rule.constants pairs) (derived [] (sub [] (constants_put pairs) (sequent_at m i).conclusion))) w)
 
   -- A type operator
@@ -146,10 +157,12 @@ module _ (c : Scene) (d : Dictionary) (m : List Made) (stack : List Object) wher
 
   type-limits : (version : Version) (names : TypeNames) (a : HolType) (f : Term) → SequentWithin (first_law_of version names a)
       → SequentWithin (second_law_of version names a f)
-      → in_limits (type_measure (new_type names) ∷ type_measure (abstraction_type names a) ∷ type_measure (representation_type names a) ∷ sequent_measure (first_law_of version names a) ∷ sequent_measure (second_law_of version names a f) ∷ []) ≡ Ok tt
+      → in_limits (type_measure (new_type names) ∷ type_measure (abstraction_type names a) ∷ type_measure (representation_type names a) ∷ sequent_measure
+      (first_law_of version names a) ∷ sequent_measure (second_law_of version names a f) ∷ []) ≡ Ok tt
   type-limits version names a f one two =
       let types = types-within version names a one in
-      all-in_limits (type_measure (new_type names) ∷ type_measure (abstraction_type names a) ∷ type_measure (representation_type names a) ∷ sequent_measure (first_law_of version names a) ∷ sequent_measure (second_law_of version names a f) ∷ []) (
+      all-in_limits (type_measure (new_type names) ∷ type_measure (abstraction_type names a) ∷ type_measure (representation_type names a) ∷ sequent_measure
+      (first_law_of version names a) ∷ sequent_measure (second_law_of version names a f) ∷ []) (
         type-measured (new_type names) types.new,
         (
           type-measured (abstraction_type names a) types.abstraction,
@@ -165,9 +178,14 @@ module _ (c : Scene) (d : Dictionary) (m : List Made) (stack : List Object) wher
 
   pub define_type_op-word : (i : ℕ) (names : TypeNames) (a : HolType) (f : Term) → AreNew (symbols_of m) names → IsTypeDefinition names a f (sequent_at m i)
       → SequentWithin (first_law_of c.version names a) → SequentWithin (second_law_of c.version names a f)
-      → define_type_op (body_state c d m (Object.theorem i ∷ list_object Object.name names.variables ∷ Object.name names.representation ∷ Object.name names.abstraction ∷ Object.name names.operator ∷ stack))
-      ≡ Ok (with_theorem (with_theorem (body_state c d (m ++ Made.type_definition names a f i ∷ []) (Object.constant names.representation ∷ Object.constant names.abstraction ∷ Object.type_operator names.operator ∷ stack))
-      (step_by by_rule.FirstLaw (i ∷ []) (rule.type_operator names c.version) (first_law_of c.version names a))) (step_by by_rule.SecondLaw (i ∷ []) (rule.type_operator names c.version) (second_law_of c.version names a f)))
+      → define_type_op
+      (body_state c d m (Object.theorem i ∷ list_object Object.name names.variables ∷ Object.name names.representation ∷ Object.name names.abstraction ∷
+      Object.name names.operator ∷ stack))
+      ≡ Ok (with_theorem
+      (with_theorem (body_state c d (m ++ Made.type_definition names a f i ∷ [])
+      (Object.constant names.representation ∷ Object.constant names.abstraction ∷ Object.type_operator names.operator ∷ stack))
+      (step_by by_rule.FirstLaw (i ∷ []) (rule.type_operator names c.version) (first_law_of c.version names a)))
+      (step_by by_rule.SecondLaw (i ∷ []) (rule.type_operator names c.version) (second_law_of c.version names a f)))
   define_type_op-word i names a f new h one two =
       let hyps : nat_eq (length (sequent_at m i).hypotheses) 0 ≡ true = ap (λ l. nat_eq (length l) 0) h.no_hypotheses in
       rw (
@@ -202,19 +220,24 @@ module _ (c : Scene) (d : Dictionary) (m : List Made) (stack : List Object) wher
   axiom-assumes : (s : Sequent) → IsSequent s
       → axiom_word (body_state c d m (Object.term s.conclusion ∷ list_object Object.term s.hypotheses ∷ stack)) ≡ assumes s
   axiom-assumes s h =
-      (let e : axiom_word (body_state c d m (Object.term s.conclusion ∷ list_object Object.term s.hypotheses ∷ stack)) ≡ assumes (stated s.hypotheses s.conclusion) = rw (terms-read s.hypotheses, sequent-bool s h) refl in e)
+      (let e : axiom_word (body_state c d m (Object.term s.conclusion ∷ list_object Object.term s.hypotheses ∷ stack))
+      ≡ assumes (stated s.hypotheses s.conclusion) = rw (terms-read s.hypotheses, sequent-bool s h) refl in e)
       ∙ ap assumes (stated-itself s h)
 
   pub axiom-recorded : (s : Sequent) → IsSequent s → first_same (body_state c d m stack) c.assumptions s ≡ None → SequentWithin s
       → axiom_word (body_state c d m (Object.term s.conclusion ∷ list_object Object.term s.hypotheses ∷ stack))
-      ≡ Ok (with_theorem (body_state (record c { assumptions = c.assumptions ++ length (steps_of m) ∷ [] }) d m stack) (step_by by_rule.Axiom [] (Parameters.sequent s) s))
+      ≡ Ok (with_theorem (body_state (record c { assumptions = c.assumptions ++ length (steps_of m) ∷ [] }) d m stack)
+      (step_by by_rule.Axiom [] (Parameters.sequent s) s))
   axiom-recorded s h new w =
       axiom-assumes s h ∙ ap (assume_or_meet (body_state c d m stack) (assumption s)) new
-      ∙ concluded (body_state (record c { assumptions = c.assumptions ++ length (steps_of m) ∷ [] }) d m stack) (step_by by_rule.Axiom [] (Parameters.sequent s) s) w
+      ∙ concluded (body_state (record c { assumptions = c.assumptions ++ length (steps_of m) ∷ [] }) d m stack)
+      (step_by by_rule.Axiom [] (Parameters.sequent s) s) w
 
   pub axiom-met : (s : Sequent) (i : ℕ) → IsSequent s → first_same (body_state c d m stack) c.assumptions s ≡ Some i → SequentWithin s
-      → axiom_word (body_state c d m (Object.term s.conclusion ∷ list_object Object.term s.hypotheses ∷ stack)) ≡ Ok (with_theorem (body_state c d m stack) (restatement i s))
-  axiom-met s i h old w = axiom-assumes s h ∙ ap (assume_or_meet (body_state c d m stack) (assumption s)) old ∙ concluded (body_state c d m stack) (restatement i s) w
+      → axiom_word (body_state c d m (Object.term s.conclusion ∷ list_object Object.term s.hypotheses ∷ stack))
+      ≡ Ok (with_theorem (body_state c d m stack) (restatement i s))
+  axiom-met s i h old w = axiom-assumes s h ∙ ap (assume_or_meet (body_state c d m stack) (assumption s)) old ∙ concluded (body_state c d m stack)
+      (restatement i s) w
 
   -- An export: where none before says its sequent
   abbrev exporting : Step → Result State Kind
@@ -228,8 +251,10 @@ module _ (c : Scene) (d : Dictionary) (m : List Made) (stack : List Object) wher
       → thm (body_state c d m (Object.term s.conclusion ∷ list_object Object.term s.hypotheses ∷ Object.theorem i ∷ stack))
       ≡ Ok (body_state (record c { exports = c.exports ++ length (steps_of m) ∷ [] }) d (m ++ Made.step (restatement i s) ∷ []) stack)
   thm-exported s i h says new w =
-      (let e : thm (body_state c d m (Object.term s.conclusion ∷ list_object Object.term s.hypotheses ∷ Object.theorem i ∷ stack)) ≡ exports i (stated s.hypotheses s.conclusion) = rw (terms-read s.hypotheses, sequent-bool s h) refl in e)
+      (let e : thm (body_state c d m (Object.term s.conclusion ∷ list_object Object.term s.hypotheses ∷ Object.theorem i ∷ stack))
+      ≡ exports i (stated s.hypotheses s.conclusion) = rw (terms-read s.hypotheses, sequent-bool s h) refl in e)
       ∙ ap (exports i) (stated-itself s h)
       ∙ ap (λ b. (demand b NotTheSequent >> Ok (restatement i s)) >>= exporting) (truth (within (sequent_at m i) s) says)
       ∙ ap (export (body_state c d m stack) (restatement i s)) new
-      ∙ ap (λ r. r >> Ok (body_state (record c { exports = c.exports ++ length (steps_of m) ∷ [] }) d (m ++ Made.step (restatement i s) ∷ []) stack)) (sequent-in_limits s w)
+      ∙ ap (λ r. r >> Ok (body_state (record c { exports = c.exports ++ length (steps_of m) ∷ [] }) d (m ++ Made.step (restatement i s) ∷ []) stack))
+      (sequent-in_limits s w)

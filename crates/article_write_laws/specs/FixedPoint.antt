@@ -39,7 +39,8 @@ module _ (flag : ℕ → Bool) where
   same-made DefineConstList i on next d e s = same-said flag (item.Word word.Pop) (same-theorem flag i (count flag i) on refl d e s)
   same-made FirstLaw i on next d e s =
       same-said flag (item.Word word.Pop) (same-said flag (item.Word word.Pop) (same-said flag (item.Word word.Pop)
-      (same-theorem flag i (count flag i) on refl (keep_theorem (suc i) d) (keep_theorem (suc (count flag i)) e) (same-theorem flag (suc i) (suc (count flag i)) (next refl) (count-on i on) d e s))))
+      (same-theorem flag i (count flag i) on refl (keep_theorem (suc i) d) (keep_theorem (suc (count flag i)) e)
+      (same-theorem flag (suc i) (suc (count flag i)) (next refl) (count-on i on) d e s))))
   same-made Refl i on next d e s = same-theorem flag i (count flag i) on refl d e s
   same-made Assume i on next d e s = same-theorem flag i (count flag i) on refl d e s
   same-made EqMp i on next d e s = same-theorem flag i (count flag i) on refl d e s
@@ -69,20 +70,24 @@ module _ (flag : ℕ → Bool) where
         let x = y.step in
         same-made x.kind y.number h.on h.with_second (say_word (word_of x.kind) (write_each write_premise x.premises (write_given q x.parameters d)))
         (say_word (word_of x.kind) (write_each write_premise (map (count flag) x.premises) (write_given q x.parameters e)))
-        (same-said flag (item.Word (word_of x.kind)) (same-premises flag x.premises h.premises (write_given q x.parameters d) (write_given q x.parameters e) (same-given flag q x.parameters d e s)))
+        (same-said flag (item.Word (word_of x.kind))
+        (same-premises flag x.premises h.premises (write_given q x.parameters d) (write_given q x.parameters e) (same-given flag q x.parameters d e s)))
 
     same-assumption : (y : Numbered) → IsClosed y
         → Alike flag (write_by q Axiom false y.number y.step) (write_by q Axiom false (count flag y.number) (renumbered (count flag) y.step))
     same-assumption y h d e s =
         let x = y.step in
-        same-theorem flag y.number (count flag y.number) h.on refl (say_word word.Axiom (write_given q x.parameters d)) (say_word word.Axiom (write_given q x.parameters e))
+        same-theorem flag y.number (count flag y.number) h.on refl (say_word word.Axiom (write_given q x.parameters d))
+        (say_word word.Axiom (write_given q x.parameters e))
         (same-said flag (item.Word word.Axiom) (same-given flag q x.parameters d e s))
 
     same-export : (y : Numbered) → IsClosed y
         → Alike flag (write_by q Restate true y.number y.step) (write_by q Restate true (count flag y.number) (renumbered (count flag) y.step))
     same-export y h d e s =
         let x = y.step in
-        same-said flag (item.Word word.Thm) (same-given flag q x.parameters (write_each write_premise x.premises d) (write_each write_premise (map (count flag) x.premises) e) (same-premises flag x.premises h.premises d e s))
+        same-said flag (item.Word word.Thm)
+        (same-given flag q x.parameters (write_each write_premise x.premises d) (write_each write_premise (map (count flag) x.premises) e)
+        (same-premises flag x.premises h.premises d e s))
 
     same-by : (kind : StepKind) (b : Bool) (y : Numbered) → IsClosed y
         → Alike flag (write_by q kind b y.number y.step) (write_by q kind b (count flag y.number) (renumbered (count flag) y.step))
@@ -114,13 +119,15 @@ module _ (flag : ℕ → Bool) where
     same-step : (exports : List ℕ) → AllByRecursion (λ j. flag j ≡ true) exports → (y : Numbered) → IsClosed y
         → Alike flag (write_step q exports y) (write_step q (map (count flag) exports) (new_numbered y))
     same-step exports told y h d e s =
-        subst (λ b. Same flag (write_step q exports y d) (write_by q y.step.kind b (count flag y.number) (renumbered (count flag) y.step) e)) (sym (same-is_export exports y.number h.on told))
+        subst (λ b. Same flag (write_step q exports y d) (write_by q y.step.kind b (count flag y.number) (renumbered (count flag) y.step) e))
+        (sym (same-is_export exports y.number h.on told))
         (same-by y.step.kind (list_any (λ i. y.number == i) exports) y h d e s)
 
     pub same-steps : (exports : List ℕ) → AllByRecursion (λ j. flag j ≡ true) exports → (ys : List Numbered) → AllByRecursion IsClosed ys
         → Alike flag (write_each (write_step q exports) ys) (write_each (write_step q (map (count flag) exports)) (map new_numbered ys))
     same-steps exports told [] h d e s = s
-    same-steps exports told (y ∷ ys) h d e s = same-steps exports told ys h.1 (write_step q exports y d) (write_step q (map (count flag) exports) (new_numbered y) e) (same-step exports told y h.0 d e s)
+    same-steps exports told (y ∷ ys) h d e s = same-steps exports told ys h.1 (write_step q exports y d)
+        (write_step q (map (count flag) exports) (new_numbered y) e) (same-step exports told y h.0 d e s)
 
   -- The names of binders
   same-variables : (ys : List Numbered) → flat_map (λ x. step_variables x.step) (map new_numbered ys) ≡ flat_map (λ (x : Numbered). step_variables x.step) ys
@@ -168,7 +175,9 @@ module _ (flag : ℕ → Bool) where
   stays-given (Parameters.variable v) = stays-type v.1
   stays-given (Parameters.substitution types terms) =
       All-append StaysSo (flat_map (λ p. type_mentions p.1) types) (flat_map (λ p. type_mentions p.0.1 ++ term_mentions p.1) terms)
-      (stays-all (λ p. type_mentions p.1) (λ p. stays-type p.1) types) (stays-all (λ p. type_mentions p.0.1 ++ term_mentions p.1) (λ p. All-append StaysSo (type_mentions p.0.1) (term_mentions p.1) (stays-type p.0.1) (stays-term p.1)) terms)
+      (stays-all (λ p. type_mentions p.1) (λ p. stays-type p.1) types)
+      (stays-all (λ p. type_mentions p.0.1 ++ term_mentions p.1)
+      (λ p. All-append StaysSo (type_mentions p.0.1) (term_mentions p.1) (stays-type p.0.1) (stays-term p.1)) terms)
   stays-given (Parameters.sequent s) = stays-sequent s
   stays-given (Parameters.constant n t) = stays-term t
   stays-given (Parameters.constants pairs) = stays-all (λ p. type_mentions p.1.1) (λ p. stays-type p.1.1) pairs
@@ -199,9 +208,11 @@ module _ (flag : ℕ → Bool) where
 
   other-needs : (x : Step) (n : Need) → IsIn (needs x) n → IsIn (needs (renumbered (count flag) x)) (other_need n)
   other-needs x n h = elim (IsIn-either (map Need.step x.premises) (given_mentions x.parameters ++ sequent_mentions x.sequent) n h) [
-    | inl i ↦ IsIn-left (map Need.step (map (count flag) x.premises)) (given_mentions x.parameters ++ sequent_mentions x.sequent) (other_need n) (other-premise x.premises n i)
+    | inl i ↦ IsIn-left (map Need.step (map (count flag) x.premises)) (given_mentions x.parameters ++ sequent_mentions x.sequent) (other_need n)
+        (other-premise x.premises n i)
     | inr i ↦ IsIn-right (map Need.step (map (count flag) x.premises)) (given_mentions x.parameters ++ sequent_mentions x.sequent) (other_need n)
-        (staying (given_mentions x.parameters ++ sequent_mentions x.sequent) n (All-append StaysSo (given_mentions x.parameters) (sequent_mentions x.sequent) (stays-given x.parameters) (stays-sequent x.sequent)) i)
+        (staying (given_mentions x.parameters ++ sequent_mentions x.sequent) n
+        (All-append StaysSo (given_mentions x.parameters) (sequent_mentions x.sequent) (stays-given x.parameters) (stays-sequent x.sequent)) i)
   ]
 
   one-other : (m k : Need) (n : Need) → other_need m ≡ k → IsIn (m ∷ []) n → IsIn (k ∷ []) (other_need n)
@@ -210,7 +221,9 @@ module _ (flag : ℕ → Bool) where
 
   other-together : (kind : StepKind) (i : ℕ) → flag i ≡ true → (kind ≡ SecondLaw → count flag (i - 1) ≡ count flag i - 1) → (n : Need)
       → IsIn (together i kind) n → IsIn (together (count flag i) kind) (other_need n)
-  other-together FirstLaw i on h n k = one-other (Need.step (i + 1)) (Need.step (count flag i + 1)) n (ap Need.step ((let e : i + 1 ≡ suc i = omega arith in ap (count flag) e) ∙ count-on i on ∙ (let e : suc (count flag i) ≡ count flag i + 1 = omega arith in e))) k
+  other-together FirstLaw i on h n k = one-other (Need.step (i + 1)) (Need.step (count flag i + 1)) n
+      (ap Need.step ((let e : i + 1 ≡ suc i = omega arith in ap (count flag) e) ∙ count-on i on
+      ∙ (let e : suc (count flag i) ≡ count flag i + 1 = omega arith in e))) k
   other-together SecondLaw i on h n k = one-other (Need.step (i - 1)) (Need.step (count flag i - 1)) n (ap Need.step (h refl)) k
   other-together Refl i on h n k = absurd k
   other-together Assume i on h n k = absurd k
@@ -231,8 +244,10 @@ module _ (flag : ℕ → Bool) where
   other-serves : (y : Numbered) → IsClosed y → (n : Need) → IsIn (serves y) n → IsIn (serves (new_numbered y)) (other_need n)
   other-serves y h n (inl e) = inl (ap other_need e)
   other-serves y h n (inr k) = inr (elim (IsIn-either (together y.number y.step.kind) (defines y.step.parameters) n k) [
-    | inl i ↦ IsIn-left (together (count flag y.number) y.step.kind) (defines y.step.parameters) (other_need n) (other-together y.step.kind y.number h.on h.with_first n i)
-    | inr i ↦ IsIn-right (together (count flag y.number) y.step.kind) (defines y.step.parameters) (other_need n) (staying (defines y.step.parameters) n (stays-defined y.step.parameters) i)
+    | inl i ↦ IsIn-left (together (count flag y.number) y.step.kind) (defines y.step.parameters) (other_need n)
+        (other-together y.step.kind y.number h.on h.with_first n i)
+    | inr i ↦ IsIn-right (together (count flag y.number) y.step.kind) (defines y.step.parameters) (other_need n)
+        (staying (defines y.step.parameters) n (stays-defined y.step.parameters) i)
   ])
 
   -- a need that is met
@@ -264,7 +279,8 @@ module _ (flag : ℕ → Bool) where
       let r = any-is (λ n. list_any (need_eq n) ns) (serves y) e in
       let w = any-is (need_eq r.0) ns r.2 in
       let same : r.0 ≡ w.0 = need-is r.0 w.0 w.2 in
-      serves-reached (Need.step 0 ∷ []) ms (new_numbered y) (other_need r.0) (other-serves y h r.0 r.1) (subst (λ n. IsIn ms (other_need n)) (sym same) (c w.0 w.1))
+      serves-reached (Need.step 0 ∷ []) ms (new_numbered y) (other_need r.0) (other-serves y h r.0 r.1)
+      (subst (λ n. IsIn ms (other_need n)) (sym same) (c w.0 w.1))
 
   pub record AgainOf (roots others : List Need) (i : ℕ) (xs : List Step) (told : List Numbered) : Type 0 where
     pub covers : Covers (reached_from roots i xs).needed (reached_from others (count flag i) (map (λ y. renumbered (count flag) y.step) told)).needed
@@ -274,7 +290,8 @@ module _ (flag : ℕ → Bool) where
   Again roots others i xs = AgainOf roots others i xs (selected flag i xs)
 
   covers-append : (ns ms ks ls : List Need) → Covers ns ms → Covers ks ls → Covers (ns ++ ks) (ms ++ ls)
-  covers-append ns ms ks ls f g n h = elim (IsIn-either ns ks n h) [ inl i ↦ IsIn-left ms ls (other_need n) (f n i) | inr i ↦ IsIn-right ms ls (other_need n) (g n i) ]
+  covers-append ns ms ks ls f g n h = elim (IsIn-either ns ks n h)
+      [ inl i ↦ IsIn-left ms ls (other_need n) (f n i) | inr i ↦ IsIn-right ms ls (other_need n) (g n i) ]
 
   -- all that was told is reached again
   pub again : (roots others : List Need) → Covers roots others → (i : ℕ) (xs : List Step)
@@ -284,13 +301,16 @@ module _ (flag : ℕ → Bool) where
     where
       later : (k : ℕ) → k < length xs → flag (suc i + k) ≡ is_flagged roots (suc i) xs (suc i + k)
       later k low = let e : suc i + k ≡ i + suc k = omega arith in let f : i + 1 ≡ suc i = omega arith in
-          ap flag e ∙ same (suc k) (omega (arith, low)) ∙ flag-later roots i x xs k ∙ ap (λ j. is_flagged roots j xs (i + suc k)) f ∙ ap (is_flagged roots (suc i) xs) (sym e)
+          ap flag e ∙ same (suc k) (omega (arith, low)) ∙ flag-later roots i x xs k ∙ ap (λ j. is_flagged roots j xs (i + suc k)) f
+          ∙ ap (is_flagged roots (suc i) xs) (sym e)
 
       here : flag i ≡ is_reached (reached_from roots (suc i) xs).needed (record { number = i; step = x })
       here = let e : i ≡ i + 0 = omega arith in let f : i + 1 ≡ suc i = omega arith in
-          ap flag e ∙ same 0 (omega arith) ∙ ap (is_flagged roots i (x ∷ xs)) (sym e) ∙ flag-here roots i x xs ∙ ap (λ j. is_reached (reached_from roots j xs).needed (record { number = i; step = x })) f
+          ap flag e ∙ same 0 (omega arith) ∙ ap (is_flagged roots i (x ∷ xs)) (sym e) ∙ flag-here roots i x xs
+          ∙ ap (λ j. is_reached (reached_from roots j xs).needed (record { number = i; step = x })) f
 
-      go : (b : Bool) → flag i ≡ b → AllByRecursion IsClosed (cond b (record { number = i; step = x } ∷ selected flag (suc i) xs) (selected flag (suc i) xs)) → (AllByRecursion IsClosed (selected flag (suc i) xs) → Again roots others (suc i) xs) → Again roots others i (x ∷ xs)
+      go : (b : Bool) → flag i ≡ b → AllByRecursion IsClosed (cond b (record { number = i; step = x } ∷ selected flag (suc i) xs) (selected flag (suc i) xs))
+          → (AllByRecursion IsClosed (selected flag (suc i) xs) → Again roots others (suc i) xs) → Again roots others i (x ∷ xs)
       go true on h rest =
           let r = rest h.1 in
           let y = renumbered (count flag) x in
@@ -298,14 +318,22 @@ module _ (flag : ℕ → Bool) where
           let old = reached_from roots (suc i) xs in
           let new = reached_from others (count flag (suc i)) l in
           let mine : is_reached old.needed (record { number = i; step = x }) ≡ true = sym here ∙ on in
-          let theirs : is_reached new.needed (record { number = count flag i; step = y }) ≡ true = other-reached old.needed new.needed (record { number = i; step = x }) r.covers h.0 mine in
+          let theirs : is_reached new.needed (record { number = count flag i; step = y }) ≡ true =
+          other-reached old.needed new.needed (record { number = i; step = x }) r.covers h.0 mine in
           let first : reached_from roots i (x ∷ xs) ≡ record { needed = old.needed ++ needs x; steps = record { number = i; step = x } ∷ old.steps } =
-          ap (λ j. reach (reached_from roots j xs) (record { number = i; step = x })) (let f : i + 1 ≡ suc i = omega arith in f) ∙ reached-on roots old (record { number = i; step = x }) mine in
-          let second : reached_from others (count flag i) (y ∷ l) ≡ record { needed = new.needed ++ needs y; steps = record { number = count flag i; step = y } ∷ new.steps } =
-          ap (λ j. reach (reached_from others j l) (record { number = count flag i; step = y })) (let f : count flag i + 1 ≡ suc (count flag i) = omega arith in f ∙ sym (count-on i on)) ∙ reached-on others new (record { number = count flag i; step = y }) theirs in
-          let listed : selected flag i (x ∷ xs) ≡ record { number = i; step = x } ∷ selected flag (suc i) xs = ap (λ b. cond b (record { number = i; step = x } ∷ selected flag (suc i) xs) (selected flag (suc i) xs)) on in
+          ap (λ j. reach (reached_from roots j xs) (record { number = i; step = x })) (let f : i + 1 ≡ suc i = omega arith in f)
+          ∙ reached-on roots old (record { number = i; step = x }) mine in
+          let second : reached_from others (count flag i) (y ∷ l)
+          ≡ record { needed = new.needed ++ needs y; steps = record { number = count flag i; step = y } ∷ new.steps } =
+          ap (λ j. reach (reached_from others j l) (record { number = count flag i; step = y }))
+          (let f : count flag i + 1 ≡ suc (count flag i) = omega arith in f ∙ sym (count-on i on))
+          ∙ reached-on others new (record { number = count flag i; step = y }) theirs in
+          let listed : selected flag i (x ∷ xs) ≡ record { number = i; step = x } ∷ selected flag (suc i) xs =
+          ap (λ b. cond b (record { number = i; step = x } ∷ selected flag (suc i) xs) (selected flag (suc i) xs)) on in
           subst (AgainOf roots others i (x ∷ xs)) (sym listed) (record {
-            covers = subst (λ a. Covers a.needed (reached_from others (count flag i) (y ∷ l)).needed) (sym first) (subst (λ b. Covers (old.needed ++ needs x) b.needed) (sym second) (covers-append old.needed new.needed (needs x) (needs y) r.covers (other-needs x)));
+            covers = subst (λ a. Covers a.needed (reached_from others (count flag i) (y ∷ l)).needed) (sym first)
+                (subst (λ b. Covers (old.needed ++ needs x) b.needed) (sym second)
+                (covers-append old.needed new.needed (needs x) (needs y) r.covers (other-needs x)));
             steps = ap (λ b. b.steps) second ∙ ap (λ z. record { number = count flag i; step = y } ∷ z) r.steps;
           })
       go false off h rest =
@@ -313,11 +341,17 @@ module _ (flag : ℕ → Bool) where
           let old = reached_from roots (suc i) xs in
           let mine : is_reached old.needed (record { number = i; step = x }) ≡ false = sym here ∙ off in
           let first : reached_from roots i (x ∷ xs) ≡ old =
-          ap (λ j. reach (reached_from roots j xs) (record { number = i; step = x })) (let f : i + 1 ≡ suc i = omega arith in f) ∙ reached-off roots old (record { number = i; step = x }) mine in
-          let listed : selected flag i (x ∷ xs) ≡ selected flag (suc i) xs = ap (λ b. cond b (record { number = i; step = x } ∷ selected flag (suc i) xs) (selected flag (suc i) xs)) off in
+          ap (λ j. reach (reached_from roots j xs) (record { number = i; step = x })) (let f : i + 1 ≡ suc i = omega arith in f)
+          ∙ reached-off roots old (record { number = i; step = x }) mine in
+          let listed : selected flag i (x ∷ xs) ≡ selected flag (suc i) xs =
+          ap (λ b. cond b (record { number = i; step = x } ∷ selected flag (suc i) xs) (selected flag (suc i) xs)) off in
           let same_count : count flag (suc i) ≡ count flag i = ap (λ b. cond b (suc (count flag i)) (count flag i)) off in
           subst (AgainOf roots others i (x ∷ xs)) (sym listed) (record {
-            covers = subst (λ a. Covers a.needed (reached_from others (count flag i) (map (λ z. renumbered (count flag) z.step) (selected flag (suc i) xs))).needed) (sym first)
-                (subst (λ k. Covers old.needed (reached_from others k (map (λ z. renumbered (count flag) z.step) (selected flag (suc i) xs))).needed) same_count r.covers);
-            steps = subst (λ k. (reached_from others k (map (λ z. renumbered (count flag) z.step) (selected flag (suc i) xs))).steps ≡ map new_numbered (selected flag (suc i) xs)) same_count r.steps;
+            covers = subst
+                (λ a. Covers a.needed (reached_from others (count flag i) (map (λ z. renumbered (count flag) z.step) (selected flag (suc i) xs))).needed)
+                (sym first)
+                (subst (λ k. Covers old.needed (reached_from others k (map (λ z. renumbered (count flag) z.step) (selected flag (suc i) xs))).needed) same_count
+                r.covers);
+            steps = subst (λ k. (reached_from others k (map (λ z. renumbered (count flag) z.step) (selected flag (suc i) xs))).steps
+                ≡ map new_numbered (selected flag (suc i) xs)) same_count r.steps;
           })

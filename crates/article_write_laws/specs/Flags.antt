@@ -20,9 +20,11 @@ module _ (flag : ℕ → Bool) where
   selected-push i [] x = ap (λ k. selected flag k (x ∷ [])) (let e : i ≡ i + 0 = omega arith in e)
   selected-push i (y ∷ xs) x =
       go (flag i) (selected flag (suc i) (xs ++ x ∷ [])) (selected flag (suc i) xs) (selected flag (i + suc (length xs)) (x ∷ []))
-      (selected-push (suc i) xs x ∙ ap (λ k. selected flag (suc i) xs ++ selected flag k (x ∷ [])) (let e : suc i + length xs ≡ i + suc (length xs) = omega arith in e))
+      (selected-push (suc i) xs x ∙ ap (λ k. selected flag (suc i) xs ++ selected flag k (x ∷ []))
+      (let e : suc i + length xs ≡ i + suc (length xs) = omega arith in e))
     where
-      go : (b : Bool) (all some last : List Numbered) → all ≡ some ++ last → cond b (record { number = i; step = y } ∷ all) all ≡ cond b (record { number = i; step = y } ∷ some) some ++ last
+      go : (b : Bool) (all some last : List Numbered) → all ≡ some ++ last → cond b (record { number = i; step = y } ∷ all) all
+          ≡ cond b (record { number = i; step = y } ∷ some) some ++ last
       go true all some last e = ap (λ l. record { number = i; step = y } ∷ l) e
       go false all some last e = e
 
@@ -31,12 +33,14 @@ module _ (flag : ℕ → Bool) where
   length-selected i (x ∷ xs) = go (flag i) (length-selected (suc i) xs) ∙ ap (count flag) (let f : suc i + length xs ≡ i + suc (length xs) = omega arith in f)
     where
       go : (b : Bool) → cond b (suc (count flag i)) (count flag i) + length (selected flag (suc i) xs) ≡ count flag (suc i + length xs)
-          → count flag i + length (cond b (record { number = i; step = x } ∷ selected flag (suc i) xs) (selected flag (suc i) xs)) ≡ count flag (suc i + length xs)
+          → count flag i + length (cond b (record { number = i; step = x } ∷ selected flag (suc i) xs) (selected flag (suc i) xs))
+          ≡ count flag (suc i + length xs)
       go true e = omega (arith, e)
       go false e = e
 
   pub count-steps : (xs : List Step) → length (selected flag 0 xs) ≡ count flag (length xs)
-  count-steps xs = let e : length (selected flag 0 xs) ≡ 0 + length (selected flag 0 xs) = omega arith in e ∙ length-selected 0 xs ∙ ap (count flag) (let f : 0 + length xs ≡ length xs = omega arith in f)
+  count-steps xs = let e : length (selected flag 0 xs) ≡ 0 + length (selected flag 0 xs) =
+      omega arith in e ∙ length-selected 0 xs ∙ ap (count flag) (let f : 0 + length xs ≡ length xs = omega arith in f)
 
   -- where a flagged step is
   record Place (i p : ℕ) (xs : List Step) (x : Step) : Type 0 where
@@ -53,7 +57,8 @@ module _ (flag : ℕ → Bool) where
       record {
         at = 0;
         is = (let e : count flag i + 0 ≡ count flag i = omega arith in e) ∙ ap (count flag) (sym here);
-        found = ap (λ b. slice_get (cond b (record { number = i; step = y } ∷ selected flag (suc i) xs) (selected flag (suc i) xs)) 0) on ∙ ap (λ z. Some (record { number = i; step = z })) same ∙ ap (λ k. Some (record { number = k; step = x })) (sym here);
+        found = ap (λ b. slice_get (cond b (record { number = i; step = y } ∷ selected flag (suc i) xs) (selected flag (suc i) xs)) 0) on
+            ∙ ap (λ z. Some (record { number = i; step = z })) same ∙ ap (λ k. Some (record { number = k; step = x })) (sym here);
       }
   place i (y ∷ xs) (suc p) x e f =
       let there : suc i + p ≡ i + suc p = omega arith in
@@ -66,14 +71,16 @@ module _ (flag : ℕ → Bool) where
           record {
             at = suc r.at;
             is = (let e : count flag i + suc r.at ≡ count flag (suc i) + r.at = omega (arith, c) in e) ∙ r.is ∙ ap (count flag) there;
-            found = ap (λ b. slice_get (cond b (record { number = i; step = y } ∷ selected flag (suc i) xs) (selected flag (suc i) xs)) (suc r.at)) on ∙ r.found ∙ ap (λ k. Some (record { number = k; step = x })) there;
+            found = ap (λ b. slice_get (cond b (record { number = i; step = y } ∷ selected flag (suc i) xs) (selected flag (suc i) xs)) (suc r.at)) on ∙ r.found
+                ∙ ap (λ k. Some (record { number = k; step = x })) there;
           }
       go false off r there =
           let c : count flag (suc i) ≡ count flag i = ap (λ b. cond b (suc (count flag i)) (count flag i)) off in
           record {
             at = r.at;
             is = (let e : count flag i + r.at ≡ count flag (suc i) + r.at = omega (arith, c) in e) ∙ r.is ∙ ap (count flag) there;
-            found = ap (λ b. slice_get (cond b (record { number = i; step = y } ∷ selected flag (suc i) xs) (selected flag (suc i) xs)) r.at) off ∙ r.found ∙ ap (λ k. Some (record { number = k; step = x })) there;
+            found = ap (λ b. slice_get (cond b (record { number = i; step = y } ∷ selected flag (suc i) xs) (selected flag (suc i) xs)) r.at) off ∙ r.found
+                ∙ ap (λ k. Some (record { number = k; step = x })) there;
           }
 
   -- so a flagged step says in the article what it says in the run
@@ -86,20 +93,24 @@ module _ (flag : ℕ → Bool) where
       let one = slice_get-mapped (λ (y : Numbered). renumbered (count flag) y.step) (selected flag 0 xs) r.at (record { number = 0 + p; step = x }) r.found in
       sequent_at-is after (count flag p) x.sequent
       (subst (λ k. slice_get (sequents_of after) k ≡ Some x.sequent) at
-      (ap (λ l. slice_get (map (λ (z : Step). z.sequent) l) r.at) steps ∙ slice_get-mapped (λ (z : Step). z.sequent) (renumbered_steps flag xs) r.at (renumbered (count flag) x) one))
+      (ap (λ l. slice_get (map (λ (z : Step). z.sequent) l) r.at) steps
+      ∙ slice_get-mapped (λ (z : Step). z.sequent) (renumbered_steps flag xs) r.at (renumbered (count flag) x) one))
 
   -- a flagged step is among the flagged ones
-  pub place-of : (xs : List Step) (p : ℕ) (x : Step) → slice_get xs p ≡ Some x → flag p ≡ true → (at : ℕ) × (slice_get (selected flag 0 xs) at ≡ Some (record { number = p; step = x }))
+  pub place-of : (xs : List Step) (p : ℕ) (x : Step) → slice_get xs p ≡ Some x → flag p ≡ true → (at : ℕ)
+      × (slice_get (selected flag 0 xs) at ≡ Some (record { number = p; step = x }))
   place-of xs p x e f =
       let zero_p : 0 + p ≡ p = omega arith in
       let r = place 0 xs p x e (subst (λ k. flag k ≡ true) (sym zero_p) f) in
       (r.at, r.found ∙ ap (λ k. Some (record { number = k; step = x })) zero_p)
 
 -- what every step has, the flagged ones have
-pub selected-all : (P : Step → Type 0) (flag : ℕ → Bool) (i : ℕ) (xs : List Step) → AllByRecursion P xs → AllByRecursion (λ (y : Numbered). P y.step) (selected flag i xs)
+pub selected-all : (P : Step → Type 0) (flag : ℕ → Bool) (i : ℕ) (xs : List Step) → AllByRecursion P xs
+    → AllByRecursion (λ (y : Numbered). P y.step) (selected flag i xs)
 selected-all P flag i [] h = tt
 selected-all P flag i (x ∷ xs) h = go (flag i) (selected-all P flag (suc i) xs h.1)
   where
-    go : (b : Bool) → AllByRecursion (λ (y : Numbered). P y.step) (selected flag (suc i) xs) → AllByRecursion (λ (y : Numbered). P y.step) (cond b (record { number = i; step = x } ∷ selected flag (suc i) xs) (selected flag (suc i) xs))
+    go : (b : Bool) → AllByRecursion (λ (y : Numbered). P y.step) (selected flag (suc i) xs)
+        → AllByRecursion (λ (y : Numbered). P y.step) (cond b (record { number = i; step = x } ∷ selected flag (suc i) xs) (selected flag (suc i) xs))
     go true k = (h.0, k)
     go false k = k

@@ -24,12 +24,15 @@ use Rattle.article_write_laws.specs.BuiltSteps.{HasNoBinderNames, IsFreshGiven}
 -- No name is of two numbers
 digits-apart : (ds es r s : List ℕ) → list_all is_digit ds ≡ true → list_all is_digit es ≡ true → ds ++ 95 ∷ r ≡ es ++ 95 ∷ s → ds ≡ es
 digits-apart [] [] r s h k e = refl
-digits-apart [] (b ∷ es) r s h k e = absurd (let d = (and_parts (is_digit b) (list_all is_digit es) k).0 in let same : 95 ≡ b = cc in grind (arith, nat_tests, d, same))
-digits-apart (a ∷ ds) [] r s h k e = absurd (let d = (and_parts (is_digit a) (list_all is_digit ds) h).0 in let same : a ≡ 95 = cc in grind (arith, nat_tests, d, same))
+digits-apart [] (b ∷ es) r s h k e = absurd
+    (let d = (and_parts (is_digit b) (list_all is_digit es) k).0 in let same : 95 ≡ b = cc in grind (arith, nat_tests, d, same))
+digits-apart (a ∷ ds) [] r s h k e = absurd
+    (let d = (and_parts (is_digit a) (list_all is_digit ds) h).0 in let same : a ≡ 95 = cc in grind (arith, nat_tests, d, same))
 digits-apart (a ∷ ds) (b ∷ es) r s h k e =
     let first : a ≡ b = cc in
     let rest : ds ++ 95 ∷ r ≡ es ++ 95 ∷ s = cc in
-    ap₂ (λ x l. x ∷ l) first (digits-apart ds es r s (and_parts (is_digit a) (list_all is_digit ds) h).1 (and_parts (is_digit b) (list_all is_digit es) k).1 rest)
+    ap₂ (λ x l. x ∷ l) first
+    (digits-apart ds es r s (and_parts (is_digit a) (list_all is_digit ds) h).1 (and_parts (is_digit b) (list_all is_digit es) k).1 rest)
 
 front-of : (q : ℕ) (bytes : List ℕ) → starts_with nat_eq bytes (binder_front q) ≡ true → bytes ≡ binder_front q ++ drop (length (binder_front q)) bytes
 front-of q bytes e = (starts_is {E = nat_eq} Decides-eqb bytes (binder_front q) (starts_with nat_eq bytes (binder_front q)) refl).0 e
@@ -46,7 +49,8 @@ one-number p q (bytes ∷ []) hp hq e f =
     let both : 95 ∷ ((decimal p ++ 95 ∷ []) ++ r) ≡ 95 ∷ ((decimal q ++ 95 ∷ []) ++ s) = sym (front-of p bytes one.0) ∙ front-of q bytes two.0 in
     let rest : (decimal p ++ 95 ∷ []) ++ r ≡ (decimal q ++ 95 ∷ []) ++ s = cc in
     let plain : decimal p ++ 95 ∷ r ≡ decimal q ++ 95 ∷ s = sym (append_assoc (decimal p) (95 ∷ []) r) ∙ rest ∙ append_assoc (decimal q) (95 ∷ []) s in
-    decimal_injective p q hp hq (digits-apart (decimal p) (decimal q) r s (decimal-HasValue p (omega (arith, hp))).digits (decimal-HasValue q (omega (arith, hq))).digits plain)
+    decimal_injective p q hp hq
+    (digits-apart (decimal p) (decimal q) r s (decimal-HasValue p (omega (arith, hp))).digits (decimal-HasValue q (omega (arith, hq))).digits plain)
 
 -- The least number is free
 -- the names that are not of a number
@@ -101,7 +105,8 @@ at_most (suc more) q names = go (list_any (is_binder_name q) names) (at_most mor
 first-same : (p more q : ℕ) (names : List Name) → p < q → q + more < 2 ^ 64 → first_free more q (others p names) ≡ first_free more q names
 first-same p zero q names low small = refl
 first-same p (suc more) q names low small =
-    ap₂ (λ b k. cond b k q) (same-others p q names (omega (arith, low, small)) (omega (arith, small)) (λ e. absurd (omega (arith, e, low)))) (first-same p more (suc q) names (omega (arith, low)) (omega (arith, small)))
+    ap₂ (λ b k. cond b k q) (same-others p q names (omega (arith, low, small)) (omega (arith, small)) (λ e. absurd (omega (arith, e, low))))
+    (first-same p more (suc q) names (omega (arith, low)) (omega (arith, small)))
 
 is-free : (more q : ℕ) (names : List Name) → length names ≤ more → q + more < 2 ^ 64 → list_any (is_binder_name (first_free more q names)) names ≡ false
 is-free zero q [] long small = refl
@@ -119,7 +124,8 @@ is-free (suc more) q names long small = go (list_any (is_binder_name q) names) r
         let below = at_most more (suc q) names in
         let free = again (omega (arith, long, less)) in
         let same = first-same q more (suc q) names (omega arith) (omega (arith, small)) in
-        sym (same-others q k names (omega (arith, small)) (omega (arith, below, small)) (λ z. absurd (omega (arith, z, above)))) ∙ ap (λ j. list_any (is_binder_name j) (others q names)) (sym same) ∙ free
+        sym (same-others q k names (omega (arith, small)) (omega (arith, below, small)) (λ z. absurd (omega (arith, z, above))))
+        ∙ ap (λ j. list_any (is_binder_name j) (others q names)) (sym same) ∙ free
 
 -- So no variable that is written has such a name
 abbrev pub IsApart : ℕ → Variable → Type 0
@@ -137,23 +143,32 @@ name-in (w ∷ vs) v (inr h) = inr (name-in vs v h)
 
 all-apart : (q : ℕ) (vs : List Variable) → list_any (is_binder_name q) (distinct name_eq (map (λ v. v.0) vs)) ≡ false → AllByRecursion (IsApart q) vs
 all-apart q vs e =
-    All-each (IsApart q) vs (λ v h. none-in (is_binder_name q) (distinct name_eq (map (λ v. v.0) vs)) v.0 e (IsIn-distinct name_eq name_eq-Decides (map (λ v. v.0) vs) v.0 (name-in vs v h)))
+    All-each (IsApart q) vs
+    (λ v h. none-in (is_binder_name q) (distinct name_eq (map (λ v. v.0) vs)) v.0 e
+    (IsIn-distinct name_eq name_eq-Decides (map (λ v. v.0) vs) v.0 (name-in vs v h)))
 
 pub term-fresh : (q : ℕ) (t : Term) → AllByRecursion (IsApart q) (free_places t) → HasNoBinderName q t
 term-fresh q (Term.free n a) h = h.0
 term-fresh q (Term.bound k) h = tt
 term-fresh q (Term.constant n a) h = tt
-term-fresh q (Term.app f x) h = (term-fresh q f (All-left (IsApart q) (free_places f) (free_places x) h), term-fresh q x (All-right (IsApart q) (free_places f) (free_places x) h))
+term-fresh q (Term.app f x) h =
+    (term-fresh q f (All-left (IsApart q) (free_places f) (free_places x) h), term-fresh q x (All-right (IsApart q) (free_places f) (free_places x) h))
 term-fresh q (Term.lam a b) h = term-fresh q b h
 
 terms-fresh : (q : ℕ) (ts : List Term) → AllByRecursion (IsApart q) (flat_map free_places ts) → AllByRecursion (HasNoBinderName q) ts
 terms-fresh q [] h = tt
-terms-fresh q (t ∷ ts) h = (term-fresh q t (All-left (IsApart q) (free_places t) (flat_map free_places ts) h), terms-fresh q ts (All-right (IsApart q) (free_places t) (flat_map free_places ts) h))
+terms-fresh q (t ∷ ts) h = (
+  term-fresh q t (All-left (IsApart q) (free_places t) (flat_map free_places ts) h),
+  terms-fresh q ts (All-right (IsApart q) (free_places t) (flat_map free_places ts) h),
+)
 
-pairs-fresh : (q : ℕ) (ps : List (Variable × Term)) → AllByRecursion (IsApart q) (flat_map (λ p. p.0 ∷ free_places p.1) ps) → AllByRecursion (λ (p : Variable × Term). HasNoBinderName q p.1) ps
+pairs-fresh : (q : ℕ) (ps : List (Variable × Term)) → AllByRecursion (IsApart q) (flat_map (λ p. p.0 ∷ free_places p.1) ps)
+    → AllByRecursion (λ (p : Variable × Term). HasNoBinderName q p.1) ps
 pairs-fresh q [] h = tt
-pairs-fresh q (p ∷ ps) h =
-    (term-fresh q p.1 (All-left (IsApart q) (free_places p.1) (flat_map (λ p. p.0 ∷ free_places p.1) ps) h.1), pairs-fresh q ps (All-right (IsApart q) (free_places p.1) (flat_map (λ p. p.0 ∷ free_places p.1) ps) h.1))
+pairs-fresh q (p ∷ ps) h = (
+  term-fresh q p.1 (All-left (IsApart q) (free_places p.1) (flat_map (λ p. p.0 ∷ free_places p.1) ps) h.1),
+  pairs-fresh q ps (All-right (IsApart q) (free_places p.1) (flat_map (λ p. p.0 ∷ free_places p.1) ps) h.1),
+)
 
 sequent-fresh : (q : ℕ) (s : Sequent) → AllByRecursion (IsApart q) (flat_map free_places (terms_of s)) → HasNoBinderNames q s
 sequent-fresh q s h = let k = go s.hypotheses h in record { hypotheses = k.0; conclusion = k.1 }
@@ -175,16 +190,22 @@ given-fresh q (Parameters.constant n t) h = term-fresh q t h
 given-fresh q (Parameters.constants pairs) h = tt
 given-fresh q (Parameters.type_operator names version) h = tt
 
-steps-fresh : (q : ℕ) (ys : List Numbered) → AllByRecursion (IsApart q) (flat_map (λ x. step_variables x.step) ys) → AllByRecursion (λ (y : Numbered). IsFreshGiven q y.step.parameters) ys
+steps-fresh : (q : ℕ) (ys : List Numbered) → AllByRecursion (IsApart q) (flat_map (λ x. step_variables x.step) ys)
+    → AllByRecursion (λ (y : Numbered). IsFreshGiven q y.step.parameters) ys
 steps-fresh q [] h = tt
 steps-fresh q (y ∷ ys) h =
-    let own = All-left (IsApart q) (step_variables y.step) (flat_map (λ x. step_variables x.step) ys) h in
-    (given-fresh q y.step.parameters (All-left (IsApart q) (given_variables y.step.parameters) (flat_map free_places (terms_of y.step.sequent)) own), steps-fresh q ys (All-right (IsApart q) (step_variables y.step) (flat_map (λ x. step_variables x.step) ys) h))
+    let own = All-left (IsApart q) (step_variables y.step) (flat_map (λ x. step_variables x.step) ys) h in (
+      given-fresh q y.step.parameters (All-left (IsApart q) (given_variables y.step.parameters) (flat_map free_places (terms_of y.step.sequent)) own),
+      steps-fresh q ys (All-right (IsApart q) (step_variables y.step) (flat_map (λ x. step_variables x.step) ys) h),
+    )
 
 -- The number of the binders
-pub binder_number-fresh : (ys : List Numbered) → length (variable_names ys) < 2 ^ 64 → AllByRecursion (λ (y : Numbered). IsFreshGiven (binder_number ys) y.step.parameters) ys
+pub binder_number-fresh : (ys : List Numbered) → length (variable_names ys) < 2 ^ 64
+    → AllByRecursion (λ (y : Numbered). IsFreshGiven (binder_number ys) y.step.parameters) ys
 binder_number-fresh ys small =
-    steps-fresh (binder_number ys) ys (all-apart (binder_number ys) (flat_map (λ x. step_variables x.step) ys) (is-free (length (variable_names ys)) 0 (variable_names ys) (omega arith) (omega (arith, small))))
+    steps-fresh (binder_number ys) ys
+    (all-apart (binder_number ys) (flat_map (λ x. step_variables x.step) ys)
+    (is-free (length (variable_names ys)) 0 (variable_names ys) (omega arith) (omega (arith, small))))
 
 pub binder_number-small : (ys : List Numbered) → length (variable_names ys) < 2 ^ 64 → binder_number ys < 2 ^ 64
 binder_number-small ys small = let h = at_most (length (variable_names ys)) 0 (variable_names ys) in omega (arith, h, small)

@@ -54,7 +54,8 @@ given_stack (Parameters.substitution types terms) stack = pair_object (list_obje
 given_stack (Parameters.sequent s) stack = Object.term s.conclusion ∷ list_object Object.term s.hypotheses ∷ stack
 given_stack (Parameters.constant n t) stack = Object.term t ∷ Object.name n ∷ stack
 given_stack (Parameters.constants pairs) stack = list_object constant_pair pairs ∷ stack
-given_stack (Parameters.type_operator names version) stack = list_object Object.name names.variables ∷ Object.name names.representation ∷ Object.name names.abstraction ∷ Object.name names.operator ∷ stack
+given_stack (Parameters.type_operator names version) stack =
+    list_object Object.name names.variables ∷ Object.name names.representation ∷ Object.name names.abstraction ∷ Object.name names.operator ∷ stack
 
 -- what can be written
 pub record IsTermPair (c : Scene) (q : ℕ) (p : Variable × Term) : Type 0 where
@@ -94,12 +95,14 @@ given-writes c q Parameters.nothing h d made stack r = wrote-none r
 given-writes c q (Parameters.term t) h d made stack r = term-writes c q t h d made stack r
 given-writes c q (Parameters.variable v) h d made stack r = valued-writes c v h d made stack r
 given-writes c q (Parameters.substitution types terms) h d made stack r =
-    writes-pair c (write_list (λ p. write_pair (say_name p.0) (write_type p.1)) types) (write_list (λ p. write_pair (write_variable p.0) (write_term q p.1)) terms)
+    writes-pair c (write_list (λ p. write_pair (say_name p.0) (write_type p.1)) types)
+    (write_list (λ p. write_pair (write_variable p.0) (write_term q p.1)) terms)
     (list_object type_pair types) (list_object term_pair terms)
     (writes-list c (λ p. write_pair (say_name p.0) (write_type p.1)) type_pair (λ (p : Name × HolType). IsTypeOperand c p.1)
     (λ p k. writes-pair c (say_name p.0) (write_type p.1) (Object.name p.0) (Object.type p.1) (name-writes c p.0) (typed-writes c p.1 k)) types h.0)
     (writes-list c (λ p. write_pair (write_variable p.0) (write_term q p.1)) term_pair (IsTermPair c q)
-    (λ p k. writes-pair c (write_variable p.0) (write_term q p.1) (Object.variable p.0) (Object.term p.1) (valued-writes c p.0 k.variable) (term-writes c q p.1 k.term)) terms h.1)
+    (λ p k. writes-pair c (write_variable p.0) (write_term q p.1) (Object.variable p.0) (Object.term p.1) (valued-writes c p.0 k.variable)
+    (term-writes c q p.1 k.term)) terms h.1)
     d made stack r
 given-writes c q (Parameters.sequent s) h d made stack r = sequent-writes c q s h d made stack r
 given-writes c q (Parameters.constant n t) h d made stack r =
@@ -110,10 +113,13 @@ given-writes c q (Parameters.constants pairs) h d made stack r =
     d made stack r
 given-writes c q (Parameters.type_operator names version) h d made stack r =
     wrote-then
-    (wrote-then (wrote-then (name-writes c names.operator d made stack r) (λ m z. name-writes c names.abstraction (say_name names.operator d) m (Object.name names.operator ∷ stack) z))
-    (λ m z. name-writes c names.representation (say_name names.abstraction (say_name names.operator d)) m (Object.name names.abstraction ∷ Object.name names.operator ∷ stack) z))
+    (wrote-then (wrote-then (name-writes c names.operator d made stack r)
+    (λ m z. name-writes c names.abstraction (say_name names.operator d) m (Object.name names.operator ∷ stack) z))
+    (λ m z. name-writes c names.representation (say_name names.abstraction (say_name names.operator d)) m
+    (Object.name names.abstraction ∷ Object.name names.operator ∷ stack) z))
     (λ m z. writes-list c say_name Object.name (λ n. Unit {0}) (λ n k. name-writes c n) names.variables (all-unit names.variables)
-    (say_name names.representation (say_name names.abstraction (say_name names.operator d))) m (Object.name names.representation ∷ Object.name names.abstraction ∷ Object.name names.operator ∷ stack) z)
+    (say_name names.representation (say_name names.abstraction (say_name names.operator d))) m
+    (Object.name names.representation ∷ Object.name names.abstraction ∷ Object.name names.operator ∷ stack) z)
   where
     all-unit : (ns : List Name) → AllByRecursion (λ (n : Name). Unit {0}) ns
     all-unit [] = tt
@@ -131,7 +137,8 @@ constants-read pairs = each-listing (pair_of as_name as_variable) constant_pair 
 
 pub substitution-read : (types : TypePairs) (terms : TermPairs)
     → as_substitution (pair_object (list_object type_pair types) (list_object term_pair terms)) ≡ Ok (types, terms)
-substitution-read types terms = rw (each-listing (pair_of as_name as_type) type_pair (λ p. refl) types, each-listing (pair_of as_variable as_term) term_pair (λ p. refl) terms) refl
+substitution-read types terms = rw
+    (each-listing (pair_of as_name as_type) type_pair (λ p. refl) types, each-listing (pair_of as_variable as_term) term_pair (λ p. refl) terms) refl
 
 -- Premises
 -- a step's theorem has a key
@@ -159,7 +166,8 @@ theorems c is = map (λ i. Object.theorem (c.number i)) is
 premise-writes : (c : Scene) (i : ℕ) (d : Draft) (made : List Made) (stack : List Object) → IsKept d.kept i → Ready c d made stack
     → Wrote c d.kept made (write_premise i d) (Object.theorem (c.number i) ∷ stack)
 premise-writes c i d made stack h r =
-    subst (λ o. Wrote c d.kept made (refer (unwrap_or o 0) d) (Object.theorem (c.number i) ∷ stack)) (sym h.at) (wrote-referred h.key (Kept.theorem i) r (key-place (Kept.theorem i) d h.key h.at))
+    subst (λ o. Wrote c d.kept made (refer (unwrap_or o 0) d) (Object.theorem (c.number i) ∷ stack)) (sym h.at)
+    (wrote-referred h.key (Kept.theorem i) r (key-place (Kept.theorem i) d h.key h.at))
 
 pub premises-write : (c : Scene) (is : List ℕ) (d : Draft) (made : List Made) (stack : List Object) → AllByRecursion (IsKept d.kept) is → Ready c d made stack
     → Wrote c d.kept made (write_each write_premise is d) (pushed (theorems c is) stack)

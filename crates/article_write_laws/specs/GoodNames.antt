@@ -28,7 +28,8 @@ plain-unescaped b p = grind (arith, nat_tests, p.no_quote, p.no_dot, p.no_backsl
 component-shortest : {text bytes : List ℕ} → IsComponent text bytes → length (component_text bytes) ≤ length text
 component-shortest nothing = omega arith
 component-shortest (plain {b = b} {text = text} {bytes = bytes} p c) =
-    let e : length (component_text (b ∷ bytes)) ≡ suc (length (component_text bytes)) = ap (λ x. length (cond x (backslash ∷ b ∷ component_text bytes) (b ∷ component_text bytes))) (plain-unescaped b p) in
+    let e : length (component_text (b ∷ bytes)) ≡ suc (length (component_text bytes)) =
+    ap (λ x. length (cond x (backslash ∷ b ∷ component_text bytes) (b ∷ component_text bytes))) (plain-unescaped b p) in
     omega (arith, e, component-shortest c)
 component-shortest (escaped {b = b} {text = text} {bytes = bytes} c) = go (is_escaped b) (component-shortest c)
   where
@@ -51,7 +52,8 @@ record IsWritten (text : List ℕ) (name : Name) : Type 0 where
   lines : AllByRecursion IsLine name
 
 components-written : {text : List ℕ} {name : Name} → AreComponents text name → IsLine text → IsWritten text name
-components-written (one {bytes = bytes} c) h = record { front = bytes; rest = []; some = refl; short = component-shortest c; lines = (component-line c h, tt {0}) }
+components-written (one {bytes = bytes} c) h = record
+    { front = bytes; rest = []; some = refl; short = component-shortest c; lines = (component-line c h, tt {0}) }
 components-written (dotted {text = text} {more = more} {bytes = bytes} {name = name} c e rest) h =
     let k = subst IsLine e h in
     let w = components-written rest (All-right (λ b. b ≢ newline) text (dot ∷ more) k).1 in
@@ -60,7 +62,8 @@ components-written (dotted {text = text} {more = more} {bytes = bytes} {name = n
       rest = name;
       some = refl;
       short = (let s : length (components_text (bytes ∷ name)) ≡ length (component_text bytes) + suc (length (components_text name)) =
-          ap (λ n. length (components_text (bytes ∷ n))) w.some ∙ length-append (component_text bytes) (dot ∷ components_text (w.front ∷ w.rest)) ∙ ap (λ n. length (component_text bytes) + suc (length (components_text n))) (sym w.some) in
+          ap (λ n. length (components_text (bytes ∷ n))) w.some ∙ length-append (component_text bytes) (dot ∷ components_text (w.front ∷ w.rest))
+          ∙ ap (λ n. length (component_text bytes) + suc (length (components_text n))) (sym w.some) in
           let l = ap length e ∙ length-append text (dot ∷ more) in
           omega (arith, s, l, component-shortest c, w.short));
       lines = (component-line c (All-left (λ b. b ≢ newline) text (dot ∷ more) k), w.lines);
@@ -129,7 +132,8 @@ item_content-good line h s = by_number (number_of line)
     by_word None = tt
     by_word (Some w) = tt
 
-    by_name : (o : Option Name) → name_of line ≡ o → IsGoodContent (unwrap_or (option_or (option_map (λ name. command (item.Name name)) o) (as_word line)) (faulty kind.BadLine))
+    by_name : (o : Option Name) → name_of line ≡ o
+        → IsGoodContent (unwrap_or (option_or (option_map (λ name. command (item.Name name)) o) (as_word line)) (faulty kind.BadLine))
     by_name None e = by_word (word_of line)
     by_name (Some n) e = line-name line n h s e
 
@@ -169,6 +173,7 @@ pub lines-good : (text : List ℕ) (commands : List Command) (end : End) → Lin
 lines-good text commands end (last_skipped {line = line} {n = n} {o = o} l e) h = (opens-good 1 0 text commands n o line l).0
 lines-good text commands end (last_gives {line = line} {commands = cs} {n = n} {o = o} {i = i} l e all) h =
     let front = opens-good 1 0 text cs n o line l in
-    subst AreGoodCommands (sym all) (All-append (λ (c : Command). IsGoodItem c.item) cs (command_at n i ∷ []) front.0 (content-good line i front.1.0 front.1.1 e, tt {0}))
+    subst AreGoodCommands (sym all)
+    (All-append (λ (c : Command). IsGoodItem c.item) cs (command_at n i ∷ []) front.0 (content-good line i front.1.0 front.1.1 e, tt {0}))
 lines-good text commands end (last_faults l e) h = absurd h
 lines-good text commands end (stops l) h = absurd h

@@ -115,8 +115,14 @@ ArePairs p = AllByRecursion (IsTypePair good_parts) p.0 × AllByRecursion (IsTer
 subst-good : (made : List Made) (p : TypePairs × TermPairs) (i : ℕ) (x : Step) → ArePairs p → subst_step made p.0 p.1 i ≡ Ok x → InfersGood x
 subst-good made p i x h e =
     inferred _ x (passed (demand (list_all (λ (q : Variable × Term). is_of_type q.0.1 q.1) p.1) BadSubst) _ x e).2 refl (record {
-      built = (All-weaker (IsTypePair good_parts) (λ q. TypeWithin q.1) (λ q h. h.1.within) p.0 h.0, All-weaker (IsTermPair good_parts) IsBuiltPair (λ q h. record { variable = h.0.within; term = h.1.built }) p.1 h.1);
-      named = (All-weaker (IsTypePair good_parts) _ (λ q h. (h.0, h.1.named)) p.0 h.0, All-weaker (IsTermPair good_parts) _ (λ q h. (h.0.named, h.1.named)) p.1 h.1);
+      built = (
+        All-weaker (IsTypePair good_parts) (λ q. TypeWithin q.1) (λ q h. h.1.within) p.0 h.0,
+        All-weaker (IsTermPair good_parts) IsBuiltPair (λ q h. record { variable = h.0.within; term = h.1.built }) p.1 h.1,
+      );
+      named = (
+        All-weaker (IsTypePair good_parts) _ (λ q h. (h.0, h.1.named)) p.0 h.0,
+        All-weaker (IsTermPair good_parts) _ (λ q h. (h.0.named, h.1.named)) p.1 h.1,
+      );
     })
 
 -- a word that pops one operand, or two, and concludes a step that infers
@@ -165,7 +171,8 @@ module _ (s : State) (objects : AreGoodObjects s.stack) (g : IsTold s) where
   rule-told w h = absurd h
 
 -- Definitions: a step that is concluded is the one that the rule makes
-concluded-as : (s t : State) (x y : Step) → ◌≡◌ {A = Result Step Kind} (Ok x) (Ok y) → conclude s y ≡ Ok t → ◌≡◌ {A = Result State Kind} (Ok (with_theorem s x)) (Ok t)
+concluded-as : (s t : State) (x y : Step) → ◌≡◌ {A = Result Step Kind} (Ok x) (Ok y) → conclude s y ≡ Ok t
+    → ◌≡◌ {A = Result State Kind} (Ok (with_theorem s x)) (Ok t)
 concluded-as s t x y same e =
     subst (λ z. ◌≡◌ {A = Result State Kind} (Ok (with_theorem s z)) (Ok t)) (sym (the_step x y same)) (passed (sequent_in_limits y.sequent) _ t e).2
 

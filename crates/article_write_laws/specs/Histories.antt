@@ -44,13 +44,16 @@ pub data History : List Made → List ℕ → List ℕ → Type 0 where
       → whole ≡ made ++ Made.step (restatement i s) ∷ [] → all ≡ ex ++ next made ∷ [] → History whole ax all
   constant : {made whole : List Made} {ax ex : List ℕ} (n : Name) (t : Term) (a : HolType) → History made ax ex → type_of t ≡ Some a
       → IsGood (Parameters.constant n t)
-      → whole ≡ (made ++ Made.symbol (defined (Definition.constant n t)) ∷ []) ++ Made.step (step_by by_rule.DefineConst [] (Parameters.constant n t) (derived [] (equation a (Term.constant n a) t))) ∷ [] → History whole ax ex
+      → whole ≡ (made ++ Made.symbol (defined (Definition.constant n t)) ∷ [])
+      ++ Made.step (step_by by_rule.DefineConst [] (Parameters.constant n t) (derived [] (equation a (Term.constant n a) t))) ∷ [] → History whole ax ex
   constants : {made whole : List Made} {ax ex : List ℕ} (i : ℕ) (pairs : ConstantPairs) → History made ax ex
       → list_any (is_taken_constant (symbols_of made)) (names_of pairs) ≡ false
       → ParametersTaken (symbols_of made) (rule.constants pairs) → i < next made → IsGood (Parameters.constants pairs)
       → whole ≡ (made ++ map Made.symbol (map defined (definitions_in pairs (sequent_at made i).hypotheses)))
-      ++ Made.step (step_by by_rule.DefineConstList (i ∷ []) (rule.constants pairs) (derived [] (sub [] (constants_put pairs) (sequent_at made i).conclusion))) ∷ [] → History whole ax ex
+      ++ Made.step (step_by by_rule.DefineConstList (i ∷ []) (rule.constants pairs) (derived [] (sub [] (constants_put pairs) (sequent_at made i).conclusion)))
+      ∷ [] → History whole ax ex
   type : {made whole : List Made} {ax ex : List ℕ} (i : ℕ) (names : TypeNames) (c : HolType) (f : Term) (version : Version) → History made ax ex → i < next made
       → IsGood (Parameters.type_operator names version)
-      → whole ≡ ((made ++ Made.type_definition names c f i ∷ []) ++ Made.step (step_by by_rule.FirstLaw (i ∷ []) (rule.type_operator names version) (first_law_of version names c)) ∷ [])
+      → whole ≡ ((made ++ Made.type_definition names c f i ∷ [])
+      ++ Made.step (step_by by_rule.FirstLaw (i ∷ []) (rule.type_operator names version) (first_law_of version names c)) ∷ [])
       ++ Made.step (step_by by_rule.SecondLaw (i ∷ []) (rule.type_operator names version) (second_law_of version names c f)) ∷ [] → History whole ax ex

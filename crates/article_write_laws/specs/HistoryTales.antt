@@ -59,29 +59,41 @@ not-false false e = refl
 
 -- the exports before a place are below it
 longer : (made whole more : List Made) → whole ≡ made ++ more → next made ≤ next whole
-longer made whole more e = let l : next whole ≡ next made + length (steps_of more) = ap length (ap steps_of e ∙ steps_of-append made more) ∙ length-append (steps_of made) (steps_of more) in omega (arith, l)
+longer made whole more e = let l : next whole ≡ next made + length (steps_of more) =
+    ap length (ap steps_of e ∙ steps_of-append made more) ∙ length-append (steps_of made) (steps_of more) in omega (arith, l)
 
 rise : (m n : ℕ) → m ≤ n → (is : List ℕ) → AllByRecursion (λ i. i < m) is → AllByRecursion (λ i. i < n) is
 rise m n le is h = All-weaker (λ i. i < m) (λ i. i < n) (λ i k. omega (arith, le, k)) is h
 
 exports-below : {made : List Made} {ax ex : List ℕ} → History made ax ex → AllByRecursion (λ i. i < next made) ex
 exports-below histories.History.empty = tt
-exports-below (histories.History.input {made = made} {whole = whole} {ex = ex} x h i is) = rise (next made) (next whole) (longer made whole _ is) ex (exports-below h)
-exports-below (histories.History.inferred {made = made} {whole = whole} {ex = ex} x h k g is) = rise (next made) (next whole) (longer made whole _ is) ex (exports-below h)
-exports-below (histories.History.assumed {made = made} {whole = whole} {ex = ex} s h n g is all_is) = rise (next made) (next whole) (longer made whole _ is) ex (exports-below h)
-exports-below (histories.History.met {made = made} {whole = whole} {ex = ex} s i h o g is) = rise (next made) (next whole) (longer made whole _ is) ex (exports-below h)
-exports-below (histories.History.met_export {made = made} {whole = whole} {ex = ex} s i h o g is) = rise (next made) (next whole) (longer made whole _ is) ex (exports-below h)
+exports-below (histories.History.input {made = made} {whole = whole} {ex = ex} x h i is) =
+    rise (next made) (next whole) (longer made whole _ is) ex (exports-below h)
+exports-below (histories.History.inferred {made = made} {whole = whole} {ex = ex} x h k g is) =
+    rise (next made) (next whole) (longer made whole _ is) ex (exports-below h)
+exports-below (histories.History.assumed {made = made} {whole = whole} {ex = ex} s h n g is all_is) =
+    rise (next made) (next whole) (longer made whole _ is) ex (exports-below h)
+exports-below (histories.History.met {made = made} {whole = whole} {ex = ex} s i h o g is) =
+    rise (next made) (next whole) (longer made whole _ is) ex (exports-below h)
+exports-below (histories.History.met_export {made = made} {whole = whole} {ex = ex} s i h o g is) =
+    rise (next made) (next whole) (longer made whole _ is) ex (exports-below h)
 exports-below (histories.History.exported {made = made} {whole = whole} {ex = ex} s i h n g is all_is) =
-    let l : next whole ≡ next made + 1 = ap length (ap steps_of is ∙ steps_of-push made (restatement i s)) ∙ length-append (steps_of made) (restatement i s ∷ []) in
-    subst (AllByRecursion (λ i. i < next whole)) (sym all_is) (All-append (λ i. i < next whole) ex (next made ∷ []) (rise (next made) (next whole) (omega (arith, l)) ex (exports-below h)) (omega (arith, l), tt {0}))
-exports-below (histories.History.constant {made = made} {whole = whole} {ex = ex} n t a h k g is) = rise (next made) (next whole) (longer made whole _ (is ∙ append_assoc made _ _)) ex (exports-below h)
-exports-below (histories.History.constants {made = made} {whole = whole} {ex = ex} i pairs h n k l g is) = rise (next made) (next whole) (longer made whole _ (is ∙ append_assoc made _ _)) ex (exports-below h)
+    let l : next whole ≡ next made + 1 = ap length (ap steps_of is ∙ steps_of-push made (restatement i s)) ∙ length-append (steps_of made)
+    (restatement i s ∷ []) in
+    subst (AllByRecursion (λ i. i < next whole)) (sym all_is)
+    (All-append (λ i. i < next whole) ex (next made ∷ []) (rise (next made) (next whole) (omega (arith, l)) ex (exports-below h))
+    (omega (arith, l), tt {0}))
+exports-below (histories.History.constant {made = made} {whole = whole} {ex = ex} n t a h k g is) =
+    rise (next made) (next whole) (longer made whole _ (is ∙ append_assoc made _ _)) ex (exports-below h)
+exports-below (histories.History.constants {made = made} {whole = whole} {ex = ex} i pairs h n k l g is) =
+    rise (next made) (next whole) (longer made whole _ (is ∙ append_assoc made _ _)) ex (exports-below h)
 exports-below (histories.History.type {made = made} {whole = whole} {ex = ex} i names c f version h l g is) =
     let x1 = step_by by_rule.FirstLaw (i ∷ []) (rule.type_operator names version) (first_law_of version names c) in
     let x2 = step_by by_rule.SecondLaw (i ∷ []) (rule.type_operator names version) (second_law_of version names c f) in
     let one = made ++ Made.type_definition names c f i ∷ [] in
     rise (next made) (next whole) (longer made whole (Made.type_definition names c f i ∷ Made.step x1 ∷ Made.step x2 ∷ [])
-    (is ∙ append_assoc one (Made.step x1 ∷ []) (Made.step x2 ∷ []) ∙ append_assoc made (Made.type_definition names c f i ∷ []) (Made.step x1 ∷ Made.step x2 ∷ []))) ex (exports-below h)
+    (is ∙ append_assoc one (Made.step x1 ∷ []) (Made.step x2 ∷ [])
+    ∙ append_assoc made (Made.type_definition names c f i ∷ []) (Made.step x1 ∷ Made.step x2 ∷ []))) ex (exports-below h)
 
 -- What the rules tell
 recorded-sequent : (ss : List Sequent) (g : Parameters) (s : Sequent) → Rule by_rule.Axiom ss g s → IsSequent s
@@ -92,7 +104,8 @@ record Restated (one s : Sequent) : Type 0 where
   weaker : IsTrue (within one s)
 
 restated : (ss : List Sequent) (g : Parameters) (s one : Sequent) → Rule by_rule.Restate ss g s → one ∷ [] ≡ ss → Restated one s
-restated ss g s one (Rule.restate {one = two} h w) e = let same : one ≡ two = cc in record { sequent = h; weaker = subst (λ z. IsTrue (within z s)) (sym same) w }
+restated ss g s one (Rule.restate {one = two} h w) e = let same : one ≡ two =
+    cc in record { sequent = h; weaker = subst (λ z. IsTrue (within z s)) (sym same) w }
 
 constant-defining : (symbols : List Symbol) (n : _) (t : Term) (a : _) → type_of t ≡ Some a → Takes symbols (defined (Definition.constant n t)) → IsDefining a t
 constant-defining symbols n t a e (Takes.constant {a = b} new h) = let same : b ≡ a = same_Some _ _ (sym h.typed ∙ e) in subst (λ c. IsDefining c t) same h
@@ -105,7 +118,11 @@ list-rule : (ss : List Sequent) (pairs : ConstantPairs) (s one : Sequent) → Ru
     → Listed pairs one
 list-rule ss pairs s one (Rule.define_const_list {one = two} h l is) e =
     let same : one ≡ two = cc in
-    record { defining = subst (λ z. AllByRecursion (λ e. IsDefining e.0.1 e.1) (defining_equations pairs z.hypotheses)) (sym same) h; is_list = subst (λ z. IsTrue (is_definition_list pairs z)) (sym same) l }
+    record {
+      defining = subst (λ z. AllByRecursion (λ e. IsDefining e.0.1 e.1) (defining_equations pairs z.hypotheses)) (sym same) h;
+      is_list =
+          subst (λ z. IsTrue (is_definition_list pairs z)) (sym same) l;
+    }
 
 type-new : (symbols : List Symbol) (names : TypeNames) (c : _) (f : Term) → Takes symbols (defined (Definition.type_operator names c f)) → AreNew symbols names
 type-new symbols names c f (Takes.type_operator new typed closed vars) = new
@@ -130,14 +147,16 @@ turned-mentions names c v =
     let n = Need.constant names.representation in
     let made = abstracted names c v in
     let eq = Term.constant equality_name (equality_type c) in
-    app-left (Term.app eq (represented names c made)) v n (app-right eq (represented names c made) n (app-left (Term.constant names.representation (representation_type names c)) made n (inl refl)))
+    app-left (Term.app eq (represented names c made)) v n
+    (app-right eq (represented names c made) n (app-left (Term.constant names.representation (representation_type names c)) made n (inl refl)))
 
 law-mentions : (version : Version) (names : TypeNames) (c : HolType) (f : Term)
     → IsIn (term_mentions (second_law_of version names c f).conclusion) (Need.constant names.representation)
 unfolding turned
 law-mentions Five names c f =
     let v = old_variable c in
-    app-right (Term.app (Term.constant equality_name (equality_type bool)) (Term.app f v)) (turned names c v) (Need.constant names.representation) (turned-mentions names c v)
+    app-right (Term.app (Term.constant equality_name (equality_type bool)) (Term.app f v)) (turned names c v) (Need.constant names.representation)
+    (turned-mentions names c v)
 law-mentions Six names c f =
     let n = Need.constant names.representation in
     let v = Term.bound 0 in
@@ -146,15 +165,18 @@ law-mentions Six names c f =
     app-left (Term.app outer left) (Term.lam c (Term.app f v)) n (app-right outer left n (lam-body c (turned names c v) n (turned-mentions names c v)))
 
 mentions-representation : (version : Version) (names : TypeNames) (c : HolType) (f : Term) (i : ℕ)
-    → IsIn (needs (step_by by_rule.SecondLaw (i ∷ []) (rule.type_operator names version) (second_law_of version names c f))) (Need.constant names.representation)
+    → IsIn (needs (step_by by_rule.SecondLaw (i ∷ []) (rule.type_operator names version) (second_law_of version names c f)))
+    (Need.constant names.representation)
 mentions-representation version names c f i =
     let n = Need.constant names.representation in
     let law = second_law_of version names c f in
     let says : IsIn (sequent_mentions law) n = no_hypotheses version in
-    IsIn-right (Need.step i ∷ []) (given_mentions (rule.type_operator names version) ++ sequent_mentions law) n (IsIn-right (given_mentions (rule.type_operator names version)) (sequent_mentions law) n says)
+    IsIn-right (Need.step i ∷ []) (given_mentions (rule.type_operator names version) ++ sequent_mentions law) n
+    (IsIn-right (given_mentions (rule.type_operator names version)) (sequent_mentions law) n says)
   where
     no_hypotheses : (v : Version) → IsIn (sequent_mentions (second_law_of v names c f)) (Need.constant names.representation)
-    no_hypotheses Five = IsIn-left (term_mentions (second_law_of Five names c f).conclusion) [] (Need.constant names.representation) (law-mentions Five names c f)
+    no_hypotheses Five = IsIn-left (term_mentions (second_law_of Five names c f).conclusion) [] (Need.constant names.representation)
+        (law-mentions Five names c f)
     no_hypotheses Six = IsIn-left (term_mentions (second_law_of Six names c f).conclusion) [] (Need.constant names.representation) (law-mentions Six names c f)
 
 -- the same version
@@ -168,9 +190,11 @@ version-same Six Five e = absurd (cc)
 says-earlier : (made more : List Made) (i : ℕ) → i < next made → sequent_at (made ++ more) i ≡ sequent_at made i
 says-earlier made more i low =
     let x = step-at (steps_of made) i low in
-    sequent-of-step (made ++ more) i x.0 (ap (λ l. slice_get l i) (steps_of-append made more) ∙ slice_get-append (steps_of made) (steps_of more) i x.0 x.1) ∙ sym (sequent-of-step made i x.0 x.1)
+    sequent-of-step (made ++ more) i x.0 (ap (λ l. slice_get l i) (steps_of-append made more) ∙ slice_get-append (steps_of made) (steps_of more) i x.0 x.1)
+    ∙ sym (sequent-of-step made i x.0 x.1)
 
-module _ (version : Version) (run : Accepted) (proof : IsProof run.made) (over : IsOver run.made) (fitting : fits version run ≡ true) (few : length (variable_names (reached_steps run)) < 2 ^ 64) where
+module _ (version : Version) (run : Accepted) (proof : IsProof run.made) (over : IsOver run.made) (fitting : fits version run ≡ true)
+    (few : length (variable_names (reached_steps run)) < 2 ^ 64) where
   q : ℕ
   q = binder_number (reached_steps run)
 
@@ -181,13 +205,16 @@ module _ (version : Version) (run : Accepted) (proof : IsProof run.made) (over :
   flag = is_told run
 
   -- a told step is one of the reached
-  reached-at : (P : Numbered → Type 0) → AllByRecursion P (reached_steps run) → (n : ℕ) (x : Step) → slice_get steps n ≡ Some x → flag n ≡ true → P (record { number = n; step = x })
+  reached-at : (P : Numbered → Type 0) → AllByRecursion P (reached_steps run) → (n : ℕ) (x : Step) → slice_get steps n ≡ Some x → flag n ≡ true
+      → P (record { number = n; step = x })
   reached-at P h n x at on =
       let r = place-of flag steps n x at on in
-      All-get P (selected flag 0 steps) r.0 (record { number = n; step = x }) (subst (AllByRecursion P) (reached-selected (map Need.step run.exports) 0 steps) h) r.1
+      All-get P (selected flag 0 steps) r.0 (record { number = n; step = x })
+      (subst (AllByRecursion P) (reached-selected (map Need.step run.exports) 0 steps) h) r.1
 
   fresh-at : (n : ℕ) (x : Step) → slice_get steps n ≡ Some x → flag n ≡ true → IsFreshGiven (binder_number (reached_steps run)) x.parameters
-  fresh-at n x at on = reached-at (λ (y : Numbered). IsFreshGiven (binder_number (reached_steps run)) y.step.parameters) (binder_number-fresh (reached_steps run) few) n x at on
+  fresh-at n x at on = reached-at (λ (y : Numbered). IsFreshGiven (binder_number (reached_steps run)) y.step.parameters)
+      (binder_number-fresh (reached_steps run) few) n x at on
 
   -- a told step fits
   fits-at : (n : ℕ) (x : Step) → slice_get steps n ≡ Some x → flag n ≡ true → (meets_none run.exports x ≡ true) × (is_of_version version x.parameters ≡ true)
@@ -199,7 +226,8 @@ module _ (version : Version) (run : Accepted) (proof : IsProof run.made) (over :
   inside-at : (n : ℕ) (x : Step) → slice_get steps n ≡ Some x → flag n ≡ true → AllByRecursion (λ i. is_export run i ≡ false) x.premises
   inside-at n x at on =
       let h = (fits-at n x at on).0 in
-      All-weaker (λ i. not (is_export run i) ≡ true) (λ i. is_export run i ≡ false) (λ i k. not-false (is_export run i) k) x.premises (list_all-All (λ i. not (is_export run i)) x.premises h)
+      All-weaker (λ i. not (is_export run i) ≡ true) (λ i. is_export run i ≡ false) (λ i k. not-false (is_export run i) k) x.premises
+      (list_all-All (λ i. not (is_export run i)) x.premises h)
 
   in-premises : (is : List ℕ) (p : ℕ) → IsIn is p → IsIn (map Need.step is) (Need.step p)
   in-premises [] p h = absurd h
@@ -213,7 +241,8 @@ module _ (version : Version) (run : Accepted) (proof : IsProof run.made) (over :
       let inside = slice_get_within steps n x at in
       let y = step-at steps p (omega (arith, low, inside)) in
       ap flag (sym zero_p)
-      ∙ need-flagged (map Need.step run.exports) 0 steps p n y.0 x (Need.step p) y.1 at low (ap flag zero_n ∙ on) (IsIn-left (map Need.step x.premises) _ (Need.step p) (in-premises x.premises p i)) (inl (ap Need.step (sym zero_p)))
+      ∙ need-flagged (map Need.step run.exports) 0 steps p n y.0 x (Need.step p) y.1 at low (ap flag zero_n ∙ on)
+      (IsIn-left (map Need.step x.premises) _ (Need.step p) (in-premises x.premises p i)) (inl (ap Need.step (sym zero_p)))
 
   told : (made : List Made) (x : Step) → slice_get steps (next made) ≡ Some x → flag (next made) ≡ true → AllByRecursion (λ i. i < next made) x.premises
       → AllByRecursion (IsTold (binder_number (reached_steps run)) version flag (is_export run) made) x.premises
@@ -233,7 +262,10 @@ module _ (version : Version) (run : Accepted) (proof : IsProof run.made) (over :
   no-export : (n : ℕ) (ex em : List ℕ) → run.exports ≡ ex ++ em → AllByRecursion (λ i. i < n) ex → AllByRecursion (λ i. suc n ≤ i) em → is_export run n ≡ false
   no-export n ex em is below above =
       ap (list_any (λ e. n == e)) is
-      ∙ no-member n (ex ++ em) (λ i k. let h = All-at (λ j. (n == j) ≡ false) (ex ++ em) i (All-append (λ j. (n == j) ≡ false) ex em (All-weaker (λ i. i < n) (λ j. (n == j) ≡ false) (λ j l. grind (arith, nat_tests, l)) ex below) (All-weaker (λ i. suc n ≤ i) (λ j. (n == j) ≡ false) (λ j l. grind (arith, nat_tests, l)) em above)) k in h)
+      ∙ no-member n (ex ++ em) (λ i k. let h =
+      All-at (λ j. (n == j) ≡ false) (ex ++ em) i
+      (All-append (λ j. (n == j) ≡ false) ex em (All-weaker (λ i. i < n) (λ j. (n == j) ≡ false) (λ j l. grind (arith, nat_tests, l)) ex below)
+      (All-weaker (λ i. suc n ≤ i) (λ j. (n == j) ≡ false) (λ j l. grind (arith, nat_tests, l)) em above)) k in h)
 
   member-is : (n : ℕ) (is : List ℕ) → IsIn is n → list_any (λ e. n == e) is ≡ true
   member-is n [] h = absurd h
@@ -248,7 +280,8 @@ module _ (version : Version) (run : Accepted) (proof : IsProof run.made) (over :
   export-flagged : (n : ℕ) (x : Step) → slice_get steps n ≡ Some x → IsIn run.exports n → flag n ≡ true
   export-flagged n x at i =
       let zero_n : 0 + n ≡ n = omega arith in
-      ap flag (sym zero_n) ∙ root-flagged (map Need.step run.exports) 0 steps n x at (subst (λ k. IsIn (map Need.step run.exports) (Need.step k)) (sym zero_n) (in-premises run.exports n i))
+      ap flag (sym zero_n) ∙ root-flagged (map Need.step run.exports) 0 steps n x at
+      (subst (λ k. IsIn (map Need.step run.exports) (Need.step k)) (sym zero_n) (in-premises run.exports n i))
 
   -- symbols that were taken one after the other
   takes-all : (made : List Made) (new : List Symbol) (rest : List Made) → run.made ≡ (made ++ map Made.symbol new) ++ rest
@@ -256,9 +289,11 @@ module _ (version : Version) (run : Accepted) (proof : IsProof run.made) (over :
   takes-all made [] rest e = tt
   takes-all made (x ∷ new) rest e =
       let first : run.made ≡ made ++ Made.symbol x ∷ (map Made.symbol new ++ rest) = e ∙ append_assoc made (Made.symbol x ∷ map Made.symbol new) rest in
-      let later : run.made ≡ ((made ++ Made.symbol x ∷ []) ++ map Made.symbol new) ++ rest = e ∙ ap (λ l. l ++ rest) (sym (append_assoc made (Made.symbol x ∷ []) (map Made.symbol new))) in (
+      let later : run.made ≡ ((made ++ Made.symbol x ∷ []) ++ map Made.symbol new) ++ rest =
+      e ∙ ap (λ l. l ++ rest) (sym (append_assoc made (Made.symbol x ∷ []) (map Made.symbol new))) in (
         (each-at IsMade run.made proof made (map Made.symbol new ++ rest) (Made.symbol x) first).1,
-        subst (λ l. TakesAll (binder_number (reached_steps run)) version flag (is_export run) l new) (symbols_of-symbols made (x ∷ [])) (takes-all (made ++ Made.symbol x ∷ []) new rest later),
+        subst (λ l. TakesAll (binder_number (reached_steps run)) version flag (is_export run) l new) (symbols_of-symbols made (x ∷ []))
+            (takes-all (made ++ Made.symbol x ∷ []) new rest later),
       )
 
   one-grown : (made whole : List Made) (x : Step) → steps_of whole ≡ steps_of made ++ x ∷ [] → next whole ≡ next made + 1
@@ -279,7 +314,8 @@ module _ (version : Version) (run : Accepted) (proof : IsProof run.made) (over :
   tale histories.History.empty rest e em ee above = Tale.empty
   tale (histories.History.input {made = made} {whole = whole} x h input is) rest e em ee above =
       let first : run.made ≡ made ++ Made.symbol x ∷ rest = e ∙ ap (λ l. l ++ rest) is ∙ append_assoc made (Made.symbol x ∷ []) rest in
-      Tale.input x (tale h (Made.symbol x ∷ rest) first em ee (lower (next made) (next whole) (longer made whole (Made.symbol x ∷ []) is) em above)) input (each-at IsMade run.made proof made rest (Made.symbol x) first).1 is
+      Tale.input x (tale h (Made.symbol x ∷ rest) first em ee (lower (next made) (next whole) (longer made whole (Made.symbol x ∷ []) is) em above)) input
+      (each-at IsMade run.made proof made rest (Made.symbol x) first).1 is
   tale (histories.History.inferred {made = made} {whole = whole} {ex = ex} x h kind good is) rest e em ee above =
       let first : run.made ≡ made ++ Made.step x ∷ rest = e ∙ ap (λ l. l ++ rest) is ∙ append_assoc made (Made.step x ∷ []) rest in
       let more = one-grown made whole x (ap steps_of is ∙ steps_of-push made x) in
@@ -303,7 +339,12 @@ module _ (version : Version) (run : Accepted) (proof : IsProof run.made) (over :
       let o = each-at IsMadeOver run.made over made rest (Made.step x) first in
       Tale.assumed z (tale h (Made.step x ∷ rest) first em ee (lower (next made) (next whole) (omega (arith, more)) em above))
       (no-export (next made) ex em ee (exports-below h) (lower (suc (next made)) (next whole) (omega (arith, more)) em above)) new
-      (λ on. record { given = sayable made x at on good o.parameters; sequent = recorded-sequent s.premises (Parameters.sequent z) z s.follows.rule; limits = o.within }) is all_is
+      (λ on. record {
+        given = sayable made x at on good o.parameters;
+        sequent = recorded-sequent s.premises (Parameters.sequent z) z s.follows.rule;
+        limits =
+            o.within;
+      }) is all_is
   tale (histories.History.met {made = made} {whole = whole} {ex = ex} z i h old good is) rest e em ee above =
       let x = restatement i z in
       let first : run.made ≡ made ++ Made.step x ∷ rest = e ∙ ap (λ l. l ++ rest) is ∙ append_assoc made (Made.step x ∷ []) rest in
@@ -314,7 +355,10 @@ module _ (version : Version) (run : Accepted) (proof : IsProof run.made) (over :
       let again = restated s.premises (Parameters.sequent z) z (sequent_at made i) s.follows.rule (premises-are made (i ∷ []) s.premises s.earlier) in
       Tale.met z i (tale h (Made.step x ∷ rest) first em ee (lower (next made) (next whole) (omega (arith, more)) em above))
       (no-export (next made) ex em ee (exports-below h) (lower (suc (next made)) (next whole) (omega (arith, more)) em above)) old
-      (λ on. (record { given = sayable made x at on good o.parameters; sequent = again.sequent; limits = o.within }, (told made x at on (premises-below made (i ∷ []) s.premises s.earlier)).0)) is
+      (λ on. (
+        record { given = sayable made x at on good o.parameters; sequent = again.sequent; limits = o.within },
+        (told made x at on (premises-below made (i ∷ []) s.premises s.earlier)).0,
+      )) is
   tale (histories.History.met_export {made = made} {whole = whole} {ex = ex} z i h among good is) rest e em ee above =
       let x = restatement i z in
       let first : run.made ≡ made ++ Made.step x ∷ rest = e ∙ ap (λ l. l ++ rest) is ∙ append_assoc made (Made.step x ∷ []) rest in
@@ -339,8 +383,10 @@ module _ (version : Version) (run : Accepted) (proof : IsProof run.made) (over :
       let among : IsIn run.exports n = subst (λ l. IsIn l n) (sym exports) (IsIn-right ex (n ∷ em) n (inl refl)) in
       let on = export-flagged n x at among in
       let again = restated s.premises (Parameters.sequent z) z (sequent_at made i) s.follows.rule (premises-are made (i ∷ []) s.premises s.earlier) in
-      Tale.exported z i (tale h (Made.step x ∷ rest) first (n ∷ em) exports (omega arith, lower n (next whole) (omega (arith, more)) em above)) (member-is n run.exports among) on new
-      (record { given = sayable made x at on good o.parameters; sequent = again.sequent; limits = o.within }) (told made x at on (premises-below made (i ∷ []) s.premises s.earlier)).0 again.weaker is all_is
+      Tale.exported z i (tale h (Made.step x ∷ rest) first (n ∷ em) exports (omega arith, lower n (next whole) (omega (arith, more)) em above))
+      (member-is n run.exports among) on new
+      (record { given = sayable made x at on good o.parameters; sequent = again.sequent; limits = o.within })
+      (told made x at on (premises-below made (i ∷ []) s.premises s.earlier)).0 again.weaker is all_is
   tale (histories.History.constant {made = made} {whole = whole} {ex = ex} nm t a h typed good is) rest e em ee above =
       let new = defined (Definition.constant nm t) in
       let x = step_by by_rule.DefineConst [] (Parameters.constant nm t) (derived [] (equation a (Term.constant nm a) t)) in
@@ -355,7 +401,14 @@ module _ (version : Version) (run : Accepted) (proof : IsProof run.made) (over :
       let o = each-at IsMadeOver run.made over mid rest (Made.step x) second in
       Tale.constant nm t a (tale h (Made.symbol new ∷ Made.step x ∷ rest) first em ee (lower (next made) (next whole) (omega (arith, more)) em above))
       (no-export (next made) ex em ee (exports-below h) (lower (suc (next made)) (next whole) (omega (arith, more)) em above)) takes
-      (λ on. record { built = good.built; fresh = fresh-at (next made) x at on; taken = taken; defining = constant-defining (symbols_of made) nm t a typed takes; limits = o.within }) is
+      (λ on. record {
+        built = good.built;
+        fresh = fresh-at (next made) x at on;
+        taken = taken;
+        defining =
+            constant-defining (symbols_of made) nm t a typed takes;
+        limits = o.within;
+      }) is
   tale (histories.History.constants {made = made} {whole = whole} {ex = ex} i pairs h untaken taken low good is) rest e em ee above =
       let new = map defined (definitions_in pairs (sequent_at made i).hypotheses) in
       let x = step_by by_rule.DefineConstList (i ∷ []) (rule.constants pairs) (derived [] (sub [] (constants_put pairs) (sequent_at made i).conclusion)) in
@@ -367,9 +420,11 @@ module _ (version : Version) (run : Accepted) (proof : IsProof run.made) (over :
       let at = subst (λ k. slice_get steps k ≡ Some x) same (step-place run.made mid rest x second) in
       let s = each-at IsMade run.made proof mid rest (Made.step x) second in
       let o = each-at IsMadeOver run.made over mid rest (Made.step x) second in
-      let listed = list-rule s.premises pairs x.sequent (sequent_at made i) s.follows.rule (ap (λ z. z ∷ []) (sym (steps-inputs made new i)) ∙ premises-are mid (i ∷ []) s.premises s.earlier) in
+      let listed = list-rule s.premises pairs x.sequent (sequent_at made i) s.follows.rule
+      (ap (λ z. z ∷ []) (sym (steps-inputs made new i)) ∙ premises-are mid (i ∷ []) s.premises s.earlier) in
       Tale.constants i pairs (tale h (map Made.symbol new ++ Made.step x ∷ rest) first em ee (lower (next made) (next whole) (omega (arith, more)) em above))
-      (no-export (next made) ex em ee (exports-below h) (lower (suc (next made)) (next whole) (omega (arith, more)) em above)) (takes-all made new (Made.step x ∷ rest) second)
+      (no-export (next made) ex em ee (exports-below h) (lower (suc (next made)) (next whole) (omega (arith, more)) em above))
+      (takes-all made new (Made.step x ∷ rest) second)
       (λ on. record {
         given = sayable made x at on good taken;
         premise = (told made x at on (low, tt {0})).0;
@@ -388,7 +443,8 @@ module _ (version : Version) (run : Accepted) (proof : IsProof run.made) (over :
       let second : run.made ≡ one ++ Made.step x1 ∷ Made.step x2 ∷ rest = third ∙ append_assoc one (Made.step x1 ∷ []) (Made.step x2 ∷ rest) in
       let first : run.made ≡ made ++ new ∷ Made.step x1 ∷ Made.step x2 ∷ rest = second ∙ append_assoc made (new ∷ []) (Made.step x1 ∷ Made.step x2 ∷ rest) in
       let next1 : next one ≡ next made = ap length (steps_of-definition made names c f i) in
-      let next2 : next two ≡ suc (next made) = one-grown one two x1 (steps_of-push one x1) ∙ (let z : next one + 1 ≡ suc (next made) = omega (arith, next1) in z) in
+      let next2 : next two ≡ suc (next made) = one-grown one two x1 (steps_of-push one x1)
+      ∙ (let z : next one + 1 ≡ suc (next made) = omega (arith, next1) in z) in
       let more : next whole ≡ next two + 1 = one-grown two whole x2 (ap steps_of is ∙ steps_of-push two x2) in
       let at1 = subst (λ k. slice_get steps k ≡ Some x1) next1 (step-place run.made one (Made.step x2 ∷ rest) x1 second) in
       let at2 = subst (λ k. slice_get steps k ≡ Some x2) next2 (step-place run.made two rest x2 third) in
@@ -399,10 +455,13 @@ module _ (version : Version) (run : Accepted) (proof : IsProof run.made) (over :
       let zero_n : 0 + next made ≡ next made = omega arith in
       let zero_m : 0 + suc (next made) ≡ suc (next made) = omega arith in
       let together : flag (suc (next made)) ≡ flag (next made) = ap flag (sym zero_m)
-      ∙ laws-flagged (map Need.step run.exports) 0 steps (next made) x1 x2 at1 at2 refl refl refl (Need.constant names.representation) (mentions-representation made_in names c f i) (inr (inr (inl refl))) ∙ ap flag zero_n in
-      Tale.type i names c f made_in (tale h (new ∷ Made.step x1 ∷ Made.step x2 ∷ rest) first em ee (lower (next made) (next whole) (omega (arith, more, next2)) em above))
+      ∙ laws-flagged (map Need.step run.exports) 0 steps (next made) x1 x2 at1 at2 refl refl refl (Need.constant names.representation)
+      (mentions-representation made_in names c f i) (inr (inr (inl refl))) ∙ ap flag zero_n in
+      Tale.type i names c f made_in
+      (tale h (new ∷ Made.step x1 ∷ Made.step x2 ∷ rest) first em ee (lower (next made) (next whole) (omega (arith, more, next2)) em above))
       (no-export (next made) ex em ee (exports-below h) (lower (suc (next made)) (next whole) (omega (arith, more, next2)) em above))
-      (no-export (suc (next made)) ex em ee (rise (next made) (suc (next made)) (omega arith) ex (exports-below h)) (lower (suc (suc (next made))) (next whole) (omega (arith, more, next2)) em above))
+      (no-export (suc (next made)) ex em ee (rise (next made) (suc (next made)) (omega arith) ex (exports-below h))
+      (lower (suc (suc (next made))) (next whole) (omega (arith, more, next2)) em above))
       d.taken together
       (λ on. record {
         same = version-same made_in version (fits-at (next made) x1 at1 on).1;

@@ -62,7 +62,8 @@ two-of says one two (i ∷ j ∷ k ∷ is) e = absurd (cc)
 module _ (c : Scene) (d : Dictionary) (m : List Made) (stack : List Object) where
   -- the word of a rule, on theorems and what it is given, concludes a sequent
   abbrev Concludes : StepKind → Parameters → List ℕ → Sequent → Type 0
-  Concludes kind g is s = SequentWithin s → obey (body_state c d m (pushed (map Object.theorem is) (given_stack g stack))) (word_of kind) ≡ Ok (with_theorem (body_state c d m stack) (step_by kind is g s))
+  Concludes kind g is s = SequentWithin s → obey (body_state c d m (pushed (map Object.theorem is) (given_stack g stack))) (word_of kind) ≡ Ok
+      (with_theorem (body_state c d m stack) (step_by kind is g s))
 
   -- it does so where its rule makes the step of the sequent
   by_step-word : (kind : StepKind) (g : Parameters) (is : List ℕ) (s : Sequent) (rule : Result Step Kind)
@@ -73,29 +74,37 @@ module _ (c : Scene) (d : Dictionary) (m : List Made) (stack : List Object) wher
   pub inference-word : (kind : StepKind) (ss : List Sequent) (g : Parameters) (s : Sequent) → is_inference kind ≡ true → Rule kind ss g s → (is : List ℕ)
       → ss ≡ map (sequent_at m) is → Concludes kind g is s
   inference-word kind ss g s k (Rule.refl {t = t} {a = a} h e) is p =
-      subst (λ l. Concludes Refl (Parameters.term t) l s) (sym (none-of (sequent_at m) is p)) (subst (Concludes Refl (Parameters.term t) []) (sym e) (by_step-word Refl _ [] _ (refl_step t) refl (refl-step t a h)))
+      subst (λ l. Concludes Refl (Parameters.term t) l s) (sym (none-of (sequent_at m) is p))
+      (subst (Concludes Refl (Parameters.term t) []) (sym e) (by_step-word Refl _ [] _ (refl_step t) refl (refl-step t a h)))
   inference-word kind ss g s k (Rule.assume {p = t} h e) is p =
-      subst (λ l. Concludes Assume (Parameters.term t) l s) (sym (none-of (sequent_at m) is p)) (subst (Concludes Assume (Parameters.term t) []) (sym e) (by_step-word Assume _ [] _ (assume_step t) refl (assume-step t h)))
+      subst (λ l. Concludes Assume (Parameters.term t) l s) (sym (none-of (sequent_at m) is p))
+      (subst (Concludes Assume (Parameters.term t) []) (sym e) (by_step-word Assume _ [] _ (assume_step t) refl (assume-step t h)))
   inference-word kind ss g s k (Rule.eq_mp {p = u} {q = v} {one = one} {two = two} f h e) is p =
       let w = two-of (sequent_at m) one two is p in
       subst (λ l. Concludes EqMp Parameters.nothing l s) (sym w.numbers)
       (subst (Concludes EqMp Parameters.nothing (w.i ∷ w.j ∷ [])) (ap₂ (λ a b. derived (rule.joined a.hypotheses b.hypotheses) v) w.first w.second ∙ sym e)
-      (by_step-word EqMp Parameters.nothing (w.i ∷ w.j ∷ []) _ (eq_mp_step m w.i w.j) refl (eq_mp-step m w.i w.j u v (ap (λ a. a.conclusion) w.first ∙ f) (ap (λ a. a.conclusion) w.second ∙ h))))
+      (by_step-word EqMp Parameters.nothing (w.i ∷ w.j ∷ []) _ (eq_mp_step m w.i w.j) refl
+      (eq_mp-step m w.i w.j u v (ap (λ a. a.conclusion) w.first ∙ f) (ap (λ a. a.conclusion) w.second ∙ h))))
   inference-word kind ss g s k (Rule.abs_thm {v = v} {b = b} {t = t} {u = u} {one = one} f h e) is p =
       let w = one-of (sequent_at m) one is p in
       subst (λ l. Concludes AbsThm (Parameters.variable v) l s) (sym w.numbers)
-      (subst (Concludes AbsThm (Parameters.variable v) (w.i ∷ [])) (ap (λ a. derived a.hypotheses (equation (function v.1 b) (rule.abstraction v t) (rule.abstraction v u))) w.first ∙ sym e)
-      (by_step-word AbsThm (Parameters.variable v) (w.i ∷ []) _ (abs_thm_step m v w.i) refl (abs_thm-step m w.i v b t u (ap (λ a. a.conclusion) w.first ∙ f) (ap (λ a. rule.is_free_in v a.hypotheses) w.first ∙ h))))
+      (subst (Concludes AbsThm (Parameters.variable v) (w.i ∷ []))
+      (ap (λ a. derived a.hypotheses (equation (function v.1 b) (rule.abstraction v t) (rule.abstraction v u))) w.first ∙ sym e)
+      (by_step-word AbsThm (Parameters.variable v) (w.i ∷ []) _ (abs_thm_step m v w.i) refl
+      (abs_thm-step m w.i v b t u (ap (λ a. a.conclusion) w.first ∙ f) (ap (λ a. rule.is_free_in v a.hypotheses) w.first ∙ h))))
   inference-word kind ss g s k (Rule.app_thm {a = a} {b = b} {f = f} {g = h} {x = x} {y = y} {one = one} {two = two} i j e) is p =
       let w = two-of (sequent_at m) one two is p in
       subst (λ l. Concludes AppThm Parameters.nothing l s) (sym w.numbers)
-      (subst (Concludes AppThm Parameters.nothing (w.i ∷ w.j ∷ [])) (ap₂ (λ z r. derived (rule.joined z.hypotheses r.hypotheses) (equation b (Term.app f x) (Term.app h y))) w.first w.second ∙ sym e)
-      (by_step-word AppThm Parameters.nothing (w.i ∷ w.j ∷ []) _ (app_thm_step m w.i w.j) refl (app_thm-step m w.i w.j a b f h x y (ap (λ z. z.conclusion) w.first ∙ i) (ap (λ z. z.conclusion) w.second ∙ j))))
+      (subst (Concludes AppThm Parameters.nothing (w.i ∷ w.j ∷ []))
+      (ap₂ (λ z r. derived (rule.joined z.hypotheses r.hypotheses) (equation b (Term.app f x) (Term.app h y))) w.first w.second ∙ sym e)
+      (by_step-word AppThm Parameters.nothing (w.i ∷ w.j ∷ []) _ (app_thm_step m w.i w.j) refl
+      (app_thm-step m w.i w.j a b f h x y (ap (λ z. z.conclusion) w.first ∙ i) (ap (λ z. z.conclusion) w.second ∙ j))))
   inference-word kind ss g s k (Rule.deduct_antisym {one = one} {two = two} e) is p =
       let w = two-of (sequent_at m) one two is p in
       subst (λ l. Concludes DeductAntisym Parameters.nothing l s) (sym w.numbers)
       (subst (Concludes DeductAntisym Parameters.nothing (w.i ∷ w.j ∷ []))
-      (ap₂ (λ a b. derived (rule.joined (rule.removed a.hypotheses b.conclusion) (rule.removed b.hypotheses a.conclusion)) (equation bool a.conclusion b.conclusion)) w.first w.second ∙ sym e)
+      (ap₂ (λ a b. derived (rule.joined (rule.removed a.hypotheses b.conclusion) (rule.removed b.hypotheses a.conclusion))
+      (equation bool a.conclusion b.conclusion)) w.first w.second ∙ sym e)
       (by_step-word DeductAntisym Parameters.nothing (w.i ∷ w.j ∷ []) _ (deduct_antisym_step m w.i w.j) refl refl))
   inference-word kind ss g s k (Rule.beta_conv {a = a} {b = b} {t = t} {u = u} h e) is p =
       subst (λ l. Concludes BetaConv (Parameters.term (Term.app (Term.lam a t) u)) l s) (sym (none-of (sequent_at m) is p))
@@ -109,18 +118,22 @@ module _ (c : Scene) (d : Dictionary) (m : List Made) (stack : List Object) wher
   inference-word kind ss g s k (Rule.trans {a = a} {x = x} {y = y} {z = z} {one = one} {two = two} f h e) is p =
       let w = two-of (sequent_at m) one two is p in
       subst (λ l. Concludes Trans Parameters.nothing l s) (sym w.numbers)
-      (subst (Concludes Trans Parameters.nothing (w.i ∷ w.j ∷ [])) (ap₂ (λ r t. derived (rule.joined r.hypotheses t.hypotheses) (equation a x z)) w.first w.second ∙ sym e)
-      (by_step-word Trans Parameters.nothing (w.i ∷ w.j ∷ []) _ (trans_step m w.i w.j) refl (trans-step m w.i w.j a x y z (ap (λ r. r.conclusion) w.first ∙ f) (ap (λ r. r.conclusion) w.second ∙ h))))
+      (subst (Concludes Trans Parameters.nothing (w.i ∷ w.j ∷ []))
+      (ap₂ (λ r t. derived (rule.joined r.hypotheses t.hypotheses) (equation a x z)) w.first w.second ∙ sym e)
+      (by_step-word Trans Parameters.nothing (w.i ∷ w.j ∷ []) _ (trans_step m w.i w.j) refl
+      (trans-step m w.i w.j a x y z (ap (λ r. r.conclusion) w.first ∙ f) (ap (λ r. r.conclusion) w.second ∙ h))))
   inference-word kind ss g s k (Rule.prove_hyp {one = one} {two = two} e) is p =
       let w = two-of (sequent_at m) one two is p in
       subst (λ l. Concludes ProveHyp Parameters.nothing l s) (sym w.numbers)
-      (subst (Concludes ProveHyp Parameters.nothing (w.i ∷ w.j ∷ [])) (ap₂ (λ a b. derived (rule.joined a.hypotheses (rule.removed b.hypotheses a.conclusion)) b.conclusion) w.first w.second ∙ sym e)
+      (subst (Concludes ProveHyp Parameters.nothing (w.i ∷ w.j ∷ []))
+      (ap₂ (λ a b. derived (rule.joined a.hypotheses (rule.removed b.hypotheses a.conclusion)) b.conclusion) w.first w.second ∙ sym e)
       (by_step-word ProveHyp Parameters.nothing (w.i ∷ w.j ∷ []) _ (prove_hyp_step m w.i w.j) refl refl))
   inference-word kind ss g s k (Rule.subst {types = types} {terms = terms} {one = one} h e) is p =
       let w = one-of (sequent_at m) one is p in
       subst (λ l. Concludes Subst (Parameters.substitution types terms) l s) (sym w.numbers)
       (subst (Concludes Subst (Parameters.substitution types terms) (w.i ∷ [])) (ap (substituted types terms) w.first ∙ sym e)
-      (by_step-word Subst (Parameters.substitution types terms) (w.i ∷ []) _ (subst_step m types terms w.i) (rw (substitution-read types terms) refl) (subst-step m w.i types terms h)))
+      (by_step-word Subst (Parameters.substitution types terms) (w.i ∷ []) _ (subst_step m types terms w.i) (rw (substitution-read types terms) refl)
+      (subst-step m w.i types terms h)))
   inference-word kind ss g s k (Rule.recorded h) is p = absurd (cc)
   inference-word kind ss g s k (Rule.restate h w) is p = absurd (cc)
   inference-word kind ss g s k (Rule.define_const h e) is p = absurd (cc)

@@ -97,11 +97,15 @@ components-IsLine : (n : Name) → AllByRecursion IsLine n → IsLine (component
 components-IsLine [] h = tt
 components-IsLine (bytes ∷ []) h = component-IsLine bytes h.0
 components-IsLine (bytes ∷ more ∷ name) h =
-    All-append (λ b. b ≢ newline) (component_text bytes) (dot ∷ components_text (more ∷ name)) (component-IsLine bytes h.0) ((λ e. absurd (omega (arith, e))), components-IsLine (more ∷ name) h.1)
+    All-append (λ b. b ≢ newline) (component_text bytes) (dot ∷ components_text (more ∷ name)) (component-IsLine bytes h.0)
+    ((λ e. absurd (omega (arith, e))), components-IsLine (more ∷ name) h.1)
 
 name-IsLine : (n : Name) → AllByRecursion IsLine n → IsLine (name_text n)
-name-IsLine n h =
-    ((λ e. absurd (omega (arith, e))), All-append (λ b. b ≢ newline) (components_text n) (quote ∷ []) (components-IsLine n h) ((λ e. absurd (omega (arith, e))), tt {0}))
+name-IsLine n h = (
+  (λ e. absurd (omega (arith, e))),
+  All-append (λ b. b ≢ newline) (components_text n) (quote ∷ []) (components-IsLine n h)
+      ((λ e. absurd (omega (arith, e))), tt {0}),
+)
 
 -- a command's line
 pub record IsShortLine (line : List ℕ) : Type 0 where
@@ -113,7 +117,8 @@ plain [] e = tt
 plain (b ∷ line) e = let k = and_parts (nat_le 11 b) (list_all (λ b. nat_le 11 b) line) e in ((λ f. absurd (grind (arith, nat_tests, k.0, f))), plain line k.1)
 
 short-plain : (line : List ℕ) → (list_all (λ b. nat_le 11 b) line && nat_le (length line) 20) ≡ true → IsShortLine line
-short-plain line e = let k = and_parts (list_all (λ b. nat_le 11 b) line) (nat_le (length line) 20) e in record { one_line = plain line k.0; short = (let s : length line ≤ 20 = grind (arith, nat_tests, k.1) in omega (arith, s)) }
+short-plain line e = let k = and_parts (list_all (λ b. nat_le 11 b) line) (nat_le (length line) 20) e in record
+    { one_line = plain line k.0; short = (let s : length line ≤ 20 = grind (arith, nat_tests, k.1) in omega (arith, s)) }
 
 word-short : (w : Word) → (list_all (λ b. nat_le 11 b) (word_text w) && nat_le (length (word_text w)) 20) ≡ true
 word-short word.Version = refl

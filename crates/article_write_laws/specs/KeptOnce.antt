@@ -28,13 +28,15 @@ adds-none d e same = record { new = []; is = same ∙ sym (nil-append d.kept); a
 
 -- one after another
 pub adds-then : {P : Kept → Type 0} {d e f : Draft} → Adds P d e → Adds P e f → Adds P d f
-adds-then {P = P} {d = d} a b = record { new = a.new ++ b.new; is = b.is ∙ ap (λ l. l ++ b.new) a.is ∙ append_assoc d.kept a.new b.new; all = All-append P a.new b.new a.all b.all }
+adds-then {P = P} {d = d} a b = record
+    { new = a.new ++ b.new; is = b.is ∙ ap (λ l. l ++ b.new) a.is ∙ append_assoc d.kept a.new b.new; all = All-append P a.new b.new a.all b.all }
 
 adds-weaker : {P Q : Kept → Type 0} {d e : Draft} → ((x : Kept) → P x → Q x) → Adds P d e → Adds Q d e
 adds-weaker {P = P} {Q = Q} f a = record { new = a.new; is = a.is; all = All-weaker P Q f a.new a.all }
 
 adds-kept : {P : Kept → Type 0} {d e : Draft} (x : Kept) → P x → Adds P d e → Adds P d (keep x e)
-adds-kept {P = P} {d = d} x p a = record { new = a.new ++ x ∷ []; is = ap (λ l. l ++ x ∷ []) a.is ∙ append_assoc d.kept a.new (x ∷ []); all = All-append P a.new (x ∷ []) a.all (p, tt {0}) }
+adds-kept {P = P} {d = d} x p a = record
+    { new = a.new ++ x ∷ []; is = ap (λ l. l ++ x ∷ []) a.is ∙ append_assoc d.kept a.new (x ∷ []); all = All-append P a.new (x ∷ []) a.all (p, tt {0}) }
 
 adds-once : {P : Kept → Type 0} (d : Draft) (x : Kept) (build : Draft → Draft) → P x → Adds P d (build d) → Adds P d (once x build d)
 adds-once {P = P} d x build p a = go (key_of x d)
@@ -55,7 +57,8 @@ no-key x start [] (y ∷ ys) e h = ap (λ b. cond b (Some start) (position_from 
 no-key x start (z ∷ xs) ys e h = go (kept_eq x z) e (no-key x (start + 1) xs ys)
   where
     go : (b : Bool) → cond b (Some start) (position_from (kept_eq x) (start + 1) xs) ≡ None
-        → (position_from (kept_eq x) (start + 1) xs ≡ None → AllByRecursion (λ y. kept_eq x y ≡ false) ys → position_from (kept_eq x) (start + 1) (xs ++ ys) ≡ None)
+        → (position_from (kept_eq x) (start + 1) xs ≡ None → AllByRecursion (λ y. kept_eq x y ≡ false) ys → position_from (kept_eq x) (start + 1) (xs ++ ys)
+        ≡ None)
         → cond b (Some start) (position_from (kept_eq x) (start + 1) (xs ++ ys)) ≡ None
     go true f g = absurd (cc)
     go false f g = g f h
@@ -93,20 +96,25 @@ up m n le (Kept.theorem i) h = absurd h
 built-from : (n : Name) (ts : HolTypes) (d : Draft)
     → Adds (IsTypeUpTo (types_size ts)) (say_word word.TypeOp (say_name n d)) (write_types ts (say_word word.TypeOp (say_name n d)))
     → Adds (IsTypeUpTo (types_size ts)) d (say_word word.OpType (conses (count ts) (say_word word.Nil (write_types ts (say_word word.TypeOp (say_name n d))))))
-built-from n ts d a = record { new = a.new; is = kept-conses (count ts) (say_word word.Nil (write_types ts (say_word word.TypeOp (say_name n d)))) ∙ a.is; all = a.all }
+built-from n ts d a = record
+    { new = a.new; is = kept-conses (count ts) (say_word word.Nil (write_types ts (say_word word.TypeOp (say_name n d)))) ∙ a.is; all = a.all }
 
 mutual
   pub type-adds : (t : HolType) (d : Draft) → Adds (IsTypeUpTo (type_size t)) d (write_type t d)
   type-adds (HolType.variable n) d =
-      adds-once d (Kept.type (HolType.variable n)) (λ e. say_word word.VarType (say_name n e)) (omega arith) (adds-none d (say_word word.VarType (say_name n d)) refl)
+      adds-once d (Kept.type (HolType.variable n)) (λ e. say_word word.VarType (say_name n e)) (omega arith)
+      (adds-none d (say_word word.VarType (say_name n d)) refl)
   type-adds (HolType.operator n ts) d =
-      adds-once d (Kept.type (HolType.operator n ts)) (λ e. say_word word.OpType (conses (count ts) (say_word word.Nil (write_types ts (say_word word.TypeOp (say_name n e)))))) (omega arith)
-      (adds-weaker (up (types_size ts) (type_size (HolType.operator n ts)) (omega arith)) (built-from n ts d (types-add ts (say_word word.TypeOp (say_name n d)))))
+      adds-once d (Kept.type (HolType.operator n ts))
+      (λ e. say_word word.OpType (conses (count ts) (say_word word.Nil (write_types ts (say_word word.TypeOp (say_name n e)))))) (omega arith)
+      (adds-weaker (up (types_size ts) (type_size (HolType.operator n ts)) (omega arith))
+      (built-from n ts d (types-add ts (say_word word.TypeOp (say_name n d)))))
 
   pub types-add : (ts : HolTypes) (d : Draft) → Adds (IsTypeUpTo (types_size ts)) d (write_types ts d)
   types-add HolTypes.none d = adds-none d d refl
   types-add (HolTypes.more t ts) d =
-      adds-then (adds-weaker (up (type_size t) (types_size (HolTypes.more t ts)) (omega arith)) (type-adds t d)) (adds-weaker (up (types_size ts) (types_size (HolTypes.more t ts)) (omega arith)) (types-add ts (write_type t d)))
+      adds-then (adds-weaker (up (type_size t) (types_size (HolTypes.more t ts)) (omega arith)) (type-adds t d))
+      (adds-weaker (up (types_size ts) (types_size (HolTypes.more t ts)) (omega arith)) (types-add ts (write_type t d)))
 
 pub smaller-type : (t : HolType) (m : ℕ) → m < type_size t → (y : Kept) → IsTypeUpTo m y → kept_eq (Kept.type t) y ≡ false
 smaller-type t m less (Kept.type a) h = go (type_eq t a) (type_eq-Decides t a).0
@@ -119,9 +127,12 @@ smaller-type t m less (Kept.theorem i) h = absurd h
 
 -- so an operator has no key when it is built
 pub type-built : (n : _) (ts : HolTypes) (d : Draft) → key_of (Kept.type (HolType.operator n ts)) d ≡ None
-    → key_of (Kept.type (HolType.operator n ts)) (say_word word.OpType (conses (count ts) (say_word word.Nil (write_types ts (say_word word.TypeOp (say_name n d)))))) ≡ None
+    → key_of (Kept.type (HolType.operator n ts))
+    (say_word word.OpType (conses (count ts) (say_word word.Nil (write_types ts (say_word word.TypeOp (say_name n d)))))) ≡ None
 type-built n ts d none =
-    still-no-key (IsTypeUpTo (types_size ts)) (Kept.type (HolType.operator n ts)) d (say_word word.OpType (conses (count ts) (say_word word.Nil (write_types ts (say_word word.TypeOp (say_name n d)))))) none (built-from n ts d (types-add ts (say_word word.TypeOp (say_name n d))))
+    still-no-key (IsTypeUpTo (types_size ts)) (Kept.type (HolType.operator n ts)) d
+    (say_word word.OpType (conses (count ts) (say_word word.Nil (write_types ts (say_word word.TypeOp (say_name n d)))))) none
+    (built-from n ts d (types-add ts (say_word word.TypeOp (say_name n d))))
     (smaller-type (HolType.operator n ts) (types_size ts) (omega arith))
 
 -- Terms
@@ -141,7 +152,8 @@ any-type m n (Kept.term t) h = absurd h
 any-type m n (Kept.theorem i) h = absurd h
 
 variable-adds : (n : ℕ) (v : Variable) (d : Draft) → Adds (IsTermUpTo n) d (write_variable v d)
-variable-adds n v d = let a = type-adds v.1 (say_name v.0 d) in adds-weaker {d = d} {e = write_variable v d} (any-type (type_size v.1) n) (record { new = a.new; is = a.is; all = a.all })
+variable-adds n v d = let a = type-adds v.1 (say_name v.0 d) in adds-weaker {d = d} {e = write_variable v d} (any-type (type_size v.1) n)
+    (record { new = a.new; is = a.is; all = a.all })
 
 -- what is said behind keeps nothing
 said-behind : {P : Kept → Type 0} {d e : Draft} (i : Item) → Adds P d e → Adds P d (say i e)
@@ -158,23 +170,29 @@ adds-shared {P = P} d t build p a = go (loose t == 0)
 app-from : (q : ℕ) (f x : Term) (vs : List Variable) (d : Draft) → Adds (IsTermUpTo (term_size f)) d (write_under q vs f d)
     → Adds (IsTermUpTo (term_size x)) (write_under q vs f d) (write_under q vs x (write_under q vs f d))
     → Adds (IsTermUpTo (term_size f + term_size x)) d (say_word word.AppTerm (write_under q vs x (write_under q vs f d)))
-app-from q f x vs d a b = said-behind _ (adds-then (adds-weaker (term-up (term_size f) (term_size f + term_size x) (omega arith)) a) (adds-weaker (term-up (term_size x) (term_size f + term_size x) (omega arith)) b))
+app-from q f x vs d a b = said-behind _
+    (adds-then (adds-weaker (term-up (term_size f) (term_size f + term_size x) (omega arith)) a)
+    (adds-weaker (term-up (term_size x) (term_size f + term_size x) (omega arith)) b))
 
 lam-from : (q : ℕ) (a : HolType) (b : Term) (vs : List Variable) (d : Draft)
-    → Adds (IsTermUpTo (term_size b)) (write_variable (next_binder q vs a) d) (write_under q (next_binder q vs a ∷ vs) b (write_variable (next_binder q vs a) d))
+    → Adds (IsTermUpTo (term_size b)) (write_variable (next_binder q vs a) d)
+    (write_under q (next_binder q vs a ∷ vs) b (write_variable (next_binder q vs a) d))
     → Adds (IsTermUpTo (term_size b)) d (say_word word.AbsTerm (write_under q (next_binder q vs a ∷ vs) b (write_variable (next_binder q vs a) d)))
 lam-from q a b vs d h = said-behind _ (adds-then (variable-adds (term_size b) (next_binder q vs a) d) h)
 
 pub term-adds : (q : ℕ) (t : Term) (vs : List Variable) (d : Draft) → Adds (IsTermUpTo (term_size t)) d (write_under q vs t d)
-term-adds q (Term.free n a) vs d = adds-shared d (Term.free n a) (λ e. say_word word.VarTerm (write_variable (n, a) e)) (omega arith) (said-behind _ (variable-adds (term_size (Term.free n a)) (n, a) d))
+term-adds q (Term.free n a) vs d = adds-shared d (Term.free n a) (λ e. say_word word.VarTerm (write_variable (n, a) e)) (omega arith)
+    (said-behind _ (variable-adds (term_size (Term.free n a)) (n, a) d))
 term-adds q (Term.bound k) vs d = said-behind _ (variable-adds 1 (binder_at vs k) d)
 term-adds q (Term.constant n a) vs d =
     let b = type-adds a (say_word word.Const (say_name n d)) in
     adds-shared d (Term.constant n a) (λ e. say_word word.ConstTerm (write_type a (say_word word.Const (say_name n e)))) (omega arith)
-    (said-behind _ (adds-weaker {d = d} {e = write_type a (say_word word.Const (say_name n d))} (any-type (type_size a) (term_size (Term.constant n a))) (record { new = b.new; is = b.is; all = b.all })))
+    (said-behind _ (adds-weaker {d = d} {e = write_type a (say_word word.Const (say_name n d))} (any-type (type_size a) (term_size (Term.constant n a)))
+    (record { new = b.new; is = b.is; all = b.all })))
 term-adds q (Term.app f x) vs d =
     adds-shared d (Term.app f x) (λ e. say_word word.AppTerm (write_under q vs x (write_under q vs f e))) (omega arith)
-    (adds-weaker (term-up (term_size f + term_size x) (term_size (Term.app f x)) (omega arith)) (app-from q f x vs d (term-adds q f vs d) (term-adds q x vs (write_under q vs f d))))
+    (adds-weaker (term-up (term_size f + term_size x) (term_size (Term.app f x)) (omega arith))
+    (app-from q f x vs d (term-adds q f vs d) (term-adds q x vs (write_under q vs f d))))
 term-adds q (Term.lam a b) vs d =
     let v : Variable = next_binder q vs a in
     adds-shared d (Term.lam a b) (λ e. say_word word.AbsTerm (write_under q (v ∷ vs) b (write_variable v e))) (omega arith)
@@ -193,11 +211,14 @@ smaller-term t m less (Kept.theorem i) h = absurd h
 pub app-built : (q : ℕ) (f x : Term) (vs : List Variable) (d : Draft) → key_of (Kept.term (Term.app f x)) d ≡ None
     → key_of (Kept.term (Term.app f x)) (say_word word.AppTerm (write_under q vs x (write_under q vs f d))) ≡ None
 app-built q f x vs d none =
-    still-no-key (IsTermUpTo (term_size f + term_size x)) (Kept.term (Term.app f x)) d (say_word word.AppTerm (write_under q vs x (write_under q vs f d))) none (app-from q f x vs d (term-adds q f vs d) (term-adds q x vs (write_under q vs f d)))
+    still-no-key (IsTermUpTo (term_size f + term_size x)) (Kept.term (Term.app f x)) d (say_word word.AppTerm (write_under q vs x (write_under q vs f d))) none
+    (app-from q f x vs d (term-adds q f vs d) (term-adds q x vs (write_under q vs f d)))
     (smaller-term (Term.app f x) (term_size f + term_size x) (omega arith))
 
 pub lam-built : (q : ℕ) (a : HolType) (b : Term) (vs : List Variable) (d : Draft) → key_of (Kept.term (Term.lam a b)) d ≡ None
     → key_of (Kept.term (Term.lam a b)) (say_word word.AbsTerm (write_under q (next_binder q vs a ∷ vs) b (write_variable (next_binder q vs a) d))) ≡ None
 lam-built q a b vs d none =
-    still-no-key (IsTermUpTo (term_size b)) (Kept.term (Term.lam a b)) d (say_word word.AbsTerm (write_under q (next_binder q vs a ∷ vs) b (write_variable (next_binder q vs a) d))) none (lam-from q a b vs d (term-adds q b (next_binder q vs a ∷ vs) (write_variable (next_binder q vs a) d)))
+    still-no-key (IsTermUpTo (term_size b)) (Kept.term (Term.lam a b)) d
+    (say_word word.AbsTerm (write_under q (next_binder q vs a ∷ vs) b (write_variable (next_binder q vs a) d))) none
+    (lam-from q a b vs d (term-adds q b (next_binder q vs a ∷ vs) (write_variable (next_binder q vs a) d)))
     (smaller-term (Term.lam a b) (term_size b) (omega arith))

@@ -36,19 +36,27 @@ module _ (roots : List Need) where
   laws-flagged i (x ∷ y ∷ xs) zero one two a b f s p n h d =
       let x_is : x ≡ one = cc in
       let y_is : y ≡ two = cc in
-      let later : is_flagged roots i (x ∷ y ∷ xs) (i + 1) ≡ is_reached (needed roots ((i + 1) + 1) xs) (record { number = i + 1; step = y }) = flag-later roots i x (y ∷ xs) 0 ∙ flag-here roots (i + 1) y xs in
-      let here : is_flagged roots i (x ∷ y ∷ xs) (i + 0) ≡ is_reached (needed roots (i + 1) (y ∷ xs)) (record { number = i; step = x }) = (let e : i + 0 ≡ i = omega arith in ap (is_flagged roots i (x ∷ y ∷ xs)) e) ∙ flag-here roots i x (y ∷ xs) in
+      let later : is_flagged roots i (x ∷ y ∷ xs) (i + 1) ≡ is_reached (needed roots ((i + 1) + 1) xs) (record { number = i + 1; step = y }) =
+      flag-later roots i x (y ∷ xs) 0 ∙ flag-here roots (i + 1) y xs in
+      let here : is_flagged roots i (x ∷ y ∷ xs) (i + 0) ≡ is_reached (needed roots (i + 1) (y ∷ xs)) (record { number = i; step = x }) =
+      (let e : i + 0 ≡ i = omega arith in ap (is_flagged roots i (x ∷ y ∷ xs)) e) ∙ flag-here roots i x (y ∷ xs) in
       later ∙ go (is_reached (needed roots ((i + 1) + 1) xs) (record { number = i + 1; step = y })) refl x_is y_is ∙ sym here
     where
-      go : (b : Bool) → is_reached (needed roots ((i + 1) + 1) xs) (record { number = i + 1; step = y }) ≡ b → x ≡ one → y ≡ two → b ≡ is_reached (needed roots (i + 1) (y ∷ xs)) (record { number = i; step = x })
+      go : (b : Bool) → is_reached (needed roots ((i + 1) + 1) xs) (record { number = i + 1; step = y }) ≡ b → x ≡ one → y ≡ two → b
+          ≡ is_reached (needed roots (i + 1) (y ∷ xs)) (record { number = i; step = x })
       go true e x_is y_is =
           let zero_here : (i + 1) + 0 ≡ i + 1 = omega arith in
-          let wanted = flagged-needs roots (i + 1) (y ∷ xs) 0 y n refl (ap (is_flagged roots (i + 1) (y ∷ xs)) zero_here ∙ flag-here roots (i + 1) y xs ∙ e) (subst (λ z. IsIn (needs z) n) (sym y_is) h) in
-          let mine : IsIn (serves (record { number = i; step = x })) n = inr (IsIn-right (together i x.kind) (defines x.parameters) n (subst (λ z. IsIn (defines z.parameters) n) (sym x_is) d)) in
+          let wanted = flagged-needs roots (i + 1) (y ∷ xs) 0 y n refl (ap (is_flagged roots (i + 1) (y ∷ xs)) zero_here ∙ flag-here roots (i + 1) y xs ∙ e)
+          (subst (λ z. IsIn (needs z) n) (sym y_is) h) in
+          let mine : IsIn (serves (record { number = i; step = x })) n =
+          inr (IsIn-right (together i x.kind) (defines x.parameters) n (subst (λ z. IsIn (defines z.parameters) n) (sym x_is) d)) in
           sym (serves-reached roots (needed roots (i + 1) (y ∷ xs)) (record { number = i; step = x }) n mine wanted)
       go false e x_is y_is =
-          sym e ∙ sym (same-serves (needed roots ((i + 1) + 1) xs) i x y (ap (λ z. z.kind) x_is ∙ f) (ap (λ z. z.kind) y_is ∙ s) (ap (λ z. z.parameters) x_is ∙ p ∙ sym (ap (λ z. z.parameters) y_is)))
-          ∙ sym (ap (λ r. is_reached r.needed (record { number = i; step = x })) (reached-off roots (reached_from roots ((i + 1) + 1) xs) (record { number = i + 1; step = y }) e))
+          sym e ∙ sym
+          (same-serves (needed roots ((i + 1) + 1) xs) i x y (ap (λ z. z.kind) x_is ∙ f) (ap (λ z. z.kind) y_is ∙ s)
+          (ap (λ z. z.parameters) x_is ∙ p ∙ sym (ap (λ z. z.parameters) y_is)))
+          ∙ sym (ap (λ r. is_reached r.needed (record { number = i; step = x }))
+          (reached-off roots (reached_from roots ((i + 1) + 1) xs) (record { number = i + 1; step = y }) e))
   laws-flagged i (x ∷ xs) (suc k) one two a b f s p n h d =
       let later : (i + 1) + suc k ≡ i + suc (suc k) = omega arith in
       let sooner : (i + 1) + k ≡ i + suc k = omega arith in

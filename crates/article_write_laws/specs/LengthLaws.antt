@@ -10,7 +10,8 @@ use Rattle.article_write_spec.specs.Lengths.{item_length, items_length, capped}
 pub text-length : (items : List Item) → length (text_of items) ≡ items_length items
 text-length [] = refl
 text-length (i ∷ is) =
-    let whole : length (text_of (i ∷ is)) ≡ length (item_text i ++ newline ∷ []) + length (text_of is) = length-append (item_text i ++ newline ∷ []) (text_of is) in
+    let whole : length (text_of (i ∷ is)) ≡ length (item_text i ++ newline ∷ []) + length (text_of is) =
+    length-append (item_text i ++ newline ∷ []) (text_of is) in
     let line : length (item_text i ++ newline ∷ []) ≡ length (item_text i) + 1 = length-append (item_text i) (newline ∷ []) in
     let sum : items_length (i ∷ is) ≡ item_length i + items_length is = sum_by-cons item_length i is in
     omega (arith, whole, line, sum, text-length is)

@@ -45,7 +45,8 @@ abbrev pub Writes : Scene → (Draft → Draft) → Object → Type 0
 Writes c write x = (d : Draft) (made : List Made) (stack : List Object) → Ready c d made stack → Wrote c d.kept made (write d) (x ∷ stack)
 
 pub writes-each : {A : Type 0} (c : Scene) (write : A → Draft → Draft) (object : A → Object) (P : A → Type 0) → ((x : A) → P x → Writes c (write x) (object x))
-    → (xs : List A) → AllByRecursion P xs → (d : Draft) (made : List Made) (stack : List Object) → Ready c d made stack → Wrote c d.kept made (write_each write xs d) (pushed (map object xs) stack)
+    → (xs : List A) → AllByRecursion P xs → (d : Draft) (made : List Made) (stack : List Object) → Ready c d made stack
+    → Wrote c d.kept made (write_each write xs d) (pushed (map object xs) stack)
 writes-each c write object P one [] h d made stack r = wrote-none r
 writes-each c write object P one (x ∷ xs) h d made stack r =
     wrote-then (one x h.0 d made stack r) (λ m s. writes-each c write object P one xs h.1 (write x d) m (object x ∷ stack) s)
@@ -57,7 +58,8 @@ length-mapped f (x ∷ xs) = ap suc (length-mapped f xs)
 pub writes-list : {A : Type 0} (c : Scene) (write : A → Draft → Draft) (object : A → Object) (P : A → Type 0) → ((x : A) → P x → Writes c (write x) (object x))
     → (xs : List A) → AllByRecursion P xs → Writes c (write_list write xs) (list (listing (map object xs) none))
 writes-list c write object P one xs h d made stack r =
-    subst (λ k. Wrote c d.kept made (conses k (say_word word.Nil (write_each write xs d))) (list (listing (map object xs) none) ∷ stack)) (length-mapped object xs)
+    subst (λ k. Wrote c d.kept made (conses k (say_word word.Nil (write_each write xs d))) (list (listing (map object xs) none) ∷ stack))
+    (length-mapped object xs)
     (wrote-list (map object xs) (writes-each c write object P one xs h d made stack r))
 
 pub writes-pair : (c : Scene) (one two : Draft → Draft) (x y : Object) → Writes c one x → Writes c two y
@@ -69,4 +71,5 @@ pub each-listing : {A : Type 0} (as_one : Object → Result A Kind) (object : A 
     → each as_one (listing (map object xs) none) ≡ Ok xs
 each-listing as_one object f [] = refl
 each-listing as_one object f (x ∷ xs) =
-    ap (λ r. r >>= (λ first. each as_one (listing (map object xs) none) >>= (λ rest. Ok (first ∷ rest)))) (f x) ∙ ap (λ r. r >>= (λ rest. Ok (x ∷ rest))) (each-listing as_one object f xs)
+    ap (λ r. r >>= (λ first. each as_one (listing (map object xs) none) >>= (λ rest. Ok (first ∷ rest)))) (f x)
+    ∙ ap (λ r. r >>= (λ rest. Ok (x ∷ rest))) (each-listing as_one object f xs)

@@ -32,16 +32,19 @@ components-read : (bytes : List ℕ) (name : Name) → name_from (components_tex
 components-read bytes [] = component-read bytes (quote ∷ []) [] [] refl ∙ ap (λ l. Some (l ∷ [])) (append-nil bytes)
 components-read bytes (more ∷ name) =
     ap name_from (append_assoc (component_text bytes) (dot ∷ components_text (more ∷ name)) (quote ∷ []))
-    ∙ component-read bytes (dot ∷ (components_text (more ∷ name) ++ quote ∷ [])) [] (more ∷ name) (ap (option_map (λ name. [] ∷ name)) (components-read more name))
+    ∙ component-read bytes (dot ∷ (components_text (more ∷ name) ++ quote ∷ [])) [] (more ∷ name)
+    (ap (option_map (λ name. [] ∷ name)) (components-read more name))
     ∙ ap (λ l. Some (l ∷ more ∷ name)) (append-nil bytes)
 
 -- a text between quotes has no blanks at its ends
 trimmed-quoted : (text : List ℕ) → trimmed (34 ∷ (text ++ 34 ∷ [])) ≡ 34 ∷ (text ++ 34 ∷ [])
 trimmed-quoted text =
-    ap (λ l. reverse (drop_blanks l)) (reverse-append (34 ∷ text) (34 ∷ [])) ∙ ap reverse (sym (reverse-append (34 ∷ text) (34 ∷ []))) ∙ reverse-reverse (34 ∷ (text ++ 34 ∷ []))
+    ap (λ l. reverse (drop_blanks l)) (reverse-append (34 ∷ text) (34 ∷ [])) ∙ ap reverse (sym (reverse-append (34 ∷ text) (34 ∷ [])))
+    ∙ reverse-reverse (34 ∷ (text ++ 34 ∷ []))
 
 -- A name
 pub content-name : (bytes : List ℕ) (name : Name) → content (name_text (bytes ∷ name)) ≡ command (item.Name (bytes ∷ name))
 content-name bytes name =
     ap said (trimmed-quoted (components_text (bytes ∷ name)))
-    ∙ ap (λ o. unwrap_or (option_or None (option_or (option_map (λ n. command (item.Name n)) o) (as_word (name_text (bytes ∷ name))))) (faulty kind.BadLine)) (components-read bytes name)
+    ∙ ap (λ o. unwrap_or (option_or None (option_or (option_map (λ n. command (item.Name n)) o) (as_word (name_text (bytes ∷ name))))) (faulty kind.BadLine))
+    (components-read bytes name)

@@ -29,9 +29,11 @@ one n h = record { digits = ap (λ b. b && true) (digit n h); some = omega arith
 
 more : (n : ℕ) (ds : List ℕ) → 10 ≤ n → HasValue (n / 10) ds → HasValue n (ds ++ (48 + n % 10) ∷ [])
 more n ds h v = record {
-  digits = list_all-append is_digit ds ((48 + n % 10) ∷ []) ∙ ap (λ b. b && (is_digit (48 + n % 10) && true)) v.digits ∙ ap (λ b. b && true) (digit (n % 10) (omega arith));
+  digits = list_all-append is_digit ds ((48 + n % 10) ∷ []) ∙ ap (λ b. b && (is_digit (48 + n % 10) && true)) v.digits
+      ∙ ap (λ b. b && true) (digit (n % 10) (omega arith));
   some = omega (arith, length-append ds ((48 + n % 10) ∷ []));
-  value = fold-append (λ value d. 10 * value + (d - 48)) 0 ds ((48 + n % 10) ∷ []) ∙ ap (λ k. 10 * k + (48 + n % 10 - 48)) v.value ∙ (let e : 10 * (n / 10) + (48 + n % 10 - 48) ≡ n = omega arith in e);
+  value = fold-append (λ value d. 10 * value + (d - 48)) 0 ds ((48 + n % 10) ∷ []) ∙ ap (λ k. 10 * k + (48 + n % 10 - 48)) v.value
+      ∙ (let e : 10 * (n / 10) + (48 + n % 10 - 48) ≡ n = omega arith in e);
 }
 
 pub decimal-HasValue : (n : ℕ) → n < 10 ^ 64 → HasValue n (decimal n)
@@ -49,11 +51,13 @@ reverse-digits : (ds : List ℕ) → list_all is_digit ds ≡ true → list_all 
 reverse-digits [] h = refl
 reverse-digits (d ∷ ds) h =
     let k = and_parts (is_digit d) (list_all is_digit ds) h in
-    ap (list_all is_digit) (reverse-append (d ∷ []) ds) ∙ list_all-append is_digit (reverse ds) (d ∷ []) ∙ ap (λ b. b && (is_digit d && true)) (reverse-digits ds k.1) ∙ ap (λ b. b && true) k.0
+    ap (list_all is_digit) (reverse-append (d ∷ []) ds) ∙ list_all-append is_digit (reverse ds) (d ∷ [])
+    ∙ ap (λ b. b && (is_digit d && true)) (reverse-digits ds k.1) ∙ ap (λ b. b && true) k.0
 
 trimmed-digits : (ds : List ℕ) → list_all is_digit ds ≡ true → trimmed ds ≡ ds
 trimmed-digits ds h =
-    ap (λ l. reverse (drop_blanks (reverse l))) (drop_blanks-digits ds h) ∙ ap reverse (drop_blanks-digits (reverse ds) (reverse-digits ds h)) ∙ reverse-reverse ds
+    ap (λ l. reverse (drop_blanks (reverse l))) (drop_blanks-digits ds h) ∙ ap reverse (drop_blanks-digits (reverse ds) (reverse-digits ds h))
+    ∙ reverse-reverse ds
 
 in_range : (n : ℕ) → n < 2 ^ 63 → is_in_range (pos n) ≡ true
 in_range n h = grind (arith, nat_tests, h)

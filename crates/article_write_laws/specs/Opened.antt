@@ -109,12 +109,14 @@ type-binder [] k h = absurd (omega (arith, h))
 type-binder (v ∷ vs) zero h = refl
 type-binder (v ∷ vs) (suc k) h = type-binder vs k (omega (arith, h))
 
-type-atom : (front : List HolType) (vs : List Variable) (k : ℕ) → suc k ≤ length front + length vs → type_under front (atom_term (atom_at (length front) vs k)) ≡ slice_get (front ++ map (λ (v : Variable). v.1) vs) k
+type-atom : (front : List HolType) (vs : List Variable) (k : ℕ) → suc k ≤ length front + length vs → type_under front (atom_term (atom_at (length front) vs k))
+    ≡ slice_get (front ++ map (λ (v : Variable). v.1) vs) k
 type-atom [] vs k h = type-binder vs k (omega (arith, h))
 type-atom (f ∷ front) vs zero h = refl
 type-atom (f ∷ front) vs (suc k) h = type-deeper f front (atom_at (length front) vs k) ∙ type-atom front vs k (omega (arith, h))
 
-pub type-opened : (front : List HolType) (vs : List Variable) (t : Term) → loose t ≤ length front + length vs → type_under front (opened (length front) vs t) ≡ type_under (front ++ map (λ (v : Variable). v.1) vs) t
+pub type-opened : (front : List HolType) (vs : List Variable) (t : Term) → loose t ≤ length front + length vs → type_under front (opened (length front) vs t)
+    ≡ type_under (front ++ map (λ (v : Variable). v.1) vs) t
 type-opened front vs (free n a) h = refl
 type-opened front vs (bound k) h = type-atom front vs k h
 type-opened front vs (constant n a) h = refl
@@ -182,7 +184,8 @@ opened-within q types t h =
 pub binders-apart : (q : ℕ) (types : List HolType) (m : ℕ) (a : HolType) → length types ≤ m → m < 2 ^ 64 → (j : ℕ)
     → variable_eq (binder_at (binders q types) j) (binder_name q m, a) ≡ false
 binders-apart q [] m a h small j = refl
-binders-apart q (b ∷ types) m a h small zero = ap (λ x. x && type_eq b a) (go (name_eq (binder_name q (length (binders q types))) (binder_name q m)) (name_eq-Decides (binder_name q (length (binders q types))) (binder_name q m)).0)
+binders-apart q (b ∷ types) m a h small zero = ap (λ x. x && type_eq b a)
+    (go (name_eq (binder_name q (length (binders q types))) (binder_name q m)) (name_eq-Decides (binder_name q (length (binders q types))) (binder_name q m)).0)
   where
     go : (x : Bool) → (x ≡ true → binder_name q (length (binders q types)) ≡ binder_name q m) → x ≡ false
     go false f = refl
@@ -190,6 +193,7 @@ binders-apart q (b ∷ types) m a h small zero = ap (λ x. x && type_eq b a) (go
         let e : binder_name q (length (binders q types)) ≡ binder_name q m = f refl in
         let c : binder_front q ++ decimal (length (binders q types)) ≡ binder_front q ++ decimal m = cc in
         let long : length (binders q types) ≡ length types = length-binders q types in
-        let same : length (binders q types) ≡ m = decimal_injective (length (binders q types)) m (omega (arith, long, h, small)) small (append_cancel_left (binder_front q) (decimal (length (binders q types))) (decimal m) c) in
+        let same : length (binders q types) ≡ m = decimal_injective (length (binders q types)) m (omega (arith, long, h, small)) small
+        (append_cancel_left (binder_front q) (decimal (length (binders q types))) (decimal m) c) in
         absurd (omega (arith, long, same, h))
 binders-apart q (b ∷ types) m a h small (suc j) = binders-apart q types m a (omega (arith, h)) small j

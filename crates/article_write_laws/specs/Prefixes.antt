@@ -25,7 +25,8 @@ parted : {A : Type 0} (xs before after : List A) (x y : A) → xs ++ y ∷ [] �
 parted [] [] after x y e = inl (record { none = cc; front = refl; last = cc })
 parted [] (b ∷ []) after x y e = absurd (cc)
 parted [] (b ∷ c ∷ before) after x y e = absurd (cc)
-parted (a ∷ xs) [] after x y e = let first : a ≡ x = cc in let rest : xs ++ y ∷ [] ≡ after = cc in inr (record { rest = xs; after_is = sym rest; is = ap (λ z. z ∷ xs) first })
+parted (a ∷ xs) [] after x y e = let first : a ≡ x = cc in let rest : xs ++ y ∷ [] ≡ after =
+    cc in inr (record { rest = xs; after_is = sym rest; is = ap (λ z. z ∷ xs) first })
 parted (a ∷ xs) (b ∷ before) after x y e =
     let first : a ≡ b = cc in
     let rest : xs ++ y ∷ [] ≡ before ++ x ∷ after = cc in
@@ -48,7 +49,8 @@ each-at P whole (made.Each.more {made = m} y h p is) before after x e =
 -- the step at its number
 pub step-place : (whole made after : List Made) (x : Step) → whole ≡ made ++ Made.step x ∷ after → slice_get (steps_of whole) (length (steps_of made)) ≡ Some x
 step-place whole made after x e =
-    ap (λ l. slice_get l (length (steps_of made))) (ap steps_of e ∙ steps_of-append made (Made.step x ∷ after)) ∙ slice_get-seam (steps_of made) (steps_of after) x
+    ap (λ l. slice_get l (length (steps_of made))) (ap steps_of e ∙ steps_of-append made (Made.step x ∷ after))
+    ∙ slice_get-seam (steps_of made) (steps_of after) x
 
 -- the sequents of premises
 pub premises-are : (m : List Made) (is : List ℕ) (ss : List Sequent) → ArePremises (sequents_of m) is ss → map (sequent_at m) is ≡ ss
@@ -61,5 +63,7 @@ pub premises-below : (m : List Made) (is : List ℕ) (ss : List Sequent) → Are
 premises-below m [] [] h = tt
 premises-below m [] (s ∷ ss) h = absurd h
 premises-below m (i ∷ is) [] h = absurd h
-premises-below m (i ∷ is) (s ∷ ss) h =
-    ((let low = slice_get_within (sequents_of m) i s h.0 in let long = length-map (steps_of m) (λ (x : Step). x.sequent) in omega (arith, low, long)), premises-below m is ss h.1)
+premises-below m (i ∷ is) (s ∷ ss) h = (
+  (let low = slice_get_within (sequents_of m) i s h.0 in let long = length-map (steps_of m) (λ (x : Step). x.sequent) in omega (arith, low, long)),
+  premises-below m is ss h.1,
+)

@@ -39,33 +39,41 @@ module _ (roots : List Need) where
       (selected-same f g (suc i) xs (λ k. let e : suc i + k ≡ i + suc k = omega arith in ap f e ∙ h (suc k) ∙ ap g (sym e)))
 
   pub flag-here : (i : ℕ) (x : Step) (xs : List Step) → is_flagged i (x ∷ xs) i ≡ is_reached (needed (i + 1) xs) (record { number = i; step = x })
-  flag-here i x xs = let e : (i == i) ≡ true = grind (arith, nat_tests) in ap (λ b. cond b (is_reached (needed (i + 1) xs) (record { number = i; step = x })) (is_flagged (i + 1) xs i)) e
+  flag-here i x xs = let e : (i == i) ≡ true = grind (arith, nat_tests) in ap
+      (λ b. cond b (is_reached (needed (i + 1) xs) (record { number = i; step = x })) (is_flagged (i + 1) xs i)) e
 
   pub flag-later : (i : ℕ) (x : Step) (xs : List Step) (k : ℕ) → is_flagged i (x ∷ xs) (i + suc k) ≡ is_flagged (i + 1) xs (i + suc k)
-  flag-later i x xs k = let e : (i + suc k == i) ≡ false = grind (arith, nat_tests) in ap (λ b. cond b (is_reached (needed (i + 1) xs) (record { number = i; step = x })) (is_flagged (i + 1) xs (i + suc k))) e
+  flag-later i x xs k = let e : (i + suc k == i) ≡ false =
+      grind (arith, nat_tests) in ap (λ b. cond b (is_reached (needed (i + 1) xs) (record { number = i; step = x })) (is_flagged (i + 1) xs (i + suc k))) e
 
   -- The reached steps are the flagged ones
   pub reached-selected : (i : ℕ) (xs : List Step) → (reached_from roots i xs).steps ≡ selected (is_flagged i xs) i xs
   reached-selected i [] = refl
   reached-selected i (x ∷ xs) = go (is_reached (needed (i + 1) xs) (record { number = i; step = x })) refl
       (reached-selected (i + 1) xs ∙ ap (λ k. selected (is_flagged (i + 1) xs) k xs) (let e : i + 1 ≡ suc i = omega arith in e)
-      ∙ selected-same (is_flagged (i + 1) xs) (is_flagged i (x ∷ xs)) (suc i) xs (λ k. let e : suc i + k ≡ i + suc k = omega arith in ap (is_flagged (i + 1) xs) e ∙ sym (flag-later i x xs k) ∙ ap (is_flagged i (x ∷ xs)) (sym e)))
+      ∙ selected-same (is_flagged (i + 1) xs) (is_flagged i (x ∷ xs)) (suc i) xs
+      (λ k. let e : suc i + k ≡ i + suc k = omega arith in ap (is_flagged (i + 1) xs) e ∙ sym (flag-later i x xs k) ∙ ap (is_flagged i (x ∷ xs)) (sym e)))
     where
-      go : (b : Bool) → is_reached (needed (i + 1) xs) (record { number = i; step = x }) ≡ b → (reached_from roots (i + 1) xs).steps ≡ selected (is_flagged i (x ∷ xs)) (suc i) xs
+      go : (b : Bool) → is_reached (needed (i + 1) xs) (record { number = i; step = x }) ≡ b → (reached_from roots (i + 1) xs).steps
+          ≡ selected (is_flagged i (x ∷ xs)) (suc i) xs
           → (reached_from roots i (x ∷ xs)).steps ≡ selected (is_flagged i (x ∷ xs)) i (x ∷ xs)
       go true e rest =
-          ap (λ r. r.steps) (reached-on (reached_from roots (i + 1) xs) (record { number = i; step = x }) e) ∙ ap (λ l. record { number = i; step = x } ∷ l) rest
-          ∙ sym (ap (λ b. cond b (record { number = i; step = x } ∷ selected (is_flagged i (x ∷ xs)) (suc i) xs) (selected (is_flagged i (x ∷ xs)) (suc i) xs)) (flag-here i x xs ∙ e))
+          ap (λ r. r.steps) (reached-on (reached_from roots (i + 1) xs) (record { number = i; step = x }) e)
+          ∙ ap (λ l. record { number = i; step = x } ∷ l) rest
+          ∙ sym (ap (λ b. cond b (record { number = i; step = x } ∷ selected (is_flagged i (x ∷ xs)) (suc i) xs) (selected (is_flagged i (x ∷ xs)) (suc i) xs))
+          (flag-here i x xs ∙ e))
       go false e rest =
           ap (λ r. r.steps) (reached-off (reached_from roots (i + 1) xs) (record { number = i; step = x }) e) ∙ rest
-          ∙ sym (ap (λ b. cond b (record { number = i; step = x } ∷ selected (is_flagged i (x ∷ xs)) (suc i) xs) (selected (is_flagged i (x ∷ xs)) (suc i) xs)) (flag-here i x xs ∙ e))
+          ∙ sym (ap (λ b. cond b (record { number = i; step = x } ∷ selected (is_flagged i (x ∷ xs)) (suc i) xs) (selected (is_flagged i (x ∷ xs)) (suc i) xs))
+          (flag-here i x xs ∙ e))
 
   -- what is needed stays needed
   needed-more : (i : ℕ) (x : Step) (xs : List Step) (n : Need) → IsIn (needed (i + 1) xs) n → IsIn (needed i (x ∷ xs)) n
   needed-more i x xs n h = go (is_reached (needed (i + 1) xs) (record { number = i; step = x })) refl
     where
       go : (b : Bool) → is_reached (needed (i + 1) xs) (record { number = i; step = x }) ≡ b → IsIn (needed i (x ∷ xs)) n
-      go true e = subst (λ r. IsIn r.needed n) (sym (reached-on (reached_from roots (i + 1) xs) (record { number = i; step = x }) e)) (IsIn-left (needed (i + 1) xs) (needs x) n h)
+      go true e = subst (λ r. IsIn r.needed n) (sym (reached-on (reached_from roots (i + 1) xs) (record { number = i; step = x }) e))
+          (IsIn-left (needed (i + 1) xs) (needs x) n h)
       go false e = subst (λ r. IsIn r.needed n) (sym (reached-off (reached_from roots (i + 1) xs) (record { number = i; step = x }) e)) h
 
   pub roots-needed : (i : ℕ) (xs : List Step) (n : Need) → IsIn roots n → IsIn (needed i xs) n
@@ -80,7 +88,8 @@ module _ (roots : List Need) where
       let same : y ≡ x = cc in
       let here : i + 0 ≡ i = omega arith in
       let e : is_reached (needed (i + 1) xs) (record { number = i; step = y }) ≡ true = sym (flag-here i y xs) ∙ ap (is_flagged i (y ∷ xs)) (sym here) ∙ on in
-      subst (λ r. IsIn r.needed n) (sym (reached-on (reached_from roots (i + 1) xs) (record { number = i; step = y }) e)) (IsIn-right (needed (i + 1) xs) (needs y) n (subst (λ z. IsIn (needs z) n) (sym same) h))
+      subst (λ r. IsIn r.needed n) (sym (reached-on (reached_from roots (i + 1) xs) (record { number = i; step = y }) e))
+      (IsIn-right (needed (i + 1) xs) (needs y) n (subst (λ z. IsIn (needs z) n) (sym same) h))
   flagged-needs i (y ∷ xs) (suc k) x n at on h =
       let there : (i + 1) + k ≡ i + suc k = omega arith in
       needed-more i y xs n (flagged-needs (i + 1) xs k x n at (ap (is_flagged (i + 1) xs) there ∙ sym (flag-later i y xs k) ∙ on) h)
@@ -104,7 +113,8 @@ module _ (roots : List Need) where
   root-flagged i (y ∷ xs) zero x at h =
       let here : i + 0 ≡ i = omega arith in
       ap (is_flagged i (y ∷ xs)) here ∙ flag-here i y xs
-      ∙ serves-reached (needed (i + 1) xs) (record { number = i; step = y }) (Need.step i) (inl refl) (roots-needed (i + 1) xs (Need.step i) (subst (λ j. IsIn roots (Need.step j)) here h))
+      ∙ serves-reached (needed (i + 1) xs) (record { number = i; step = y }) (Need.step i) (inl refl)
+      (roots-needed (i + 1) xs (Need.step i) (subst (λ j. IsIn roots (Need.step j)) here h))
   root-flagged i (y ∷ xs) (suc k) x at h =
       let there : (i + 1) + k ≡ i + suc k = omega arith in
       flag-later i y xs k ∙ ap (is_flagged (i + 1) xs) (sym there) ∙ root-flagged (i + 1) xs k x at (subst (λ j. IsIn roots (Need.step j)) (sym there) h)
@@ -120,7 +130,9 @@ module _ (roots : List Need) where
       let there : (i + 1) + k ≡ i + suc k = omega arith in
       let same : z ≡ y = cc in
       ap (is_flagged i (z ∷ xs)) here ∙ flag-here i z xs
-      ∙ serves-reached (needed (i + 1) xs) (record { number = i; step = z }) n (subst (λ m. IsIn (serves (record { number = m; step = z })) n) here (subst (λ w. IsIn (serves (record { number = i + 0; step = w })) n) (sym same) s))
+      ∙ serves-reached (needed (i + 1) xs) (record { number = i; step = z }) n
+      (subst (λ m. IsIn (serves (record { number = m; step = z })) n) here
+      (subst (λ w. IsIn (serves (record { number = i + 0; step = w })) n) (sym same) s))
       (flagged-needs (i + 1) xs k x n b (ap (is_flagged (i + 1) xs) there ∙ sym (flag-later i z xs k) ∙ on) h)
   need-flagged i (z ∷ xs) (suc j) zero y x n a b low on h s = absurd (omega (arith, low))
   need-flagged i (z ∷ xs) (suc j) (suc k) y x n a b low on h s =
@@ -135,13 +147,15 @@ module _ (roots : List Need) where
   below-flag i [] j low = refl
   below-flag i (x ∷ xs) j low =
       let e : (j == i) ≡ false = grind (arith, nat_tests, low) in
-      ap (λ b. cond b (is_reached (needed (i + 1) xs) (record { number = i; step = x })) (is_flagged (i + 1) xs j)) e ∙ below-flag (i + 1) xs j (omega (arith, low))
+      ap (λ b. cond b (is_reached (needed (i + 1) xs) (record { number = i; step = x })) (is_flagged (i + 1) xs j)) e
+      ∙ below-flag (i + 1) xs j (omega (arith, low))
 
   pub flag-numbers : (i : ℕ) (xs : List Step) (j : ℕ) → list_any (λ (y : Numbered). y.number == j) (reached_from roots i xs).steps ≡ is_flagged i xs j
   flag-numbers i [] j = refl
   flag-numbers i (x ∷ xs) j = go (is_reached (needed (i + 1) xs) (record { number = i; step = x })) (j == i) refl refl (flag-numbers (i + 1) xs j)
     where
-      go : (b c : Bool) → is_reached (needed (i + 1) xs) (record { number = i; step = x }) ≡ b → (j == i) ≡ c → list_any (λ (y : Numbered). y.number == j) (reached_from roots (i + 1) xs).steps ≡ is_flagged (i + 1) xs j
+      go : (b c : Bool) → is_reached (needed (i + 1) xs) (record { number = i; step = x }) ≡ b → (j == i) ≡ c
+          → list_any (λ (y : Numbered). y.number == j) (reached_from roots (i + 1) xs).steps ≡ is_flagged (i + 1) xs j
           → list_any (λ (y : Numbered). y.number == j) (reached_from roots i (x ∷ xs)).steps ≡ is_flagged i (x ∷ xs) j
       go true true e f h =
           let here : (i == j) ≡ true = grind (arith, nat_tests, f) in

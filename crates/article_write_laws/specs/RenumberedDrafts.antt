@@ -48,7 +48,8 @@ module _ (flag : ℕ → Bool) where
   same-referred k s = same-said (item.Word word.Ref) (same-said (item.Number (pos k)) s)
 
   -- the place of what is the same
-  same-place : (x y : Kept) (start : ℕ) (kept : List Kept) → AllByRecursion (λ z. kept_eq y (other z) ≡ kept_eq x z) kept → position_from (kept_eq y) start (map other kept) ≡ position_from (kept_eq x) start kept
+  same-place : (x y : Kept) (start : ℕ) (kept : List Kept) → AllByRecursion (λ z. kept_eq y (other z) ≡ kept_eq x z) kept
+      → position_from (kept_eq y) start (map other kept) ≡ position_from (kept_eq x) start kept
   same-place x y start [] h = refl
   same-place x y start (z ∷ kept) h = ap₂ (λ b o. cond b (Some start) o) h.0 (same-place x y (start + 1) kept h.1)
 
@@ -67,17 +68,20 @@ module _ (flag : ℕ → Bool) where
   same-once_at : {d e : Draft} (o p : Option ℕ) (x : Kept) (build : Draft → Draft) → p ≡ o → IsFlagged x → Same d e → Same (build d) (build e)
       → Same (once_at o x build d) (once_at p (other x) build e)
   same-once_at {d = d} {e = e} None p x build h f s b = subst (λ o. Same (once_at None x build d) (once_at o (other x) build e)) (sym h) (same-kept x f b)
-  same-once_at {d = d} {e = e} (Some k) p x build h f s b = subst (λ o. Same (once_at (Some k) x build d) (once_at o (other x) build e)) (sym h) (same-referred k s)
+  same-once_at {d = d} {e = e} (Some k) p x build h f s b =
+      subst (λ o. Same (once_at (Some k) x build d) (once_at o (other x) build e)) (sym h) (same-referred k s)
 
   same-type : {d e : Draft} (a : HolType) (build : Draft → Draft) → Same d e → Same (build d) (build e)
       → Same (once (Kept.type a) build d) (once (Kept.type a) build e)
   same-type {d = d} {e = e} a build s b =
-      same-once_at (key_of (Kept.type a) d) (key_of (Kept.type a) e) (Kept.type a) build (ap (position_from (kept_eq (Kept.type a)) 0) s.kept ∙ same-place (Kept.type a) (Kept.type a) 0 d.kept (type-test a d.kept)) tt s b
+      same-once_at (key_of (Kept.type a) d) (key_of (Kept.type a) e) (Kept.type a) build
+      (ap (position_from (kept_eq (Kept.type a)) 0) s.kept ∙ same-place (Kept.type a) (Kept.type a) 0 d.kept (type-test a d.kept)) tt s b
 
   same-term : {d e : Draft} (t : Term) (build : Draft → Draft) → Same d e → Same (build d) (build e)
       → Same (once (Kept.term t) build d) (once (Kept.term t) build e)
   same-term {d = d} {e = e} t build s b =
-      same-once_at (key_of (Kept.term t) d) (key_of (Kept.term t) e) (Kept.term t) build (ap (position_from (kept_eq (Kept.term t)) 0) s.kept ∙ same-place (Kept.term t) (Kept.term t) 0 d.kept (term-test t d.kept)) tt s b
+      same-once_at (key_of (Kept.term t) d) (key_of (Kept.term t) e) (Kept.term t) build
+      (ap (position_from (kept_eq (Kept.term t)) 0) s.kept ∙ same-place (Kept.term t) (Kept.term t) 0 d.kept (term-test t d.kept)) tt s b
 
   -- what is written of the same
   abbrev pub Alike : (Draft → Draft) → (Draft → Draft) → Type 0
@@ -94,18 +98,26 @@ module _ (flag : ℕ → Bool) where
 
   same-list : {A : Type 0} (write : A → Draft → Draft) → ((x : A) → Alike (write x) (write x)) → (xs : List A)
       → Alike (write_list write xs) (write_list write xs)
-  same-list write f xs d e s = same-conses (length xs) (say_word word.Nil (write_each write xs d)) (say_word word.Nil (write_each write xs e)) (same-said (item.Word word.Nil) (same-each write f xs d e s))
+  same-list write f xs d e s = same-conses (length xs) (say_word word.Nil (write_each write xs d)) (say_word word.Nil (write_each write xs e))
+      (same-said (item.Word word.Nil) (same-each write f xs d e s))
 
   same-pair : (one two : Draft → Draft) → Alike one one → Alike two two → Alike (write_pair one two) (write_pair one two)
-  same-pair one two f g d e s = same-conses 2 (say_word word.Nil (two (one d))) (say_word word.Nil (two (one e))) (same-said (item.Word word.Nil) (g (one d) (one e) (f d e s)))
+  same-pair one two f g d e s = same-conses 2 (say_word word.Nil (two (one d))) (say_word word.Nil (two (one e)))
+      (same-said (item.Word word.Nil) (g (one d) (one e) (f d e s)))
 
   mutual
     same-write_type : (t : HolType) → Alike (write_type t) (write_type t)
-    same-write_type (HolType.variable n) d e s = same-type (HolType.variable n) (λ z. say_word word.VarType (say_name n z)) s (same-said (item.Word word.VarType) (same-said (item.Name n) s))
+    same-write_type (HolType.variable n) d e s = same-type (HolType.variable n) (λ z. say_word word.VarType (say_name n z)) s
+        (same-said (item.Word word.VarType) (same-said (item.Name n) s))
     same-write_type (HolType.operator n ts) d e s =
-        same-type (HolType.operator n ts) (λ z. say_word word.OpType (conses (count ts) (say_word word.Nil (write_types ts (say_word word.TypeOp (say_name n z)))))) s
-        (same-said (item.Word word.OpType) (same-conses (count ts) (say_word word.Nil (write_types ts (say_word word.TypeOp (say_name n d)))) (say_word word.Nil (write_types ts (say_word word.TypeOp (say_name n e))))
-        (same-said (item.Word word.Nil) (same-write_types ts (say_word word.TypeOp (say_name n d)) (say_word word.TypeOp (say_name n e)) (same-said (item.Word word.TypeOp) (same-said (item.Name n) s))))))
+        same-type (HolType.operator n ts)
+        (λ z. say_word word.OpType (conses (count ts) (say_word word.Nil (write_types ts (say_word word.TypeOp (say_name n z)))))) s
+        (same-said (item.Word word.OpType)
+        (same-conses (count ts) (say_word word.Nil (write_types ts (say_word word.TypeOp (say_name n d))))
+        (say_word word.Nil (write_types ts (say_word word.TypeOp (say_name n e))))
+        (same-said (item.Word word.Nil)
+        (same-write_types ts (say_word word.TypeOp (say_name n d)) (say_word word.TypeOp (say_name n e))
+        (same-said (item.Word word.TypeOp) (same-said (item.Name n) s))))))
 
     same-write_types : (ts : HolTypes) → Alike (write_types ts) (write_types ts)
     same-write_types HolTypes.none d e s = s
@@ -125,11 +137,14 @@ module _ (flag : ℕ → Bool) where
       go false = b
 
   same-under : (q : ℕ) (t : Term) (vs : List Variable) → Alike (write_under q vs t) (write_under q vs t)
-  same-under q (Term.free n a) vs d e s = same-shared (Term.free n a) (λ z. say_word word.VarTerm (write_variable (n, a) z)) s (same-said (item.Word word.VarTerm) (same-variable (n, a) d e s))
+  same-under q (Term.free n a) vs d e s = same-shared (Term.free n a) (λ z. say_word word.VarTerm (write_variable (n, a) z)) s
+      (same-said (item.Word word.VarTerm) (same-variable (n, a) d e s))
   same-under q (Term.bound k) vs d e s = same-said (item.Word word.VarTerm) (same-variable (binder_at vs k) d e s)
   same-under q (Term.constant n a) vs d e s =
       same-shared (Term.constant n a) (λ z. say_word word.ConstTerm (write_type a (say_word word.Const (say_name n z)))) s
-      (same-said (item.Word word.ConstTerm) (same-write_type a (say_word word.Const (say_name n d)) (say_word word.Const (say_name n e)) (same-said (item.Word word.Const) (same-said (item.Name n) s))))
+      (same-said (item.Word word.ConstTerm)
+      (same-write_type a (say_word word.Const (say_name n d)) (say_word word.Const (say_name n e))
+      (same-said (item.Word word.Const) (same-said (item.Name n) s))))
   same-under q (Term.app f x) vs d e s =
       same-shared (Term.app f x) (λ z. say_word word.AppTerm (write_under q vs x (write_under q vs f z))) s
       (same-said (item.Word word.AppTerm) (same-under q x vs (write_under q vs f d) (write_under q vs f e) (same-under q f vs d e s)))
@@ -146,16 +161,21 @@ module _ (flag : ℕ → Bool) where
   same-given q (Parameters.term t) d e s = same-write_term q t d e s
   same-given q (Parameters.variable v) d e s = same-variable v d e s
   same-given q (Parameters.substitution types terms) d e s =
-      same-pair (write_list (λ p. write_pair (say_name p.0) (write_type p.1)) types) (write_list (λ p. write_pair (write_variable p.0) (write_term q p.1)) terms)
+      same-pair (write_list (λ p. write_pair (say_name p.0) (write_type p.1)) types)
+      (write_list (λ p. write_pair (write_variable p.0) (write_term q p.1)) terms)
       (same-list (λ p. write_pair (say_name p.0) (write_type p.1)) (λ p. same-pair (say_name p.0) (write_type p.1) (same-name p.0) (same-write_type p.1)) types)
-      (same-list (λ p. write_pair (write_variable p.0) (write_term q p.1)) (λ p. same-pair (write_variable p.0) (write_term q p.1) (same-variable p.0) (same-write_term q p.1)) terms) d e s
+      (same-list (λ p. write_pair (write_variable p.0) (write_term q p.1))
+      (λ p. same-pair (write_variable p.0) (write_term q p.1) (same-variable p.0) (same-write_term q p.1)) terms) d e s
   same-given q (Parameters.sequent z) d e s =
-      same-write_term q z.conclusion (write_list (write_term q) z.hypotheses d) (write_list (write_term q) z.hypotheses e) (same-list (write_term q) (same-write_term q) z.hypotheses d e s)
+      same-write_term q z.conclusion (write_list (write_term q) z.hypotheses d) (write_list (write_term q) z.hypotheses e)
+      (same-list (write_term q) (same-write_term q) z.hypotheses d e s)
   same-given q (Parameters.constant n t) d e s = same-write_term q t (say_name n d) (say_name n e) (same-name n d e s)
   same-given q (Parameters.constants pairs) d e s =
-      same-list (λ p. write_pair (say_name p.0) (write_variable p.1)) (λ p. same-pair (say_name p.0) (write_variable p.1) (same-name p.0) (same-variable p.1)) pairs d e s
+      same-list (λ p. write_pair (say_name p.0) (write_variable p.1)) (λ p. same-pair (say_name p.0) (write_variable p.1) (same-name p.0) (same-variable p.1))
+      pairs d e s
   same-given q (Parameters.type_operator names version) d e s =
-      same-list say_name same-name names.variables _ _ (same-said (item.Name names.representation) (same-said (item.Name names.abstraction) (same-said (item.Name names.operator) s)))
+      same-list say_name same-name names.variables _ _
+      (same-said (item.Name names.representation) (same-said (item.Name names.abstraction) (same-said (item.Name names.operator) s)))
 
   -- PREMISES: flagged numbers have different counts
   count-mono : (i j : ℕ) → i < j → flag i ≡ true → flags.count flag i < flags.count flag j
@@ -177,11 +197,13 @@ module _ (flag : ℕ → Bool) where
   count-test i j on also = go (i == j) (nat_lt i j) refl refl
     where
       go : (b c : Bool) → (i == j) ≡ b → nat_lt i j ≡ c → (flags.count flag i == flags.count flag j) ≡ b
-      go true c e f = let same : i ≡ j = grind (arith, nat_tests, e) in let z : flags.count flag i ≡ flags.count flag j = ap (flags.count flag) same in grind (arith, nat_tests, z)
+      go true c e f = let same : i ≡ j = grind (arith, nat_tests, e) in let z : flags.count flag i ≡ flags.count flag j =
+          ap (flags.count flag) same in grind (arith, nat_tests, z)
       go false true e f = let less : i < j = grind (arith, nat_tests, f) in let z = count-mono i j less on in grind (arith, nat_tests, z)
       go false false e f = let more : j < i = grind (arith, nat_tests, e, f) in let z = count-mono j i more also in grind (arith, nat_tests, z)
 
-  theorem-test : (i : ℕ) → flag i ≡ true → (kept : List Kept) → AllByRecursion IsFlagged kept → AllByRecursion (λ z. kept_eq (Kept.theorem (flags.count flag i)) (other z) ≡ kept_eq (Kept.theorem i) z) kept
+  theorem-test : (i : ℕ) → flag i ≡ true → (kept : List Kept) → AllByRecursion IsFlagged kept
+      → AllByRecursion (λ z. kept_eq (Kept.theorem (flags.count flag i)) (other z) ≡ kept_eq (Kept.theorem i) z) kept
   theorem-test i on [] h = tt
   theorem-test i on (Kept.type b ∷ kept) h = (refl, theorem-test i on kept h.1)
   theorem-test i on (Kept.term u ∷ kept) h = (refl, theorem-test i on kept h.1)
@@ -190,7 +212,8 @@ module _ (flag : ℕ → Bool) where
   same-premise : (i : ℕ) → flag i ≡ true → Alike (write_premise i) (write_premise (flags.count flag i))
   same-premise i on d e s =
       let key : key_of (Kept.theorem (flags.count flag i)) e ≡ key_of (Kept.theorem i) d =
-      ap (position_from (kept_eq (Kept.theorem (flags.count flag i))) 0) s.kept ∙ same-place (Kept.theorem i) (Kept.theorem (flags.count flag i)) 0 d.kept (theorem-test i on d.kept s.flagged) in
+      ap (position_from (kept_eq (Kept.theorem (flags.count flag i))) 0) s.kept
+      ∙ same-place (Kept.theorem i) (Kept.theorem (flags.count flag i)) 0 d.kept (theorem-test i on d.kept s.flagged) in
       subst (λ o. Same (write_premise i d) (refer (unwrap_or o 0) e)) (sym key) (same-referred (unwrap_or (key_of (Kept.theorem i) d) 0) s)
 
   pub same-premises : (is : List ℕ) → AllByRecursion (λ i. flag i ≡ true) is

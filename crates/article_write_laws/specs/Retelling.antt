@@ -52,7 +52,8 @@ definitions-are (Symbol.defined d ∷ xs) = ap (λ l. d ∷ l) (definitions-are 
 
 defined-append : (xs ys : List Symbol) → flat_map defined_by (xs ++ ys) ≡ flat_map defined_by xs ++ flat_map defined_by ys
 defined-append [] ys = refl
-defined-append (x ∷ xs) ys = ap (λ l. defined_by x ++ l) (defined-append xs ys) ∙ sym (append_assoc (defined_by x) (flat_map defined_by xs) (flat_map defined_by ys))
+defined-append (x ∷ xs) ys = ap (λ l. defined_by x ++ l) (defined-append xs ys) ∙ sym
+    (append_assoc (defined_by x) (flat_map defined_by xs) (flat_map defined_by ys))
 
 inputs-define : (xs : List Symbol) → AllByRecursion IsInput xs → flat_map defined_by xs ≡ []
 inputs-define [] h = refl
@@ -65,11 +66,14 @@ module _ (flag : ℕ → Bool) where
       → told_definitions flag n (xs ++ ys) ≡ told_definitions flag n xs ++ told_definitions flag (n + length (steps_of xs)) ys
   told-append n [] ys = ap (λ k. told_definitions flag k ys) (let e : n ≡ n + 0 = omega arith in e)
   told-append n (Made.symbol x ∷ xs) ys =
-      ap (λ l. cond (flag n) (defined_by x) [] ++ l) (told-append n xs ys) ∙ sym (append_assoc (cond (flag n) (defined_by x) []) (told_definitions flag n xs) (told_definitions flag (n + length (steps_of xs)) ys))
+      ap (λ l. cond (flag n) (defined_by x) [] ++ l) (told-append n xs ys)
+      ∙ sym (append_assoc (cond (flag n) (defined_by x) []) (told_definitions flag n xs) (told_definitions flag (n + length (steps_of xs)) ys))
   told-append n (Made.type_definition names c f i ∷ xs) ys =
       ap (λ l. cond (flag n) (Definition.type_operator names c f ∷ []) [] ++ l) (told-append n xs ys)
-      ∙ sym (append_assoc (cond (flag n) (Definition.type_operator names c f ∷ []) []) (told_definitions flag n xs) (told_definitions flag (n + length (steps_of xs)) ys))
-  told-append n (Made.step x ∷ xs) ys = told-append (suc n) xs ys ∙ ap (λ k. told_definitions flag (suc n) xs ++ told_definitions flag k ys) (let e : suc n + length (steps_of xs) ≡ n + suc (length (steps_of xs)) = omega arith in e)
+      ∙ sym (append_assoc (cond (flag n) (Definition.type_operator names c f ∷ []) []) (told_definitions flag n xs)
+      (told_definitions flag (n + length (steps_of xs)) ys))
+  told-append n (Made.step x ∷ xs) ys = told-append (suc n) xs ys ∙ ap (λ k. told_definitions flag (suc n) xs ++ told_definitions flag k ys)
+      (let e : suc n + length (steps_of xs) ≡ n + suc (length (steps_of xs)) = omega arith in e)
 
   told-symbols : (b : Bool) (n : ℕ) (new : List Symbol) (rest : List Made) → flag n ≡ b → told_definitions flag n rest ≡ []
       → told_definitions flag n (map Made.symbol new ++ rest) ≡ cond b (flat_map defined_by new) []
@@ -86,11 +90,13 @@ module _ (flag : ℕ → Bool) where
       ap (told_definitions flag 0) (is ∙ append_assoc made (map Made.symbol new) (Made.step x ∷ []))
       ∙ told-append 0 made (map Made.symbol new ++ Made.step x ∷ [])
       ∙ ap (λ l. told_definitions flag 0 made ++ l)
-      (ap (λ k. told_definitions flag k (map Made.symbol new ++ Made.step x ∷ [])) (let z : 0 + next made ≡ next made = omega arith in z) ∙ told-symbols b (next made) new (Made.step x ∷ []) e refl)
+      (ap (λ k. told_definitions flag k (map Made.symbol new ++ Made.step x ∷ [])) (let z : 0 + next made ≡ next made = omega arith in z)
+      ∙ told-symbols b (next made) new (Made.step x ∷ []) e refl)
 
   -- a type operator, with its first law
   pub told-operator : (b : Bool) (made : List Made) (names : TypeNames) (c : HolType) (f : Term) (i : ℕ) (x : Step) → flag (next made) ≡ b
-      → told_definitions flag 0 ((made ++ Made.type_definition names c f i ∷ []) ++ Made.step x ∷ []) ≡ told_definitions flag 0 made ++ cond b (Definition.type_operator names c f ∷ []) []
+      → told_definitions flag 0 ((made ++ Made.type_definition names c f i ∷ []) ++ Made.step x ∷ []) ≡ told_definitions flag 0 made
+      ++ cond b (Definition.type_operator names c f ∷ []) []
   told-operator b made names c f i x e =
       ap (told_definitions flag 0) (append_assoc made (Made.type_definition names c f i ∷ []) (Made.step x ∷ []))
       ∙ told-append 0 made (Made.type_definition names c f i ∷ Made.step x ∷ [])
@@ -100,7 +106,8 @@ module _ (flag : ℕ → Bool) where
   pub told-input : (made whole : List Made) (x : Symbol) → IsInput x → whole ≡ made ++ Made.symbol x ∷ []
       → told_definitions flag 0 whole ≡ told_definitions flag 0 made
   told-input made whole x input is =
-      ap (told_definitions flag 0) is ∙ told-append 0 made (Made.symbol x ∷ []) ∙ ap (λ l. told_definitions flag 0 made ++ l) (nothing x input (flag (0 + next made))) ∙ nil-append (told_definitions flag 0 made)
+      ap (told_definitions flag 0) is ∙ told-append 0 made (Made.symbol x ∷ [])
+      ∙ ap (λ l. told_definitions flag 0 made ++ l) (nothing x input (flag (0 + next made))) ∙ nil-append (told_definitions flag 0 made)
     where
       nothing : (x : Symbol) → IsInput x → (b : Bool) → cond b (defined_by x) [] ++ [] ≡ []
       nothing (Symbol.input_constant n) h true = refl
@@ -114,7 +121,9 @@ module _ (flag : ℕ → Bool) where
       → definitions_of after ≡ definitions_of before ++ flat_map defined_by new
   defined-after before after more new inputs e =
       ap (filter_map symbol_definition) e ∙ definitions-are ((symbols_of before ++ more) ++ new) ∙ defined-append (symbols_of before ++ more) new
-      ∙ ap (λ l. l ++ flat_map defined_by new) (defined-append (symbols_of before) more ∙ ap (λ l. flat_map defined_by (symbols_of before) ++ l) (inputs-define more inputs) ∙ nil-append (flat_map defined_by (symbols_of before)) ∙ sym (definitions-are (symbols_of before)))
+      ∙ ap (λ l. l ++ flat_map defined_by new) (defined-append (symbols_of before) more
+      ∙ ap (λ l. flat_map defined_by (symbols_of before) ++ l) (inputs-define more inputs) ∙ nil-append (flat_map defined_by (symbols_of before))
+      ∙ sym (definitions-are (symbols_of before)))
 
 module _ (q : ℕ) (version : Version) (flag is_export : ℕ → Bool) where
   abbrev pub write_flagged : Numbered → Draft → Draft
@@ -124,7 +133,8 @@ module _ (q : ℕ) (version : Version) (flag is_export : ℕ → Bool) where
   told made = write_each write_flagged (selected flag 0 (steps_of made)) (version_draft version)
 
   abbrev pub scene : List Made → List ℕ → List ℕ → Scene
-  scene made ax ex = record { version = version; number = count flag; symbols = symbols_of made; assumptions = map (count flag) (filter flag ax); exports = map (count flag) ex }
+  scene made ax ex = record
+      { version = version; number = count flag; symbols = symbols_of made; assumptions = map (count flag) (filter flag ax); exports = map (count flag) ex }
 
   pub record Retold (made : List Made) (ax ex : List ℕ) : Type 0 where
     pub after : List Made
@@ -137,7 +147,8 @@ module _ (q : ℕ) (version : Version) (flag is_export : ℕ → Bool) where
     pub exports : AllByRecursion (λ i. (i < next made) × (flag i ≡ true)) ex
 
   module _ (made whole : List Made) (x : Step) (grown : steps_of whole ≡ steps_of made ++ x ∷ []) where
-    pub selected-grown : selected flag 0 (steps_of whole) ≡ selected flag 0 (steps_of made) ++ cond (flag (next made)) (record { number = next made; step = x } ∷ []) []
+    pub selected-grown : selected flag 0 (steps_of whole) ≡ selected flag 0 (steps_of made)
+        ++ cond (flag (next made)) (record { number = next made; step = x } ∷ []) []
     selected-grown =
         ap (selected flag 0) grown ∙ selected-push flag 0 (steps_of made) x
         ∙ ap (λ k. selected flag 0 (steps_of made) ++ selected flag k (x ∷ [])) (let e : 0 + next made ≡ next made = omega arith in e)
@@ -145,20 +156,24 @@ module _ (q : ℕ) (version : Version) (flag is_export : ℕ → Bool) where
     pub next-grown : next whole ≡ next made + 1
     next-grown = ap length grown ∙ length-append (steps_of made) (x ∷ [])
 
-    pub selected-on : flag (next made) ≡ true → selected flag 0 (steps_of whole) ≡ selected flag 0 (steps_of made) ++ record { number = next made; step = x } ∷ []
+    pub selected-on : flag (next made) ≡ true → selected flag 0 (steps_of whole) ≡ selected flag 0 (steps_of made)
+        ++ record { number = next made; step = x } ∷ []
     selected-on on = selected-grown ∙ ap (λ b. selected flag 0 (steps_of made) ++ cond b (record { number = next made; step = x } ∷ []) []) on
 
     pub selected-off : flag (next made) ≡ false → selected flag 0 (steps_of whole) ≡ selected flag 0 (steps_of made)
-    selected-off off = selected-grown ∙ ap (λ b. selected flag 0 (steps_of made) ++ cond b (record { number = next made; step = x } ∷ []) []) off ∙ nil-append (selected flag 0 (steps_of made))
+    selected-off off = selected-grown ∙ ap (λ b. selected flag 0 (steps_of made) ++ cond b (record { number = next made; step = x } ∷ []) []) off ∙ nil-append
+        (selected flag 0 (steps_of made))
 
     pub told-on : flag (next made) ≡ true → told whole ≡ write_flagged (record { number = next made; step = x }) (told made)
-    told-on on = ap (λ l. write_each write_flagged l (version_draft version)) (selected-on on) ∙ write_each-append write_flagged (selected flag 0 (steps_of made)) (record { number = next made; step = x } ∷ []) (version_draft version)
+    told-on on = ap (λ l. write_each write_flagged l (version_draft version)) (selected-on on)
+        ∙ write_each-append write_flagged (selected flag 0 (steps_of made)) (record { number = next made; step = x } ∷ []) (version_draft version)
 
     pub told-off : flag (next made) ≡ false → told whole ≡ told made
     told-off off = ap (λ l. write_each write_flagged l (version_draft version)) (selected-off off)
 
     pub steps-on : flag (next made) ≡ true → renumbered_steps flag (steps_of whole) ≡ renumbered_steps flag (steps_of made) ++ renumbered (count flag) x ∷ []
-    steps-on on = ap (map (λ y. renumbered (count flag) y.step)) (selected-on on) ∙ map-append (λ y. renumbered (count flag) y.step) (selected flag 0 (steps_of made)) (record { number = next made; step = x } ∷ [])
+    steps-on on = ap (map (λ y. renumbered (count flag) y.step)) (selected-on on)
+        ∙ map-append (λ y. renumbered (count flag) y.step) (selected flag 0 (steps_of made)) (record { number = next made; step = x } ∷ [])
 
     pub steps-off : flag (next made) ≡ false → renumbered_steps flag (steps_of whole) ≡ renumbered_steps flag (steps_of made)
     steps-off off = ap (map (λ y. renumbered (count flag) y.step)) (selected-off off)
@@ -197,7 +212,8 @@ module _ (q : ℕ) (version : Version) (flag is_export : ℕ → Bool) where
   -- A step that is not told
   pub retold-off : {made whole : List Made} {ax ex all : List ℕ} (x : Step) (r : Retold made ax ex) → steps_of whole ≡ steps_of made ++ x ∷ []
       → flag (next made) ≡ false
-      → AreAmong (symbols_of whole) (symbols_of r.after) → AreApart (symbols_of whole) → filter flag all ≡ filter flag ax → AllByRecursion (Below (next whole)) all → told_definitions flag 0 whole ≡ told_definitions flag 0 made → Retold whole all ex
+      → AreAmong (symbols_of whole) (symbols_of r.after) → AreApart (symbols_of whole) → filter flag all ≡ filter flag ax
+      → AllByRecursion (Below (next whole)) all → told_definitions flag 0 whole ≡ told_definitions flag 0 made → Retold whole all ex
   retold-off {made = made} {whole = whole} {ax = ax} {ex = ex} {all = all} x r grown off among apart same below defs =
       let draft = told-off made whole x grown off in
       let longer = next-grown made whole x grown in
@@ -218,11 +234,14 @@ module _ (q : ℕ) (version : Version) (flag is_export : ℕ → Bool) where
   -- A step that is told
   pub retold-on : {made whole : List Made} {ax ex all exported : List ℕ} (x : Step) (r : Retold made ax ex) → steps_of whole ≡ steps_of made ++ x ∷ []
       → flag (next made) ≡ true
-      → (after : List Made) → Ready (scene whole all exported) (write_flagged (record { number = next made; step = x }) (told made)) after [] → steps_of after ≡ steps_of r.after ++ renumbered (count flag) x ∷ []
+      → (after : List Made) → Ready (scene whole all exported) (write_flagged (record { number = next made; step = x }) (told made)) after [] → steps_of after
+      ≡ steps_of r.after ++ renumbered (count flag) x ∷ []
       → (new : List Kept) → (write_flagged (record { number = next made; step = x }) (told made)).kept ≡ (told made).kept ++ new
       → (is_export (next made) ≡ false → IsKept (write_flagged (record { number = next made; step = x }) (told made)).kept (next made))
-      → AreApart (symbols_of whole) → AllByRecursion (Below (next whole)) all → AllByRecursion (Exported (next whole)) exported → definitions_of after ≡ told_definitions flag 0 whole → Retold whole all exported
-  retold-on {made = made} {whole = whole} {ax = ax} {ex = ex} {all = all} {exported = exported} x r grown on after ready steps new front own apart below outside defs =
+      → AreApart (symbols_of whole) → AllByRecursion (Below (next whole)) all → AllByRecursion (Exported (next whole)) exported → definitions_of after
+      ≡ told_definitions flag 0 whole → Retold whole all exported
+  retold-on {made = made} {whole = whole} {ax = ax} {ex = ex} {all = all} {exported = exported} x r grown on after ready steps new front own apart below outside
+      defs =
       let draft = told-on made whole x grown on in
       record {
         after = after;
@@ -231,7 +250,8 @@ module _ (q : ℕ) (version : Version) (flag is_export : ℕ → Bool) where
         definitions = defs;
         kept = λ i low f no. subst (λ d. IsKept d.kept i) (sym draft) (elim (earlier made whole x grown i low) [
           | inl old ↦ subst (λ l. IsKept l i) (sym front) (kept-more (told made).kept new i (r.kept i old f no))
-          | inr is ↦ subst (λ j. IsKept (write_flagged (record { number = next made; step = x }) (told made)).kept j) (sym is) (own (ap is_export (sym is) ∙ no))
+          | inr is ↦ subst (λ j. IsKept (write_flagged (record { number = next made; step = x }) (told made)).kept j) (sym is)
+              (own (ap is_export (sym is) ∙ no))
         ]);
         apart = apart;
         assumptions = below;
@@ -240,14 +260,17 @@ module _ (q : ℕ) (version : Version) (flag is_export : ℕ → Bool) where
 
   -- how many steps the article has
   pub count-after : {made : List Made} {ax ex : List ℕ} (r : Retold made ax ex) → length (steps_of r.after) ≡ count flag (next made)
-  count-after {made = made} r = ap length r.steps ∙ length-map (selected flag 0 (steps_of made)) (λ y. renumbered (count flag) y.step) ∙ count-steps flag (steps_of made)
+  count-after {made = made} r = ap length r.steps ∙ length-map (selected flag 0 (steps_of made)) (λ y. renumbered (count flag) y.step) ∙ count-steps flag
+      (steps_of made)
 
   -- the definitions after a command that is told
   pub defs-told : {made : List Made} {ax ex : List ℕ} (r : Retold made ax ex) (whole after : List Made) (more new : List Symbol) (x : Step)
       → flag (next made) ≡ true → AllByRecursion IsInput more
-      → symbols_of after ≡ (symbols_of r.after ++ more) ++ new → whole ≡ (made ++ map Made.symbol new) ++ Made.step x ∷ [] → definitions_of after ≡ told_definitions flag 0 whole
+      → symbols_of after ≡ (symbols_of r.after ++ more) ++ new → whole ≡ (made ++ map Made.symbol new) ++ Made.step x ∷ [] → definitions_of after
+      ≡ told_definitions flag 0 whole
   defs-told {made = made} r whole after more new x on inputs symbols is =
-      defined-after flag r.after after more new inputs symbols ∙ ap (λ l. l ++ flat_map defined_by new) r.definitions ∙ sym (told-grown flag true made whole new x on is)
+      defined-after flag r.after after more new inputs symbols ∙ ap (λ l. l ++ flat_map defined_by new) r.definitions
+      ∙ sym (told-grown flag true made whole new x on is)
 
   -- one that defines nothing
   pub defs-plain : {made : List Made} {ax ex : List ℕ} (r : Retold made ax ex) (whole : List Made) (more : List Symbol) (x y : Step) → flag (next made) ≡ true

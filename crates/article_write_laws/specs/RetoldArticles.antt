@@ -46,12 +46,15 @@ module _ (q : ℕ) (version : Version) (flag is_export : ℕ → Bool) where
       let ended_state : State = body_state (scene q version flag is_export made ax ex) r.ready.dictionary r.after [] in
       let read = text-Lines items writable small in
       let begins = leads-EndsLike version items ended_state r.ready.leads in
-      let ends : obey_article machine initial (numbered 1 items) (ended read.0) ≡ Ok (record ended_state { stack = []; dictionary = entries.empty; place = start (version_at ended_state.place); pool = ended_state.exports }) =
-      ap (λ z. z >>= (λ s. end_article machine s (ended read.0))) (obey_all-numbered items 1 initial begins.after begins.obeys) ∙ ap (at_line read.0) begins.ends in (
+      let ends : obey_article machine initial (numbered 1 items) (ended read.0)
+      ≡ Ok (record ended_state { stack = []; dictionary = entries.empty; place = start (version_at ended_state.place); pool = ended_state.exports }) =
+      ap (λ z. z >>= (λ s. end_article machine s (ended read.0))) (obey_all-numbered items 1 initial begins.after begins.obeys)
+      ∙ ap (at_line read.0) begins.ends in (
         accepted_state ended_state,
         record {
           run = passed read.1 ends (finished refl);
-          of_version = last (text_of items) (numbered 1 items) (ended read.0) [] refl read.1 (sym (ap version_of (items-numbered 1 items) ∙ leads-version version items ended_state r.ready.leads));
+          of_version = last (text_of items) (numbered 1 items) (ended read.0) [] refl read.1
+              (sym (ap version_of (items-numbered 1 items) ∙ leads-version version items ended_state r.ready.leads));
           steps = r.steps;
           definitions = r.definitions;
           assumptions = refl;

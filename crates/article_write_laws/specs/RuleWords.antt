@@ -24,7 +24,8 @@ use Rattle.article_spec.specs.RuleSteps.{step_by, refl_step, assume_step, eq_mp_
 use Rattle.article_write_laws.specs.TypeWriting.{sequent-in_limits}
 
 equation_parts-equation : (a : HolType) (l r : Term) → equation_parts (equation a l r) ≡ Some (record { ty = a; left = l; right = r })
-equation_parts-equation a l r = ap (λ b. cond b (Some (record { ty = a; left = l; right = r })) None) ((type_eq-Decides (equality_type a) (equality_type a)).1 refl)
+equation_parts-equation a l r = ap (λ b. cond b (Some (record { ty = a; left = l; right = r })) None)
+    ((type_eq-Decides (equality_type a) (equality_type a)).1 refl)
 
 pub equation_of-is : (s : Sequent) (a : HolType) (l r : Term) → s.conclusion ≡ equation a l r → equation_of s ≡ Ok (record { ty = a; left = l; right = r })
 equation_of-is s a l r e = ap (λ t. ok_or (equation_parts t) NotEquation) e ∙ ap (λ o. ok_or o NotEquation) (equation_parts-equation a l r)
@@ -48,7 +49,8 @@ pub assume-step : (p : Term) → HasType p bool → assume_step p ≡ Ok (step_b
 assume-step p h = rw (is_of_type-is p bool h) refl
 
 pub beta_conv-step : (a b : HolType) (t u : Term) → HasType (app (lam a t) u) b
-    → beta_conv_step (app (lam a t) u) ≡ Ok (step_by by_rule.BetaConv [] (Parameters.term (app (lam a t) u)) (derived [] (equation b (app (lam a t) u) (put u t))))
+    → beta_conv_step (app (lam a t) u) ≡ Ok
+    (step_by by_rule.BetaConv [] (Parameters.term (app (lam a t) u)) (derived [] (equation b (app (lam a t) u) (put u t))))
 beta_conv-step a b t u h = rw (typed-is (app (lam a t) u) b h) refl
 
 application_type-is : (a b : HolType) → application_type (Some (function a b)) (Some a) ≡ Some b
@@ -66,20 +68,25 @@ module _ (m : List Made) where
 
   pub abs_thm-step : (i : ℕ) (v : Variable) (b : HolType) (t u : Term) → (sequent_at m i).conclusion ≡ equation b t u
       → is_free_in v (sequent_at m i).hypotheses ≡ false
-      → abs_thm_step m v i ≡ Ok (step_by by_rule.AbsThm (i ∷ []) (variable v) (derived (sequent_at m i).hypotheses (equation (function v.1 b) (abstraction v t) (abstraction v u))))
+      → abs_thm_step m v i ≡ Ok
+      (step_by by_rule.AbsThm (i ∷ []) (variable v) (derived (sequent_at m i).hypotheses (equation (function v.1 b) (abstraction v t) (abstraction v u))))
   abs_thm-step i v b t u e f = rw (equation_of-is (sequent_at m i) b t u e, f) refl
 
   pub app_thm-step : (i j : ℕ) (a b : HolType) (f g x y : Term) → (sequent_at m i).conclusion ≡ equation (function a b) f g
       → (sequent_at m j).conclusion ≡ equation a x y
-      → app_thm_step m i j ≡ Ok (step_by by_rule.AppThm (i ∷ j ∷ []) nothing (derived (joined (sequent_at m i).hypotheses (sequent_at m j).hypotheses) (equation b (app f x) (app g y))))
-  app_thm-step i j a b f g x y e k = rw (equation_of-is (sequent_at m i) (function a b) f g e, equation_of-is (sequent_at m j) a x y k, application_type-is a b) refl
+      → app_thm_step m i j ≡ Ok
+      (step_by by_rule.AppThm (i ∷ j ∷ []) nothing
+      (derived (joined (sequent_at m i).hypotheses (sequent_at m j).hypotheses) (equation b (app f x) (app g y))))
+  app_thm-step i j a b f g x y e k = rw (equation_of-is (sequent_at m i) (function a b) f g e, equation_of-is (sequent_at m j) a x y k, application_type-is a b)
+      refl
 
   pub sym-step : (i : ℕ) (a : HolType) (x y : Term) → (sequent_at m i).conclusion ≡ equation a x y
       → sym_step m i ≡ Ok (step_by by_rule.Sym (i ∷ []) nothing (derived (sequent_at m i).hypotheses (equation a y x)))
   sym-step i a x y e = rw (equation_of-is (sequent_at m i) a x y e) refl
 
   pub trans-step : (i j : ℕ) (a : HolType) (x y z : Term) → (sequent_at m i).conclusion ≡ equation a x y → (sequent_at m j).conclusion ≡ equation a y z
-      → trans_step m i j ≡ Ok (step_by by_rule.Trans (i ∷ j ∷ []) nothing (derived (joined (sequent_at m i).hypotheses (sequent_at m j).hypotheses) (equation a x z)))
+      → trans_step m i j ≡ Ok
+      (step_by by_rule.Trans (i ∷ j ∷ []) nothing (derived (joined (sequent_at m i).hypotheses (sequent_at m j).hypotheses) (equation a x z)))
   trans-step i j a x y z e f = rw (equation_of-is (sequent_at m i) a x y e, equation_of-is (sequent_at m j) a y z f, alike y y refl) refl
 
   pub subst-step : (i : ℕ) (types : TypePairs) (terms : TermPairs) → AreFitting terms

@@ -39,7 +39,8 @@ module _ (q : ℕ) (small : q < 2 ^ 64) where
   all-named [] h k = tt
   all-named (t ∷ ts) h k = (named t h.0 k.0, all-named ts h.1 k.1)
 
-  pairs-named : (ps : List (Variable × Term)) → AllByRecursion IsBuiltPair ps → AllByRecursion (λ (p : Variable × Term). VariableNamed p.0 × TermNamed p.1) ps → AllByRecursion (λ (p : Variable × Term). VariableNamed p.0 × IsNamed q small p.1) ps
+  pairs-named : (ps : List (Variable × Term)) → AllByRecursion IsBuiltPair ps → AllByRecursion (λ (p : Variable × Term). VariableNamed p.0 × TermNamed p.1) ps
+      → AllByRecursion (λ (p : Variable × Term). VariableNamed p.0 × IsNamed q small p.1) ps
   pairs-named [] h k = tt
   pairs-named (p ∷ ps) h k = ((k.0.0, named p.1 h.0.term k.0.1), pairs-named ps h.1 k.1)
 
@@ -58,26 +59,34 @@ abbrev AreGood : List Made → Type 0
 AreGood made = AllByRecursion (λ (x : Step). IsGood x.parameters) (steps_of made)
 
 one-good : (made whole : List Made) (x : Step) → AreGood made → IsGood x.parameters → steps_of whole ≡ steps_of made ++ x ∷ [] → AreGood whole
-one-good made whole x h g e = subst (AllByRecursion (λ (y : Step). IsGood y.parameters)) (sym e) (All-append (λ (y : Step). IsGood y.parameters) (steps_of made) (x ∷ []) h (g, tt {0}))
+one-good made whole x h g e = subst (AllByRecursion (λ (y : Step). IsGood y.parameters)) (sym e)
+    (All-append (λ (y : Step). IsGood y.parameters) (steps_of made) (x ∷ []) h (g, tt {0}))
 
 history-good : {made : List Made} {ax ex : List ℕ} → History made ax ex → AreGood made
 history-good histories.History.empty = tt
-history-good (histories.History.input {made = made} x h i is) = subst (AllByRecursion (λ (y : Step). IsGood y.parameters)) (sym (ap steps_of is ∙ steps_of-symbols made (x ∷ []))) (history-good h)
-history-good (histories.History.inferred {made = made} {whole = whole} x h k g is) = one-good made whole x (history-good h) g (ap steps_of is ∙ steps_of-push made x)
+history-good (histories.History.input {made = made} x h i is) =
+    subst (AllByRecursion (λ (y : Step). IsGood y.parameters)) (sym (ap steps_of is ∙ steps_of-symbols made (x ∷ []))) (history-good h)
+history-good (histories.History.inferred {made = made} {whole = whole} x h k g is) =
+    one-good made whole x (history-good h) g (ap steps_of is ∙ steps_of-push made x)
 history-good (histories.History.assumed {made = made} {whole = whole} s h n g is all_is) =
     let x = step_by by_rule.Axiom [] (Parameters.sequent s) s in
     one-good made whole x (history-good h) g (ap steps_of is ∙ steps_of-push made x)
-history-good (histories.History.met {made = made} {whole = whole} s i h o g is) = one-good made whole (restatement i s) (history-good h) g (ap steps_of is ∙ steps_of-push made (restatement i s))
-history-good (histories.History.met_export {made = made} {whole = whole} s i h o g is) = one-good made whole (restatement i s) (history-good h) g (ap steps_of is ∙ steps_of-push made (restatement i s))
-history-good (histories.History.exported {made = made} {whole = whole} s i h n g is all_is) = one-good made whole (restatement i s) (history-good h) g (ap steps_of is ∙ steps_of-push made (restatement i s))
+history-good (histories.History.met {made = made} {whole = whole} s i h o g is) =
+    one-good made whole (restatement i s) (history-good h) g (ap steps_of is ∙ steps_of-push made (restatement i s))
+history-good (histories.History.met_export {made = made} {whole = whole} s i h o g is) =
+    one-good made whole (restatement i s) (history-good h) g (ap steps_of is ∙ steps_of-push made (restatement i s))
+history-good (histories.History.exported {made = made} {whole = whole} s i h n g is all_is) =
+    one-good made whole (restatement i s) (history-good h) g (ap steps_of is ∙ steps_of-push made (restatement i s))
 history-good (histories.History.constant {made = made} {whole = whole} n t a h k g is) =
     let new = defined (Definition.constant n t) in
     let x = step_by by_rule.DefineConst [] (Parameters.constant n t) (derived [] (equation a (Term.constant n a) t)) in
-    one-good made whole x (history-good h) g (ap steps_of is ∙ steps_of-push (made ++ Made.symbol new ∷ []) x ∙ ap (λ l. l ++ x ∷ []) (steps_of-symbols made (new ∷ [])))
+    one-good made whole x (history-good h) g (ap steps_of is ∙ steps_of-push (made ++ Made.symbol new ∷ []) x
+    ∙ ap (λ l. l ++ x ∷ []) (steps_of-symbols made (new ∷ [])))
 history-good (histories.History.constants {made = made} {whole = whole} i pairs h n k l g is) =
     let new = map defined (definitions_in pairs (sequent_at made i).hypotheses) in
     let x = step_by by_rule.DefineConstList (i ∷ []) (Parameters.constants pairs) (derived [] (sub [] (constants_put pairs) (sequent_at made i).conclusion)) in
-    one-good made whole x (history-good h) g (ap steps_of is ∙ steps_of-push (made ++ map Made.symbol new) x ∙ ap (λ l. l ++ x ∷ []) (steps_of-symbols made new))
+    one-good made whole x (history-good h) g (ap steps_of is ∙ steps_of-push (made ++ map Made.symbol new) x
+    ∙ ap (λ l. l ++ x ∷ []) (steps_of-symbols made new))
 history-good (histories.History.type {made = made} {whole = whole} i names c f version h l g is) =
     let x1 = step_by by_rule.FirstLaw (i ∷ []) (Parameters.type_operator names version) (first_law_of version names c) in
     let x2 = step_by by_rule.SecondLaw (i ∷ []) (Parameters.type_operator names version) (second_law_of version names c f) in
@@ -95,6 +104,9 @@ runs_are_retold articles version run accepts h =
     let q = binder_number (reached_steps run) in
     let all = subst (AllByRecursion (λ (y : Numbered). IsGood y.step.parameters)) (sym (reached-selected (map Need.step run.exports) 0 (steps_of run.made)))
     (selected-all (λ x. IsGood x.parameters) (is_told run) 0 (steps_of run.made) (history-good g.history)) in
-    let writable = steps-writable q small version run.exports (reached_steps run) (All-weaker (λ (y : Numbered). IsGood y.step.parameters) (λ (y : Numbered). GivenFine q small y.step.parameters) (λ y k. fine q small y.step.parameters k) (reached_steps run) all) h.short in
-    let r = retells version run (tale version run g.proof g.over h.fits h.few g.history [] (sym (nil-append run.made)) [] (sym (nil-append run.exports)) (tt {0})) writable h.short in
+    let writable = steps-writable q small version run.exports (reached_steps run)
+    (All-weaker (λ (y : Numbered). IsGood y.step.parameters) (λ (y : Numbered). GivenFine q small y.step.parameters)
+    (λ y k. fine q small y.step.parameters k) (reached_steps run) all) h.short in
+    let r = retells version run
+    (tale version run g.proof g.over h.fits h.few g.history [] (sym (nil-append run.made)) [] (sym (nil-append run.exports)) (tt {0})) writable h.short in
     (r.0, subst (λ f. RetellsBy f version run r.0) (told-reaches run) r.1)

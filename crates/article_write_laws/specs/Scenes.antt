@@ -39,7 +39,8 @@ pub record Scene : Type 0 where
   pub exports : List ℕ
 
 abbrev pub body_state : Scene → Dictionary → List Made → List Object → State
-body_state c d made stack = record { stack = stack; dictionary = d; place = body c.version; made = made; assumptions = c.assumptions; exports = c.exports; pool = [] }
+body_state c d made stack = record
+    { stack = stack; dictionary = d; place = body c.version; made = made; assumptions = c.assumptions; exports = c.exports; pool = [] }
 
 -- commands lead to a state: what says the version, and behind it commands that the body of the article obeys
 pub record Leads (version : Version) (commands : List Item) (s : State) : Type 0 where
@@ -81,7 +82,8 @@ leads-one version items i s t h f = record {
 }
 
 pub ready-said : {c : Scene} {d : Draft} {made after : List Made} {stack next : List Object} (r : Ready c d made stack) (i : Item)
-    → step_at (body c.version) (body_state c r.dictionary made stack) i ≡ Ok (body_state c r.dictionary after next) → AreAmong c.symbols (symbols_of after) → Ready c (say i d) after next
+    → step_at (body c.version) (body_state c r.dictionary made stack) i ≡ Ok (body_state c r.dictionary after next) → AreAmong c.symbols (symbols_of after)
+    → Ready c (say i d) after next
 ready-said {c = c} {d = d} {made = made} {after = after} {stack = stack} {next = next} r i e among = record {
   dictionary = r.dictionary;
   leads = leads-one c.version d.commands i (body_state c r.dictionary made stack) (body_state c r.dictionary after next) r.leads e;
@@ -106,7 +108,8 @@ wrote-then {c = c} {kept = kept} {made = made} {one = one} {two = two} {stack = 
     record {
       more = w.more ++ v.more;
       inputs = All-append IsInput w.more v.more w.inputs v.inputs;
-      ready = subst (λ m. Ready c two m next) (append_assoc made (map Made.symbol w.more) (map Made.symbol v.more) ∙ ap (λ l. made ++ l) (sym (map-append Made.symbol w.more v.more))) v.ready;
+      ready = subst (λ m. Ready c two m next) (append_assoc made (map Made.symbol w.more) (map Made.symbol v.more)
+          ∙ ap (λ l. made ++ l) (sym (map-append Made.symbol w.more v.more))) v.ready;
       new = w.new ++ v.new;
       front = v.front ∙ ap (λ l. l ++ v.new) w.front ∙ append_assoc kept w.new v.new;
     }
@@ -124,7 +127,8 @@ wrote-said {made = made} i w f = record {
 
 -- a command by which inputs are made
 pub wrote-taking : {c : Scene} {d : Draft} {made : List Made} {stack next : List Object} (i : Item) (r : Ready c d made stack) (more : List Symbol)
-    → step_at (body c.version) (body_state c r.dictionary made stack) i ≡ Ok (body_state c r.dictionary (made ++ map Made.symbol more) next) → AllByRecursion IsInput more
+    → step_at (body c.version) (body_state c r.dictionary made stack) i ≡ Ok (body_state c r.dictionary (made ++ map Made.symbol more) next)
+    → AllByRecursion IsInput more
     → AreAmong c.symbols (symbols_of made ++ more) → Wrote c d.kept made (say i d) next
 wrote-taking {c = c} {d = d} {made = made} i r more e inputs among = record {
   more = more;
@@ -153,7 +157,8 @@ place-from x start [] k e = absurd (cc)
 place-from x start (y ∷ kept) k e = go (kept_eq x y) refl e (place-from x (start + 1) kept k)
   where
     go : (b : Bool) → kept_eq x y ≡ b → cond b (Some start) (position_from (kept_eq x) (start + 1) kept) ≡ Some k
-        → (position_from (kept_eq x) (start + 1) kept ≡ Some k → (j : ℕ) × (k ≡ start + 1 + j) × (slice_get kept j ≡ Some x)) → (j : ℕ) × (k ≡ start + j) × (slice_get (y ∷ kept) j ≡ Some x)
+        → (position_from (kept_eq x) (start + 1) kept ≡ Some k → (j : ℕ) × (k ≡ start + 1 + j) × (slice_get kept j ≡ Some x)) → (j : ℕ) × (k ≡ start + j)
+        × (slice_get (y ∷ kept) j ≡ Some x)
     go true is f rest = let g : start ≡ k = cc in (0, (let z : k ≡ start + 0 = omega (arith, g) in z), ap Some (sym (kept-same x y is)))
     go false is f rest = let r = rest f in (suc r.0, (let z : k ≡ start + suc r.0 = omega (arith, r.1) in z), r.2)
 
@@ -178,11 +183,14 @@ holds-more c kept d x h = record {
   at = λ k y e. elim (slice_get-one_more kept x y k e) [
     | inl old ↦
         let low : k < length kept = slice_get_within kept k y old in
-        get-insert int_cmp_total d (pos (length kept)) (object_of c x) (pos k) ∙ ap (λ b. cond b (Some (object_of c x)) (entries.get d (pos k))) (other-key k (length kept) (λ same. absurd (omega (arith, same, low)))) ∙ h.at k y old
+        get-insert int_cmp_total d (pos (length kept)) (object_of c x) (pos k)
+        ∙ ap (λ b. cond b (Some (object_of c x)) (entries.get d (pos k))) (other-key k (length kept) (λ same. absurd (omega (arith, same, low))))
+        ∙ h.at k y old
     | inr new ↦
         subst (λ j. entries.get (entries.insert d (pos (length kept)) (object_of c x)) (pos j) ≡ Some (object_of c y)) (sym new.0)
         (subst (λ z. entries.get (entries.insert d (pos (length kept)) (object_of c x)) (pos (length kept)) ≡ Some (object_of c z)) new.1
-        (get-insert int_cmp_total d (pos (length kept)) (object_of c x) (pos (length kept)) ∙ ap (λ b. cond b (Some (object_of c x)) (entries.get d (pos (length kept)))) (own-key (length kept))))
+        (get-insert int_cmp_total d (pos (length kept)) (object_of c x) (pos (length kept))
+        ∙ ap (λ b. cond b (Some (object_of c x)) (entries.get d (pos (length kept)))) (own-key (length kept))))
   ];
 }
 
@@ -195,7 +203,9 @@ ready-kept {c = c} {d = d} {made = made} {stack = stack} x r =
     let numbered = ready-said {next = Object.number (pos k) ∷ object_of c x ∷ stack} r (item.Number (pos k)) refl r.among in
     record {
       dictionary = entries.insert r.dictionary (pos k) (object_of c x);
-      leads = leads-one c.version (d.commands ++ item.Number (pos k) ∷ []) (item.Word word.Def) (body_state c r.dictionary made (Object.number (pos k) ∷ object_of c x ∷ stack)) (body_state c (entries.insert r.dictionary (pos k) (object_of c x)) made (object_of c x ∷ stack)) numbered.leads refl;
+      leads = leads-one c.version (d.commands ++ item.Number (pos k) ∷ []) (item.Word word.Def)
+          (body_state c r.dictionary made (Object.number (pos k) ∷ object_of c x ∷ stack))
+          (body_state c (entries.insert r.dictionary (pos k) (object_of c x)) made (object_of c x ∷ stack)) numbered.leads refl;
       holds = holds-more c d.kept r.dictionary x r.holds;
       among = r.among;
     }
@@ -220,7 +230,8 @@ pub wrote-referred : {c : Scene} {d : Draft} {made : List Made} {stack : List Ob
 unfolding ready-said
 wrote-referred {c = c} {d = d} {made = made} {stack = stack} k x r e =
     let numbered = ready-said {next = Object.number (pos k) ∷ stack} r (item.Number (pos k)) refl r.among in
-    wrote-none (ready-said {next = object_of c x ∷ stack} numbered (item.Word word.Ref) (ap (λ (o : Option Object). ok_or o NoSuchKey >>= (λ y. Ok (body_state c r.dictionary made (y ∷ stack)))) (r.holds.at k x e)) r.among)
+    wrote-none (ready-said {next = object_of c x ∷ stack} numbered (item.Word word.Ref)
+    (ap (λ (o : Option Object). ok_or o NoSuchKey >>= (λ y. Ok (body_state c r.dictionary made (y ∷ stack)))) (r.holds.at k x e)) r.among)
 
 -- at its first place a thing is built, later it is told by its key
 pub wrote-once : {c : Scene} {d : Draft} {made : List Made} {stack : List Object} (x : Kept) (build : Draft → Draft) → Ready c d made stack

@@ -70,12 +70,18 @@ find-some p flag (i ∷ is) j e f = go (p i) refl e (find-some p flag is j)
     go false h e k = there (flag i) true h (k e f)
 
 -- a command that changes what is assumed, exported or defined
-pub ready-changed : {c : Scene} {d : Draft} {made after : List Made} {stack over : List Object} (r : Ready c d made stack) (i : Item) (symbols : List Symbol) (assumptions exports : List ℕ)
-    → step_at (body c.version) (body_state c r.dictionary made stack) i ≡ Ok (body_state (record { version = c.version; number = c.number; symbols = symbols; assumptions = assumptions; exports = exports }) r.dictionary after over)
-    → AreAmong symbols (symbols_of after) → Ready (record { version = c.version; number = c.number; symbols = symbols; assumptions = assumptions; exports = exports }) (say i d) after over
+pub ready-changed : {c : Scene} {d : Draft} {made after : List Made} {stack over : List Object} (r : Ready c d made stack) (i : Item) (symbols : List Symbol)
+    (assumptions exports : List ℕ)
+    → step_at (body c.version) (body_state c r.dictionary made stack) i
+    ≡ Ok (body_state (record { version = c.version; number = c.number; symbols = symbols; assumptions = assumptions; exports = exports }) r.dictionary after
+    over)
+    → AreAmong symbols (symbols_of after) → Ready
+    (record { version = c.version; number = c.number; symbols = symbols; assumptions = assumptions; exports = exports }) (say i d) after over
 ready-changed {c = c} {d = d} {made = made} {after = after} {stack = stack} {over = over} r i symbols assumptions exports e among = record {
   dictionary = r.dictionary;
-  leads = leads-one c.version d.commands i (body_state c r.dictionary made stack) (body_state (record { version = c.version; number = c.number; symbols = symbols; assumptions = assumptions; exports = exports }) r.dictionary after over) r.leads e;
+  leads = leads-one c.version d.commands i (body_state c r.dictionary made stack)
+      (body_state (record { version = c.version; number = c.number; symbols = symbols; assumptions = assumptions; exports = exports }) r.dictionary after over)
+      r.leads e;
   holds = record { at = r.holds.at };
   among = among;
 }
@@ -96,7 +102,8 @@ module _ (q : ℕ) (version : Version) (flag is_export : ℕ → Bool) where
       → AllByRecursion (Exported q version flag is_export (next made)) is
       → AllByRecursion (λ i. same (sequent_at (r.after ++ map Made.symbol more) (count flag i)) s ≡ same (sequent_at made i) s) is
   tests r more s [] h = tt
-  tests r more s (i ∷ is) h = (ap (λ z. same z s) (steps-inputs r.after more (count flag i) ∙ says q version flag is_export r i h.0.0 h.0.1), tests r more s is h.1)
+  tests r more s (i ∷ is) h =
+      (ap (λ z. same z s) (steps-inputs r.after more (count flag i) ∙ says q version flag is_export r i h.0.0 h.0.1), tests r more s is h.1)
 
   flagged-below : (n : ℕ) (is : List ℕ) → AllByRecursion (Below q version flag is_export n) is
       → AllByRecursion (Exported q version flag is_export n) (filter flag is)
@@ -110,59 +117,70 @@ module _ (q : ℕ) (version : Version) (flag is_export : ℕ → Bool) where
 
   pub assumed-on : {made whole : List Made} {ax all ex : List ℕ} (s : Sequent) (r : Retold q version flag is_export made ax ex) → is_export (next made) ≡ false
       → flag (next made) ≡ true → first_of made ax s ≡ None
-      → IsStated q version flag is_export made s → whole ≡ made ++ Made.step (step_by by_rule.Axiom [] (Parameters.sequent s) s) ∷ [] → all ≡ ax ++ next made ∷ [] → Retold q version flag is_export whole all ex
+      → IsStated q version flag is_export made s → whole ≡ made ++ Made.step (step_by by_rule.Axiom [] (Parameters.sequent s) s) ∷ [] → all ≡ ax
+      ++ next made ∷ [] → Retold q version flag is_export whole all ex
   assumed-on {made = made} {whole = whole} {ax = ax} {all = all} {ex = ex} s r internal on new h is all_is =
       let n = next made in
       let x = step_by by_rule.Axiom [] (Parameters.sequent s) s in
       let c = scene q version flag is_export made ax ex in
       let d = told q version flag is_export made in
-      let g = given-writes c q (Parameters.sequent s) (given-operands c r.apart q (Parameters.sequent s) h.given.built h.given.fresh h.given.taken) d r.after [] r.ready in
+      let g = given-writes c q (Parameters.sequent s) (given-operands c r.apart q (Parameters.sequent s) h.given.built h.given.fresh h.given.taken) d r.after []
+      r.ready in
       let d1 = write_given q (Parameters.sequent s) d in
       let m = r.after ++ map Made.symbol g.more in
       let steps : steps_of m ≡ steps_of r.after = steps_of-symbols r.after g.more in
       let number : count flag n ≡ length (steps_of m) = sym (ap length steps ∙ count-after q version flag is_export r) in
       let none : find (λ i. same (sequent_at m i) s) (map (count flag) (filter flag ax)) ≡ None =
-      find-mapped (λ i. same (sequent_at m i) s) (λ i. same (sequent_at made i) s) (count flag) (filter flag ax) (tests r g.more s (filter flag ax) (flagged-below n ax r.assumptions))
+      find-mapped (λ i. same (sequent_at m i) s) (λ i. same (sequent_at made i) s) (count flag) (filter flag ax)
+      (tests r g.more s (filter flag ax) (flagged-below n ax r.assumptions))
       ∙ ap (option_map (count flag)) (find-none (λ i. same (sequent_at made i) s) flag ax new) in
       let symbols : symbols_of whole ≡ symbols_of made = ap symbols_of is ∙ symbols_of-push made x in
       let among = subst (AreAmong c.symbols) (sym (symbols_of-push m x)) g.ready.among in
       let done = ready-theorem q version flag is_export n (length (steps_of m)) number
-      (ready-changed {after = m ++ Made.step x ∷ []} {over = Object.theorem (length (steps_of m)) ∷ []} g.ready (item.Word word.Axiom) c.symbols (c.assumptions ++ length (steps_of m) ∷ []) c.exports (axiom-recorded c g.ready.dictionary m [] s h.sequent none h.limits) among) in
+      (ready-changed {after = m ++ Made.step x ∷ []} {over = Object.theorem (length (steps_of m)) ∷ []} g.ready (item.Word word.Axiom) c.symbols
+      (c.assumptions ++ length (steps_of m) ∷ []) c.exports (axiom-recorded c g.ready.dictionary m [] s h.sequent none h.limits) among) in
       let d3 = keep_theorem n (say_word word.Axiom d1) in
       let grown : steps_of whole ≡ steps_of made ++ x ∷ [] = ap steps_of is ∙ steps_of-push made x in
       let longer = next-grown q version flag is_export made whole x grown in
       retold-on q version flag is_export x r grown on (m ++ Made.step x ∷ [])
-      (ready-moved q version flag is_export done (subst (λ l. AreAmong l (symbols_of (m ++ Made.step x ∷ []))) (sym symbols) among) (new-assumption ax n (length (steps_of m)) on number ∙ ap (λ l. map (count flag) (filter flag l)) (sym all_is)) refl)
+      (ready-moved q version flag is_export done (subst (λ l. AreAmong l (symbols_of (m ++ Made.step x ∷ []))) (sym symbols) among)
+      (new-assumption ax n (length (steps_of m)) on number ∙ ap (λ l. map (count flag) (filter flag l)) (sym all_is)) refl)
       (steps_of-push m x ∙ ap (λ l. l ++ x ∷ []) steps)
       (g.new ++ Kept.theorem n ∷ [])
       (ap (λ l. l ++ Kept.theorem n ∷ []) g.front ∙ append_assoc d.kept g.new (Kept.theorem n ∷ []))
       (λ e. kept-last d1.kept n)
       (subst AreApart (sym symbols) r.apart)
-      (subst (AllByRecursion (Below q version flag is_export (next whole))) (sym all_is) (All-append (Below q version flag is_export (next whole)) ax (n ∷ []) (rise q version flag is_export n (next whole) (omega (arith, longer)) ax r.assumptions) (omega (arith, longer), tt {0})))
+      (subst (AllByRecursion (Below q version flag is_export (next whole))) (sym all_is)
+      (All-append (Below q version flag is_export (next whole)) ax (n ∷ [])
+      (rise q version flag is_export n (next whole) (omega (arith, longer)) ax r.assumptions) (omega (arith, longer), tt {0})))
       (rise-exported q version flag is_export n (next whole) (omega (arith, longer)) ex r.exports)
       (defs-plain q version flag is_export r whole g.more x x on g.inputs is)
 
   pub met-on : {made whole : List Made} {ax ex : List ℕ} (s : Sequent) (i : ℕ) (r : Retold q version flag is_export made ax ex) → is_export (next made) ≡ false
       → flag (next made) ≡ true → first_of made ax s ≡ Some i
-      → IsStated q version flag is_export made s → IsTold q version flag is_export made i → whole ≡ made ++ Made.step (restatement i s) ∷ [] → Retold q version flag is_export whole ax ex
+      → IsStated q version flag is_export made s → IsTold q version flag is_export made i → whole ≡ made ++ Made.step (restatement i s) ∷ []
+      → Retold q version flag is_export whole ax ex
   met-on {made = made} {whole = whole} {ax = ax} {ex = ex} s i r internal on old h premise is =
       let n = next made in
       let x = restatement i s in
       let y = restatement (count flag i) s in
       let c = scene q version flag is_export made ax ex in
       let d = told q version flag is_export made in
-      let g = given-writes c q (Parameters.sequent s) (given-operands c r.apart q (Parameters.sequent s) h.given.built h.given.fresh h.given.taken) d r.after [] r.ready in
+      let g = given-writes c q (Parameters.sequent s) (given-operands c r.apart q (Parameters.sequent s) h.given.built h.given.fresh h.given.taken) d r.after []
+      r.ready in
       let d1 = write_given q (Parameters.sequent s) d in
       let m = r.after ++ map Made.symbol g.more in
       let steps : steps_of m ≡ steps_of r.after = steps_of-symbols r.after g.more in
       let number : count flag n ≡ length (steps_of m) = sym (ap length steps ∙ count-after q version flag is_export r) in
       let found : find (λ j. same (sequent_at m j) s) (map (count flag) (filter flag ax)) ≡ Some (count flag i) =
-      find-mapped (λ j. same (sequent_at m j) s) (λ j. same (sequent_at made j) s) (count flag) (filter flag ax) (tests r g.more s (filter flag ax) (flagged-below n ax r.assumptions))
+      find-mapped (λ j. same (sequent_at m j) s) (λ j. same (sequent_at made j) s) (count flag) (filter flag ax)
+      (tests r g.more s (filter flag ax) (flagged-below n ax r.assumptions))
       ∙ ap (option_map (count flag)) (find-some (λ j. same (sequent_at made j) s) flag ax i old premise.flagged) in
       let symbols : symbols_of whole ≡ symbols_of made = ap symbols_of is ∙ symbols_of-push made x in
       let among = subst (AreAmong c.symbols) (sym (symbols_of-push m y)) g.ready.among in
       let done = ready-theorem q version flag is_export n (length (steps_of m)) number
-      (ready-said {after = m ++ Made.step y ∷ []} {next = Object.theorem (length (steps_of m)) ∷ []} g.ready (item.Word word.Axiom) (axiom-met c g.ready.dictionary m [] s (count flag i) h.sequent found h.limits) among) in
+      (ready-said {after = m ++ Made.step y ∷ []} {next = Object.theorem (length (steps_of m)) ∷ []} g.ready (item.Word word.Axiom)
+      (axiom-met c g.ready.dictionary m [] s (count flag i) h.sequent found h.limits) among) in
       let d3 = keep_theorem n (say_word word.Axiom d1) in
       let writes : write_flagged q version flag is_export (record { number = n; step = x }) d ≡ d3 = ap (λ b. write_restated q b n x d) internal in
       let grown : steps_of whole ≡ steps_of made ++ x ∷ [] = ap steps_of is ∙ steps_of-push made x in
@@ -181,7 +199,8 @@ module _ (q : ℕ) (version : Version) (flag is_export : ℕ → Bool) where
 
   pub exported-on : {made whole : List Made} {ax ex all : List ℕ} (s : Sequent) (i : ℕ) (r : Retold q version flag is_export made ax ex)
       → is_export (next made) ≡ true → flag (next made) ≡ true → first_of made ex s ≡ None
-      → IsStated q version flag is_export made s → IsTold q version flag is_export made i → IsTrue (within (sequent_at made i) s) → whole ≡ made ++ Made.step (restatement i s) ∷ [] → all ≡ ex ++ next made ∷ [] → Retold q version flag is_export whole ax all
+      → IsStated q version flag is_export made s → IsTold q version flag is_export made i → IsTrue (within (sequent_at made i) s) → whole ≡ made
+      ++ Made.step (restatement i s) ∷ [] → all ≡ ex ++ next made ∷ [] → Retold q version flag is_export whole ax all
   exported-on {made = made} {whole = whole} {ax = ax} {ex = ex} {all = all} s i r external on new h premise weaker is all_is =
       let n = next made in
       let x = restatement i s in
@@ -190,7 +209,9 @@ module _ (q : ℕ) (version : Version) (flag is_export : ℕ → Bool) where
       let d = told q version flag is_export made in
       let p = premises-write c (i ∷ []) d r.after [] (r.kept i premise.earlier premise.flagged premise.no_export, tt {0}) r.ready in
       let d1 = write_each write_premise (i ∷ []) d in
-      let g = wrote-then p (λ m z. given-writes c q (Parameters.sequent s) (given-operands c r.apart q (Parameters.sequent s) h.given.built h.given.fresh h.given.taken) d1 m (Object.theorem (count flag i) ∷ []) z) in
+      let g = wrote-then p
+      (λ m z. given-writes c q (Parameters.sequent s) (given-operands c r.apart q (Parameters.sequent s) h.given.built h.given.fresh h.given.taken) d1 m
+      (Object.theorem (count flag i) ∷ []) z) in
       let d2 = write_given q (Parameters.sequent s) d1 in
       let m = r.after ++ map Made.symbol g.more in
       let steps : steps_of m ≡ steps_of r.after = steps_of-symbols r.after g.more in
@@ -198,22 +219,27 @@ module _ (q : ℕ) (version : Version) (flag is_export : ℕ → Bool) where
       let none : find (λ j. same (sequent_at m j) s) (map (count flag) ex) ≡ None =
       find-mapped (λ j. same (sequent_at m j) s) (λ j. same (sequent_at made j) s) (count flag) ex (tests r g.more s ex r.exports)
       ∙ ap (option_map (count flag)) new in
-      let says_less : IsTrue (within (sequent_at m (count flag i)) s) = ap (λ z. within z s) (steps-inputs r.after g.more (count flag i) ∙ says q version flag is_export r i premise.earlier premise.flagged) ∙ weaker in
+      let says_less : IsTrue (within (sequent_at m (count flag i)) s) =
+      ap (λ z. within z s) (steps-inputs r.after g.more (count flag i) ∙ says q version flag is_export r i premise.earlier premise.flagged) ∙ weaker in
       let symbols : symbols_of whole ≡ symbols_of made = ap symbols_of is ∙ symbols_of-push made x in
       let among = subst (AreAmong c.symbols) (sym (symbols_of-push m y)) g.ready.among in
-      let done = ready-changed {after = m ++ Made.step y ∷ []} {over = []} g.ready (item.Word word.Thm) c.symbols c.assumptions (c.exports ++ length (steps_of m) ∷ []) (thm-exported c g.ready.dictionary m [] s (count flag i) h.sequent says_less none h.limits) among in
+      let done = ready-changed {after = m ++ Made.step y ∷ []} {over = []} g.ready (item.Word word.Thm) c.symbols c.assumptions
+      (c.exports ++ length (steps_of m) ∷ []) (thm-exported c g.ready.dictionary m [] s (count flag i) h.sequent says_less none h.limits) among in
       let d3 = say_word word.Thm d2 in
       let writes : write_flagged q version flag is_export (record { number = n; step = x }) d ≡ d3 = ap (λ b. write_restated q b n x d) external in
       let grown : steps_of whole ≡ steps_of made ++ x ∷ [] = ap steps_of is ∙ steps_of-push made x in
       let longer = next-grown q version flag is_export made whole x grown in
       retold-on q version flag is_export x r grown on (m ++ Made.step y ∷ [])
       (subst (λ z. Ready (scene q version flag is_export whole ax all) z (m ++ Made.step y ∷ []) []) (sym writes)
-      (ready-moved q version flag is_export done (subst (λ l. AreAmong l (symbols_of (m ++ Made.step y ∷ []))) (sym symbols) among) refl (new-export ex n (length (steps_of m)) number ∙ ap (map (count flag)) (sym all_is))))
+      (ready-moved q version flag is_export done (subst (λ l. AreAmong l (symbols_of (m ++ Made.step y ∷ []))) (sym symbols) among) refl
+      (new-export ex n (length (steps_of m)) number ∙ ap (map (count flag)) (sym all_is))))
       (steps_of-push m y ∙ ap (λ l. l ++ y ∷ []) steps)
       g.new
       (ap (λ z. z.kept) writes ∙ g.front)
       (λ e. absurd (let f = sym e ∙ external in cc))
       (subst AreApart (sym symbols) r.apart)
       (rise q version flag is_export n (next whole) (omega (arith, longer)) ax r.assumptions)
-      (subst (AllByRecursion (Exported q version flag is_export (next whole))) (sym all_is) (All-append (Exported q version flag is_export (next whole)) ex (n ∷ []) (rise-exported q version flag is_export n (next whole) (omega (arith, longer)) ex r.exports) ((omega (arith, longer), on), tt {0})))
+      (subst (AllByRecursion (Exported q version flag is_export (next whole))) (sym all_is)
+      (All-append (Exported q version flag is_export (next whole)) ex (n ∷ [])
+      (rise-exported q version flag is_export n (next whole) (omega (arith, longer)) ex r.exports) ((omega (arith, longer), on), tt {0})))
       (defs-plain q version flag is_export r whole g.more x y on g.inputs is)

@@ -112,10 +112,14 @@ pub among-both : (all some : List Symbol) (x : Symbol) → AreAmong all some →
     → ((n : Name) → is_some (defined_arity n x) ≡ true → operator_arity all n ≡ None)
     → AreAmong (all ++ x ∷ []) (some ++ x ∷ [])
 among-both all some x among c o = record {
-  types = λ n g e. type-push all x n ∙ either-option (generic_type some n) (generic_type all n) (defined_type n x) g (sym (type-push some x n) ∙ e) (among.types n) (c n);
-  arities = λ n k e. arity-push all x n ∙ either-option (operator_arity some n) (operator_arity all n) (defined_arity n x) k (sym (arity-push some x n) ∙ e) (among.arities n) (o n);
-  constants = λ n e. taken_constant-push all x n ∙ either (is_taken_constant some n) (takes_constant n x) (sym (taken_constant-push some x n) ∙ e) (λ f. true-or (is_taken_constant all n) (takes_constant n x) (among.constants n f)) (λ f. or-true (is_taken_constant all n) (takes_constant n x) f);
-  operators = λ n e. taken_operator-push all x n ∙ either (is_taken_operator some n) (takes_operator n x) (sym (taken_operator-push some x n) ∙ e) (λ f. true-or (is_taken_operator all n) (takes_operator n x) (among.operators n f)) (λ f. or-true (is_taken_operator all n) (takes_operator n x) f);
+  types = λ n g e. type-push all x n ∙ either-option (generic_type some n) (generic_type all n) (defined_type n x) g (sym (type-push some x n) ∙ e)
+      (among.types n) (c n);
+  arities = λ n k e. arity-push all x n ∙ either-option (operator_arity some n) (operator_arity all n) (defined_arity n x) k (sym (arity-push some x n) ∙ e)
+      (among.arities n) (o n);
+  constants = λ n e. taken_constant-push all x n ∙ either (is_taken_constant some n) (takes_constant n x) (sym (taken_constant-push some x n) ∙ e)
+      (λ f. true-or (is_taken_constant all n) (takes_constant n x) (among.constants n f)) (λ f. or-true (is_taken_constant all n) (takes_constant n x) f);
+  operators = λ n e. taken_operator-push all x n ∙ either (is_taken_operator some n) (takes_operator n x) (sym (taken_operator-push some x n) ∙ e)
+      (λ f. true-or (is_taken_operator all n) (takes_operator n x) (among.operators n f)) (λ f. or-true (is_taken_operator all n) (takes_operator n x) f);
 }
 
 -- not taken in the run, not taken in the article
@@ -163,7 +167,8 @@ defines-new xs x n (Takes.constant {n = m} {t = t} e h) d = go (name_eq n m) (na
     go : (b : Bool) → (b ≡ true → n ≡ m) → is_some (cond b (type_of t) None) ≡ true → is_taken_constant xs n ≡ false
     go true f d = subst (λ k. is_taken_constant xs k ≡ false) (sym (f refl)) e
     go false f d = absurd (cc)
-defines-new xs x n (Takes.type_operator {names = names} {c = c} new typed closed vars) d = go (name_eq n names.abstraction) (name_eq n names.representation) (name_eq-Decides n names.abstraction).0 (name_eq-Decides n names.representation).0 d
+defines-new xs x n (Takes.type_operator {names = names} {c = c} new typed closed vars) d =
+    go (name_eq n names.abstraction) (name_eq n names.representation) (name_eq-Decides n names.abstraction).0 (name_eq-Decides n names.representation).0 d
   where
     go : (a r : Bool) → (a ≡ true → n ≡ names.abstraction) → (r ≡ true → n ≡ names.representation)
         → is_some (cond a (Some (abstraction_type names c)) (cond r (Some (representation_type names c)) None)) ≡ true → is_taken_constant xs n ≡ false
@@ -182,7 +187,8 @@ arity-new xs x n (Takes.type_operator {names = names} {c = c} new typed closed v
     go false f d = absurd (cc)
 
 pub among-taken : (all some : List Symbol) (x : Symbol) → Takes all x → AreAmong all some → AreAmong (all ++ x ∷ []) (some ++ x ∷ [])
-among-taken all some x takes among = among-both all some x among (λ n e. untaken-type all n (defines-new all x n takes e)) (λ n e. untaken-arity all n (arity-new all x n takes e))
+among-taken all some x takes among = among-both all some x among (λ n e. untaken-type all n (defines-new all x n takes e))
+    (λ n e. untaken-arity all n (arity-new all x n takes e))
 
 still-none : {A : Type 0} (o p : Option A) → o ≡ None → p ≡ None → option_or o p ≡ None
 still-none None p e f = f
@@ -195,22 +201,27 @@ not-some (Some x) f = absurd (f refl)
 pub apart-taken : (xs : List Symbol) (x : Symbol) → AreApart xs → Takes xs x → AreApart (xs ++ x ∷ [])
 apart-taken xs x h takes = record {
   constants = λ n e. type-push xs x n ∙ either (list_any (is_input_constant n) xs) (is_input_constant n x) (sym (any-last (is_input_constant n) xs x) ∙ e)
-      (λ f. still-none (generic_type xs n) (defined_type n x) (h.constants n f) (not-some (defined_type n x) (λ d. absurd (let g = sym f ∙ untaken-input xs n (defines-new xs x n takes d) in cc))))
+      (λ f. still-none (generic_type xs n) (defined_type n x) (h.constants n f)
+      (not-some (defined_type n x) (λ d. absurd (let g = sym f ∙ untaken-input xs n (defines-new xs x n takes d) in cc))))
       (λ f. input x n takes f);
-  operators = λ n e. arity-push xs x n ∙ either (list_any (is_input_operator_named n) xs) (is_input_operator_named n x) (sym (any-last (is_input_operator_named n) xs x) ∙ e)
-      (λ f. still-none (operator_arity xs n) (defined_arity n x) (h.operators n f) (not-some (defined_arity n x) (λ d. absurd (let g = sym f ∙ untaken-input_operator xs n (arity-new xs x n takes d) in cc))))
+  operators = λ n e. arity-push xs x n ∙ either (list_any (is_input_operator_named n) xs) (is_input_operator_named n x)
+      (sym (any-last (is_input_operator_named n) xs x) ∙ e)
+      (λ f. still-none (operator_arity xs n) (defined_arity n x) (h.operators n f)
+      (not-some (defined_arity n x) (λ d. absurd (let g = sym f ∙ untaken-input_operator xs n (arity-new xs x n takes d) in cc))))
       (λ f. input_operator x n takes f);
 }
   where
     input : (x : Symbol) (n : Name) → Takes xs x → is_input_constant n x ≡ true → option_or (generic_type xs n) (defined_type n x) ≡ None
-    input x n (Takes.input_constant {n = m} e) f = still-none (generic_type xs n) None (subst (λ k. generic_type xs k ≡ None) (sym ((name_eq-Decides n m).0 f)) (untaken-type xs m e)) refl
+    input x n (Takes.input_constant {n = m} e) f =
+        still-none (generic_type xs n) None (subst (λ k. generic_type xs k ≡ None) (sym ((name_eq-Decides n m).0 f)) (untaken-type xs m e)) refl
     input x n (Takes.input_operator e g) f = absurd (cc)
     input x n (Takes.constant e k) f = absurd (cc)
     input x n (Takes.type_operator new typed closed vars) f = absurd (cc)
 
     input_operator : (x : Symbol) (n : Name) → Takes xs x → is_input_operator_named n x ≡ true → option_or (operator_arity xs n) (defined_arity n x) ≡ None
     input_operator x n (Takes.input_constant e) f = absurd (cc)
-    input_operator x n (Takes.input_operator {n = m} e g) f = still-none (operator_arity xs n) None (subst (λ k. operator_arity xs k ≡ None) (sym ((name_eq-Decides n m).0 f)) (none (operator_arity xs m) e)) refl
+    input_operator x n (Takes.input_operator {n = m} e g) f =
+        still-none (operator_arity xs n) None (subst (λ k. operator_arity xs k ≡ None) (sym ((name_eq-Decides n m).0 f)) (none (operator_arity xs m) e)) refl
     input_operator x n (Takes.constant e k) f = absurd (cc)
     input_operator x n (Takes.type_operator new typed closed vars) f = absurd (cc)
 
@@ -230,7 +241,9 @@ constant-uses symbols n a h (taken.ConstantTaken.input e) = record {
 
 named : (n : Name) (k : ℕ) (xs : List Symbol) → list_any (is_input_operator n k) xs ≡ true → list_any (is_input_operator_named n) xs ≡ true
 named n k [] e = absurd (cc)
-named n k (x ∷ xs) e = either (is_input_operator n k x) (list_any (is_input_operator n k) xs) e (λ f. true-or (is_input_operator_named n x) (list_any (is_input_operator_named n) xs) (one x f)) (λ f. or-true (is_input_operator_named n x) (list_any (is_input_operator_named n) xs) (named n k xs f))
+named n k (x ∷ xs) e = either (is_input_operator n k x) (list_any (is_input_operator n k) xs) e
+    (λ f. true-or (is_input_operator_named n x) (list_any (is_input_operator_named n) xs) (one x f))
+    (λ f. or-true (is_input_operator_named n x) (list_any (is_input_operator_named n) xs) (named n k xs f))
   where
     one : (x : Symbol) → is_input_operator n k x ≡ true → is_input_operator_named n x ≡ true
     one (Symbol.input_constant m) f = absurd (cc)

@@ -93,26 +93,32 @@ module _ (q : ℕ) (version : Version) (flag is_export : ℕ → Bool) where
     inferred : {made whole : List Made} {ax ex : List ℕ} (x : Step) → Tale made ax ex → is_inference x.kind ≡ true → is_export (next made) ≡ false
         → (flag (next made) ≡ true → IsInferred made x) → whole ≡ made ++ Made.step x ∷ [] → Tale whole ax ex
     assumed : {made whole : List Made} {ax all ex : List ℕ} (s : Sequent) → Tale made ax ex → is_export (next made) ≡ false → first_of made ax s ≡ None
-        → (flag (next made) ≡ true → IsStated made s) → whole ≡ made ++ Made.step (step_by by_rule.Axiom [] (Parameters.sequent s) s) ∷ [] → all ≡ ax ++ next made ∷ [] → Tale whole all ex
+        → (flag (next made) ≡ true → IsStated made s) → whole ≡ made ++ Made.step (step_by by_rule.Axiom [] (Parameters.sequent s) s) ∷ [] → all ≡ ax
+        ++ next made ∷ [] → Tale whole all ex
     met : {made whole : List Made} {ax ex : List ℕ} (s : Sequent) (i : ℕ) → Tale made ax ex → is_export (next made) ≡ false → first_of made ax s ≡ Some i
         → (flag (next made) ≡ true → IsStated made s × IsTold made i) → whole ≡ made ++ Made.step (restatement i s) ∷ [] → Tale whole ax ex
     met_export : {made whole : List Made} {ax ex : List ℕ} (s : Sequent) (i : ℕ) → Tale made ax ex → flag (next made) ≡ false
         → whole ≡ made ++ Made.step (restatement i s) ∷ [] → Tale whole ax ex
     exported : {made whole : List Made} {ax ex all : List ℕ} (s : Sequent) (i : ℕ) → Tale made ax ex → is_export (next made) ≡ true → flag (next made) ≡ true
         → first_of made ex s ≡ None
-        → IsStated made s → IsTold made i → IsTrue (within (sequent_at made i) s) → whole ≡ made ++ Made.step (restatement i s) ∷ [] → all ≡ ex ++ next made ∷ [] → Tale whole ax all
+        → IsStated made s → IsTold made i → IsTrue (within (sequent_at made i) s) → whole ≡ made ++ Made.step (restatement i s) ∷ [] → all ≡ ex
+        ++ next made ∷ [] → Tale whole ax all
     constant : {made whole : List Made} {ax ex : List ℕ} (n : Name) (t : Term) (a : HolType) → Tale made ax ex → is_export (next made) ≡ false
         → Takes (symbols_of made) (defined (Definition.constant n t))
         → (flag (next made) ≡ true → IsConstant made n t a)
-        → whole ≡ (made ++ Made.symbol (defined (Definition.constant n t)) ∷ []) ++ Made.step (step_by by_rule.DefineConst [] (Parameters.constant n t) (derived [] (equation a (Term.constant n a) t))) ∷ [] → Tale whole ax ex
+        → whole ≡ (made ++ Made.symbol (defined (Definition.constant n t)) ∷ [])
+        ++ Made.step (step_by by_rule.DefineConst [] (Parameters.constant n t) (derived [] (equation a (Term.constant n a) t))) ∷ [] → Tale whole ax ex
     constants : {made whole : List Made} {ax ex : List ℕ} (i : ℕ) (pairs : ConstantPairs) → Tale made ax ex → is_export (next made) ≡ false
         → TakesAll (symbols_of made) (map defined (definitions_in pairs (sequent_at made i).hypotheses))
         → (flag (next made) ≡ true → AreConstants made i pairs)
         → whole ≡ (made ++ map Made.symbol (map defined (definitions_in pairs (sequent_at made i).hypotheses)))
-        ++ Made.step (step_by by_rule.DefineConstList (i ∷ []) (rule.constants pairs) (derived [] (sub [] (constants_put pairs) (sequent_at made i).conclusion))) ∷ [] → Tale whole ax ex
+        ++ Made.step
+        (step_by by_rule.DefineConstList (i ∷ []) (rule.constants pairs) (derived [] (sub [] (constants_put pairs) (sequent_at made i).conclusion))) ∷ []
+        → Tale whole ax ex
     type : {made whole : List Made} {ax ex : List ℕ} (i : ℕ) (names : TypeNames) (c : HolType) (f : Term) (made_in : Version) → Tale made ax ex
         → is_export (next made) ≡ false → is_export (suc (next made)) ≡ false
         → Takes (symbols_of made) (defined (Definition.type_operator names c f)) → flag (suc (next made)) ≡ flag (next made)
         → (flag (next made) ≡ true → IsType made i names c f made_in)
-        → whole ≡ ((made ++ Made.type_definition names c f i ∷ []) ++ Made.step (step_by by_rule.FirstLaw (i ∷ []) (rule.type_operator names made_in) (first_law_of made_in names c)) ∷ [])
+        → whole ≡ ((made ++ Made.type_definition names c f i ∷ [])
+        ++ Made.step (step_by by_rule.FirstLaw (i ∷ []) (rule.type_operator names made_in) (first_law_of made_in names c)) ∷ [])
         ++ Made.step (step_by by_rule.SecondLaw (i ∷ []) (rule.type_operator names made_in) (second_law_of made_in names c f)) ∷ [] → Tale whole ax ex

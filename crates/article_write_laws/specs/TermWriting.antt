@@ -35,7 +35,8 @@ var_term-step c d m v stack limits = rw (limits) refl
 
 const_term-step : (c : Scene) (d : Dictionary) (m : List Made) (n : _) (a : HolType) (stack : List Object)
     → generic_fits (generic_type (symbols_of m) n) a ≡ Ok tt → term_in_limits (constant n a) ≡ Ok tt
-    → const_term (body_state c d m (Object.type a ∷ Object.constant n ∷ stack)) ≡ Ok (body_state c d (m ++ map Made.symbol (new_constant (symbols_of m) n)) (Object.term (constant n a) ∷ stack))
+    → const_term (body_state c d m (Object.type a ∷ Object.constant n ∷ stack))
+    ≡ Ok (body_state c d (m ++ map Made.symbol (new_constant (symbols_of m) n)) (Object.term (constant n a) ∷ stack))
 const_term-step c d m n a stack fits limits = rw (fits, limits) refl
 
 app_term-step : (c : Scene) (d : Dictionary) (m : List Made) (f x : Term) (stack : List Object) → is_some (type_of (app f x)) ≡ true
@@ -47,7 +48,8 @@ abs_term-step : (c : Scene) (d : Dictionary) (m : List Made) (v : Variable) (t w
     → term_in_limits whole ≡ Ok tt
     → abs_term (body_state c d m (Object.term t ∷ Object.variable v ∷ stack)) ≡ Ok (body_state c d m (Object.term whole ∷ stack))
 abs_term-step c d m v t whole stack same limits =
-    subst (λ u. term_in_limits u ≡ Ok tt → abs_term (body_state c d m (Object.term t ∷ Object.variable v ∷ stack)) ≡ Ok (body_state c d m (Object.term u ∷ stack))) same (λ l. rw (l) refl) limits
+    subst (λ u. term_in_limits u ≡ Ok tt → abs_term (body_state c d m (Object.term t ∷ Object.variable v ∷ stack))
+    ≡ Ok (body_state c d m (Object.term u ∷ stack))) same (λ l. rw (l) refl) limits
 
 -- Once where nothing is loose
 shared-writes : (c : Scene) (t : Term) (vs : List Variable) (build : Draft → Draft) (d : Draft) (made : List Made) (stack : List Object) → Ready c d made stack
@@ -98,30 +100,38 @@ pub writes-under : (c : Scene) (q : ℕ) (t : Term) (types : List HolType) (a : 
     → Writes c (write_under q (binders q types) t) (Object.term (opened 0 (binders q types) t))
 writes-under c q (free n b) types a p d made stack r =
     shared-writes c (free n b) (binders q types) (λ e. say_word word.VarTerm (write_variable (n, b) e)) d made stack r
-    (wrote-said (item.Word word.VarTerm) (variable-writes c (n, b) p.uses (free-type n b p.built) d made stack r) (λ m e. var_term-step c e m (n, b) stack (term-in_limits (free n b) p.built)))
+    (wrote-said (item.Word word.VarTerm) (variable-writes c (n, b) p.uses (free-type n b p.built) d made stack r)
+    (λ m e. var_term-step c e m (n, b) stack (term-in_limits (free n b) p.built)))
 writes-under c q (bound k) types a p d made stack r =
     let v = binder_at (binders q types) k in
     let within : TermWithin (free v.0 v.1) = opened-within q types (bound k) p.built in
-    wrote-said (item.Word word.VarTerm) (variable-writes c v (binder-uses c q types k a p.binders p.typed) (free-type v.0 v.1 within) d made stack r) (λ m e. var_term-step c e m v stack (term-in_limits (free v.0 v.1) within))
+    wrote-said (item.Word word.VarTerm) (variable-writes c v (binder-uses c q types k a p.binders p.typed) (free-type v.0 v.1 within) d made stack r)
+    (λ m e. var_term-step c e m v stack (term-in_limits (free v.0 v.1) within))
 writes-under c q (constant n b) types a p d made stack r =
     shared-writes c (constant n b) (binders q types) (λ e. say_word word.ConstTerm (write_type b (say_word word.Const (say_name n e)))) d made stack r
     (wrote-then
-    (wrote-then (wrote-said {next = Object.constant n ∷ stack} (item.Word word.Const) (wrote-said {next = Object.name n ∷ stack} (item.Name n) (wrote-none r) (λ m e. refl)) (λ m e. refl))
-    (λ m s. type-writes c b p.uses.1 (free-type n b (record { size = p.built.size; depth = p.built.depth })) (say_word word.Const (say_name n d)) m (Object.constant n ∷ stack) s))
+    (wrote-then (wrote-said {next = Object.constant n ∷ stack} (item.Word word.Const)
+    (wrote-said {next = Object.name n ∷ stack} (item.Name n) (wrote-none r) (λ m e. refl)) (λ m e. refl))
+    (λ m s. type-writes c b p.uses.1 (free-type n b (record { size = p.built.size; depth = p.built.depth })) (say_word word.Const (say_name n d)) m
+    (Object.constant n ∷ stack) s))
     (λ m s.
     let new = constant-new c.symbols (symbols_of m) n b s.among p.uses.0 in
-    wrote-taking (item.Word word.ConstTerm) s (new_constant (symbols_of m) n) (const_term-step c s.dictionary m n b stack (constant-fits c.symbols (symbols_of m) n b s.among p.uses.0) (term-in_limits (constant n b) p.built)) new.inputs new.among))
+    wrote-taking (item.Word word.ConstTerm) s (new_constant (symbols_of m) n)
+    (const_term-step c s.dictionary m n b stack (constant-fits c.symbols (symbols_of m) n b s.among p.uses.0) (term-in_limits (constant n b) p.built))
+    new.inputs new.among))
 writes-under c q (app f x) types a p d made stack r =
     let vs = binders q types in
     let parts = application-parts (type_under types f) (type_under types x) a p.typed in
     let one = writes-under c q f types parts.0.0
-    (record { built = p.built.1.0; uses = p.uses.0; binders = p.binders; names = p.names.0; typed = parts.0.1; small = omega (arith, p.small) }) d made stack r in
+    (record { built = p.built.1.0; uses = p.uses.0; binders = p.binders; names = p.names.0; typed = parts.0.1; small = omega (arith, p.small) }) d made stack r
+    in
     let both = wrote-then one (λ m s. writes-under c q x types parts.1.0
     (record { built = p.built.1.1; uses = p.uses.1; binders = p.binders; names = p.names.1; typed = parts.1.1; small = omega (arith, p.small) })
     (write_under q vs f d) m (Object.term (opened 0 vs f) ∷ stack) s) in
     shared-writes c (app f x) vs (λ e. say_word word.AppTerm (write_under q vs x (write_under q vs f e))) d made stack r
     (wrote-said (item.Word word.AppTerm) both
-    (λ m e. app_term-step c e m (opened 0 vs f) (opened 0 vs x) stack (ap is_some (opened-typed q types (app f x) a p.typed)) (term-in_limits (opened 0 vs (app f x)) (opened-within q types (app f x) p.built.0))))
+    (λ m e. app_term-step c e m (opened 0 vs f) (opened 0 vs x) stack (ap is_some (opened-typed q types (app f x) a p.typed))
+    (term-in_limits (opened 0 vs (app f x)) (opened-within q types (app f x) p.built.0))))
 writes-under c q (lam b t) types a p d made stack r =
     let vs = binders q types in
     let v : Variable = next_binder q vs b in
@@ -133,9 +143,11 @@ writes-under c q (lam b t) types a p d made stack r =
     let both = wrote-then one (λ m s. writes-under c q t (b ∷ types) part.0
     (record { built = p.built.1; uses = p.uses.1; binders = (p.uses.0, p.binders); names = p.names; typed = part.1; small = omega (arith, p.small) })
     (write_variable v d) m (Object.variable v ∷ stack) s) in
-    let same = ap (lam b) (close-opened 0 v vs t (λ j. binders-apart q types (length vs) b (omega (arith, long)) small j) (binder-fresh q (length vs) b t small p.names)) in
+    let same = ap (lam b)
+    (close-opened 0 v vs t (λ j. binders-apart q types (length vs) b (omega (arith, long)) small j) (binder-fresh q (length vs) b t small p.names)) in
     shared-writes c (lam b t) vs (λ e. say_word word.AbsTerm (write_under q (v ∷ vs) t (write_variable v e))) d made stack r
-    (wrote-said (item.Word word.AbsTerm) both (λ m e. abs_term-step c e m v (opened 0 (v ∷ vs) t) (lam b (opened 1 vs t)) stack same (term-in_limits (lam b (opened 1 vs t)) whole)))
+    (wrote-said (item.Word word.AbsTerm) both
+    (λ m e. abs_term-step c e m v (opened 0 (v ∷ vs) t) (lam b (opened 1 vs t)) stack same (term-in_limits (lam b (opened 1 vs t)) whole)))
 
 -- A whole term
 pub record IsOperand (c : Scene) (q : ℕ) (t : Term) : Type 0 where
@@ -149,4 +161,5 @@ pub record IsOperand (c : Scene) (q : ℕ) (t : Term) : Type 0 where
 pub term-writes : (c : Scene) (q : ℕ) (t : Term) → IsOperand c q t → Writes c (write_term q t) (Object.term t)
 term-writes c q t p d made stack r =
     subst (λ u. Wrote c d.kept made (write_term q t d) (Object.term u ∷ stack)) (opened-closed 0 [] t (loose-typed [] t p.ty p.typed))
-    (writes-under c q t [] p.ty (record { built = p.built; uses = p.uses; binders = tt {0}; names = p.names; typed = p.typed; small = omega (arith, p.small) }) d made stack r)
+    (writes-under c q t [] p.ty (record { built = p.built; uses = p.uses; binders = tt {0}; names = p.names; typed = p.typed; small = omega (arith, p.small) })
+    d made stack r)

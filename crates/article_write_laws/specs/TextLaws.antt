@@ -13,7 +13,8 @@ reads : (items : List Item) (n o : ℕ) → AllByRecursion IsWritable items → 
 reads [] n o h small = record { line = n; offset = o; opens = open_line (record { one_line = tt; short = omega arith; within = omega (arith, small) }) }
 reads (i ∷ is) n o h small =
     let w = item_text i in
-    let long : length (text_of (i ∷ is)) ≡ length w + 1 + length (text_of is) = length-append (w ++ newline ∷ []) (text_of is) ∙ ap (λ k. k + length (text_of is)) (length-append w (newline ∷ [])) in
+    let long : length (text_of (i ∷ is)) ≡ length w + 1 + length (text_of is) =
+    length-append (w ++ newline ∷ []) (text_of is) ∙ ap (λ k. k + length (text_of is)) (length-append w (newline ∷ [])) in
     let line = item-short i h.0 in
     let more = reads is (n + 1) (o + length w + 1) h.1 (omega (arith, small, long)) in
     record {

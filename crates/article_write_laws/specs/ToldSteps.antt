@@ -77,7 +77,8 @@ sequent-of-step made i x e = sequent_at-is made i x.sequent (slice_get-mapped (�
 
 -- inputs are no steps
 pub steps-inputs : (m : List Made) (more : List Symbol) (i : ℕ) → sequent_at (m ++ map Made.symbol more) i ≡ sequent_at m i
-steps-inputs m more i = ap (λ l. slice_index_or (map (λ (x : Step). x.sequent) l) i (record { hypotheses = []; conclusion = Term.bound 0 })) (steps_of-symbols m more)
+steps-inputs m more i = ap (λ l. slice_index_or (map (λ (x : Step). x.sequent) l) i (record { hypotheses = []; conclusion = Term.bound 0 }))
+    (steps_of-symbols m more)
 
 module _ (q : ℕ) (version : Version) (flag is_export : ℕ → Bool) where
   -- what a told step says
@@ -97,8 +98,10 @@ module _ (q : ℕ) (version : Version) (flag is_export : ℕ → Bool) where
       → kept ≡ (told q version flag is_export made).kept ++ new → (is : List ℕ) → AllByRecursion (IsTold q version flag is_export made) is
       → AllByRecursion (IsKept kept) is
   all-kept r kept new front [] h = tt
-  all-kept {made = made} r kept new front (i ∷ is) h =
-      (subst (λ l. IsKept l i) (sym front) (kept-more (told q version flag is_export made).kept new i (r.kept i h.0.earlier h.0.flagged h.0.no_export)), all-kept r kept new front is h.1)
+  all-kept {made = made} r kept new front (i ∷ is) h = (
+    subst (λ l. IsKept l i) (sym front) (kept-more (told q version flag is_export made).kept new i (r.kept i h.0.earlier h.0.flagged h.0.no_export)),
+    all-kept r kept new front is h.1,
+  )
 
   -- a theorem on top is kept
   pub ready-theorem : {c : Scene} {d : Draft} {m : List Made} {stack : List Object} (i k : ℕ) → c.number i ≡ k → Ready c d m (Object.theorem k ∷ stack)
@@ -120,15 +123,19 @@ module _ (q : ℕ) (version : Version) (flag is_export : ℕ → Bool) where
       let m = r.after ++ map Made.symbol p.more in
       let y = renumbered (count flag) x in
       let stack = subst (λ l. Ready c d2 m (pushed l (given_stack x.parameters []))) (sym (map-twice Object.theorem (count flag) x.premises)) p.ready in
-      let goes = inference-word c stack.dictionary m [] x.kind (map (sequent_at made) x.premises) x.parameters x.sequent kind h.follows (map (count flag) x.premises) (all-say r p.more x.premises h.premises) h.limits in
-      let concluded = ready-said {after = m ++ Made.step y ∷ []} {next = Object.theorem (length (steps_of m)) ∷ []} stack (item.Word (word_of x.kind)) goes (subst (AreAmong c.symbols) (sym (symbols_of-push m y)) stack.among) in
+      let goes = inference-word c stack.dictionary m [] x.kind (map (sequent_at made) x.premises) x.parameters x.sequent kind h.follows
+      (map (count flag) x.premises) (all-say r p.more x.premises h.premises) h.limits in
+      let concluded = ready-said {after = m ++ Made.step y ∷ []} {next = Object.theorem (length (steps_of m)) ∷ []} stack (item.Word (word_of x.kind)) goes
+      (subst (AreAmong c.symbols) (sym (symbols_of-push m y)) stack.among) in
       let steps : steps_of m ≡ steps_of r.after = steps_of-symbols r.after p.more in
       let number : count flag n ≡ length (steps_of m) = sym (ap length steps ∙ count-after q version flag is_export r) in
       let done = ready-theorem n (length (steps_of m)) number concluded in
       let d3 = keep_theorem n (say_word (word_of x.kind) d2) in
-      let writes : write_flagged q version flag is_export (record { number = n; step = x }) d ≡ d3 = by-inference q x.kind (is_export n) n x d kind ∙ made-inference x.kind n (say_word (word_of x.kind) d2) kind in
+      let writes : write_flagged q version flag is_export (record { number = n; step = x }) d ≡ d3 =
+      by-inference q x.kind (is_export n) n x d kind ∙ made-inference x.kind n (say_word (word_of x.kind) d2) kind in
       let symbols : symbols_of whole ≡ symbols_of made = ap symbols_of is ∙ symbols_of-push made x in
-      let front : d3.kept ≡ d.kept ++ (p.new ++ Kept.theorem n ∷ []) = ap (λ l. l ++ Kept.theorem n ∷ []) p.front ∙ append_assoc d.kept p.new (Kept.theorem n ∷ []) in
+      let front : d3.kept ≡ d.kept ++ (p.new ++ Kept.theorem n ∷ []) =
+      ap (λ l. l ++ Kept.theorem n ∷ []) p.front ∙ append_assoc d.kept p.new (Kept.theorem n ∷ []) in
       let grown : steps_of whole ≡ steps_of made ++ x ∷ [] = ap steps_of is ∙ steps_of-push made x in
       let longer = next-grown q version flag is_export made whole x grown in
       retold-on q version flag is_export x r grown on (m ++ Made.step y ∷ [])

@@ -77,16 +77,20 @@ op_type-step c d m n us stack arity limits = rw (each-listing as_type Object.typ
 -- the arguments as a list, and the operator before them
 op_type-writes : (c : Scene) (d : Draft) (made : List Made) (stack : List Object) (n : Name) (ts : HolTypes)
     → Ready c d made (list (listing (type_objects ts) none) ∷ Object.type_operator n ∷ stack)
-    → TypeUses c.symbols (HolType.operator n ts) → TypeWithin (HolType.operator n ts) → Wrote c d.kept made (say_word word.OpType d) (Object.type (HolType.operator n ts) ∷ stack)
+    → TypeUses c.symbols (HolType.operator n ts) → TypeWithin (HolType.operator n ts)
+    → Wrote c d.kept made (say_word word.OpType d) (Object.type (HolType.operator n ts) ∷ stack)
 op_type-writes c d made stack n ts r uses within =
     let us = listed ts in
     let counts : length us ≡ count ts = length-listed ts in
     let same : types_of us ≡ ts = types_of-listed ts in
-    let arity = subst (λ k. arity_fits (operator_arity (symbols_of made) n) k ≡ Ok tt) (sym counts) (operator-fits c.symbols (symbols_of made) n (count ts) r.among uses.0) in
+    let arity = subst (λ k. arity_fits (operator_arity (symbols_of made) n) k ≡ Ok tt) (sym counts)
+    (operator-fits c.symbols (symbols_of made) n (count ts) r.among uses.0) in
     let limits = subst (λ vs. type_in_limits (HolType.operator n vs) ≡ Ok tt) (sym same) (type-in_limits (HolType.operator n ts) within) in
-    let new = subst (λ k. AreNew c.symbols (symbols_of made) (new_operator (symbols_of made) n k)) (sym counts) (operator-new c.symbols (symbols_of made) n (count ts) r.among uses.0) in
+    let new = subst (λ k. AreNew c.symbols (symbols_of made) (new_operator (symbols_of made) n k)) (sym counts)
+    (operator-new c.symbols (symbols_of made) n (count ts) r.among uses.0) in
     subst (λ vs. Wrote c d.kept made (say_word word.OpType d) (Object.type (HolType.operator n vs) ∷ stack)) same
-    (wrote-taking (item.Word word.OpType) r (new_operator (symbols_of made) n (length us)) (op_type-step c r.dictionary made n us stack arity limits) new.inputs new.among)
+    (wrote-taking (item.Word word.OpType) r (new_operator (symbols_of made) n (length us)) (op_type-step c r.dictionary made n us stack arity limits) new.inputs
+    new.among)
 
 -- A type
 mutual
@@ -97,11 +101,16 @@ mutual
   type-writes c (HolType.operator n ts) uses within d made stack r =
       let start : Wrote c d.kept made (say_word word.TypeOp (say_name n d)) (Object.type_operator n ∷ stack) =
       wrote-said (item.Word word.TypeOp) (wrote-said {next = Object.name n ∷ stack} (item.Name n) (wrote-none r) (λ m e. refl)) (λ m e. refl) in
-      let parts = wrote-then start (λ m s. types-write c ts uses.1 (arguments-within n ts within) (say_word word.TypeOp (say_name n d)) m (Object.type_operator n ∷ stack) s) in
-      let whole = subst (λ k. Wrote c d.kept made (conses k (say_word word.Nil (write_types ts (say_word word.TypeOp (say_name n d))))) (list (listing (type_objects ts) none) ∷ Object.type_operator n ∷ stack)) (length-objects ts)
+      let parts = wrote-then start
+      (λ m s. types-write c ts uses.1 (arguments-within n ts within) (say_word word.TypeOp (say_name n d)) m (Object.type_operator n ∷ stack) s) in
+      let whole = subst
+      (λ k. Wrote c d.kept made (conses k (say_word word.Nil (write_types ts (say_word word.TypeOp (say_name n d)))))
+      (list (listing (type_objects ts) none) ∷ Object.type_operator n ∷ stack)) (length-objects ts)
       (wrote-list (type_objects ts) parts) in
-      wrote-once (Kept.type (HolType.operator n ts)) (λ e. say_word word.OpType (conses (count ts) (say_word word.Nil (write_types ts (say_word word.TypeOp (say_name n e)))))) r
-      (wrote-then whole (λ m s. op_type-writes c (conses (count ts) (say_word word.Nil (write_types ts (say_word word.TypeOp (say_name n d))))) m stack n ts s uses within))
+      wrote-once (Kept.type (HolType.operator n ts))
+      (λ e. say_word word.OpType (conses (count ts) (say_word word.Nil (write_types ts (say_word word.TypeOp (say_name n e)))))) r
+      (wrote-then whole
+      (λ m s. op_type-writes c (conses (count ts) (say_word word.Nil (write_types ts (say_word word.TypeOp (say_name n d))))) m stack n ts s uses within))
 
   types-write : (c : Scene) (ts : HolTypes) → TypesUse c.symbols ts → TypesWithin ts → (d : Draft) (made : List Made) (stack : List Object)
       → Ready c d made stack
@@ -114,7 +123,8 @@ mutual
 pub variable-writes : (c : Scene) (v : Variable) → TypeUses c.symbols v.1 → TypeWithin v.1 → Writes c (write_variable v) (Object.variable v)
 variable-writes c v uses within d made stack r =
     wrote-said (item.Word word.Var)
-    (wrote-then (wrote-said {next = Object.name v.0 ∷ stack} (item.Name v.0) (wrote-none r) (λ m e. refl)) (λ m s. type-writes c v.1 uses within (say_name v.0 d) m (Object.name v.0 ∷ stack) s))
+    (wrote-then (wrote-said {next = Object.name v.0 ∷ stack} (item.Name v.0) (wrote-none r) (λ m e. refl))
+    (λ m s. type-writes c v.1 uses within (say_name v.0 d) m (Object.name v.0 ∷ stack) s))
     (λ m e. refl)
 
 pub name-writes : (c : Scene) (n : Name) → Writes c (say_name n) (Object.name n)

@@ -70,11 +70,15 @@ fine-kept : {d : Draft} (x : Kept) → Fine d → Fine (keep x d)
 fine-kept {d = d} x f =
     let g = fine-word word.Def (fine-number {d = d} (length d.kept) (omega arith) f) in
     let long : length (d.kept ++ x ∷ []) ≡ length d.kept + 1 = length-append d.kept (x ∷ []) in
-    let one : length (d.commands ++ item.Number (pos (length d.kept)) ∷ []) ≡ length d.commands + 1 = length-append d.commands (item.Number (pos (length d.kept)) ∷ []) in
-    let two : length ((d.commands ++ item.Number (pos (length d.kept)) ∷ []) ++ item.Word word.Def ∷ []) ≡ length (d.commands ++ item.Number (pos (length d.kept)) ∷ []) + 1 =
+    let one : length (d.commands ++ item.Number (pos (length d.kept)) ∷ []) ≡ length d.commands + 1 =
+    length-append d.commands (item.Number (pos (length d.kept)) ∷ []) in
+    let two : length ((d.commands ++ item.Number (pos (length d.kept)) ∷ []) ++ item.Word word.Def ∷ [])
+    ≡ length (d.commands ++ item.Number (pos (length d.kept)) ∷ []) + 1 =
     length-append (d.commands ++ item.Number (pos (length d.kept)) ∷ []) (item.Word word.Def ∷ []) in
     record {
-      items = All-weaker (IsFine (length d.kept)) (IsFine (length (d.kept ++ x ∷ []))) (fine-more (length d.kept) (length (d.kept ++ x ∷ [])) (omega (arith, long))) ((d.commands ++ item.Number (pos (length d.kept)) ∷ []) ++ item.Word word.Def ∷ []) g.items;
+      items = All-weaker (IsFine (length d.kept)) (IsFine (length (d.kept ++ x ∷ [])))
+          (fine-more (length d.kept) (length (d.kept ++ x ∷ [])) (omega (arith, long)))
+          ((d.commands ++ item.Number (pos (length d.kept)) ∷ []) ++ item.Word word.Def ∷ []) g.items;
       keys = omega (arith, long, one, two, f.keys);
     }
 
@@ -130,18 +134,24 @@ GivenNamed Parameters.nothing = Unit {0}
 GivenNamed (Parameters.term t) = TermNamed t
 GivenNamed (Parameters.variable v) = VariableNamed v
 GivenNamed (Parameters.substitution types terms) =
-    AllByRecursion (λ (p : Name × HolType). IsWritableName p.0 × TypeNamed p.1) types × AllByRecursion (λ (p : Variable × Term). VariableNamed p.0 × TermNamed p.1) terms
+    AllByRecursion (λ (p : Name × HolType). IsWritableName p.0 × TypeNamed p.1) types
+    × AllByRecursion (λ (p : Variable × Term). VariableNamed p.0 × TermNamed p.1) terms
 GivenNamed (Parameters.sequent s) = AllByRecursion TermNamed s.hypotheses × TermNamed s.conclusion
 GivenNamed (Parameters.constant n t) = IsWritableName n × TermNamed t
 GivenNamed (Parameters.constants pairs) = AllByRecursion (λ (p : Name × Variable). IsWritableName p.0 × VariableNamed p.1) pairs
-GivenNamed (Parameters.type_operator names version) = (IsWritableName names.operator × IsWritableName names.abstraction) × (IsWritableName names.representation × AllByRecursion IsWritableName names.variables)
+GivenNamed (Parameters.type_operator names version) =
+    (IsWritableName names.operator × IsWritableName names.abstraction) × (IsWritableName names.representation × AllByRecursion IsWritableName names.variables)
 
 mutual
   fine-type : (t : HolType) → TypeNamed t → Finely (write_type t)
-  fine-type (HolType.variable n) h d f = fine-once (Kept.type (HolType.variable n)) (λ e. say_word word.VarType (say_name n e)) f (fine-word word.VarType (fine-name n h f))
+  fine-type (HolType.variable n) h d f = fine-once (Kept.type (HolType.variable n)) (λ e. say_word word.VarType (say_name n e)) f
+      (fine-word word.VarType (fine-name n h f))
   fine-type (HolType.operator n ts) h d f =
-      fine-once (Kept.type (HolType.operator n ts)) (λ e. say_word word.OpType (conses (count ts) (say_word word.Nil (write_types ts (say_word word.TypeOp (say_name n e)))))) f
-      (fine-word word.OpType (fine-conses (count ts) (say_word word.Nil (write_types ts (say_word word.TypeOp (say_name n d)))) (fine-word word.Nil (fine-types ts h.1 (say_word word.TypeOp (say_name n d)) (fine-word word.TypeOp (fine-name n h.0 f))))))
+      fine-once (Kept.type (HolType.operator n ts))
+      (λ e. say_word word.OpType (conses (count ts) (say_word word.Nil (write_types ts (say_word word.TypeOp (say_name n e)))))) f
+      (fine-word word.OpType
+      (fine-conses (count ts) (say_word word.Nil (write_types ts (say_word word.TypeOp (say_name n d))))
+      (fine-word word.Nil (fine-types ts h.1 (say_word word.TypeOp (say_name n d)) (fine-word word.TypeOp (fine-name n h.0 f))))))
 
   fine-types : (ts : HolTypes) → TypesNamed ts → Finely (write_types ts)
   fine-types HolTypes.none h d f = f
@@ -184,7 +194,8 @@ binder-writable q d hq hd =
       some = refl;
       one_line = (
         All-append (λ b. b ≢ newline) (binder_front q) (decimal d)
-            (All-append (λ b. b ≢ newline) (95 ∷ []) (decimal q ++ 95 ∷ []) bar (All-append (λ b. b ≢ newline) (decimal q) (95 ∷ []) (digits-IsLine (decimal q) (decimal-HasValue q (omega (arith, hq))).digits) bar))
+            (All-append (λ b. b ≢ newline) (95 ∷ []) (decimal q ++ 95 ∷ []) bar
+            (All-append (λ b. b ≢ newline) (decimal q) (95 ∷ []) (digits-IsLine (decimal q) (decimal-HasValue q (omega (arith, hq))).digits) bar))
             (digits-IsLine (decimal d) (decimal-HasValue d (omega (arith, hd))).digits),
         tt {0},
       );
@@ -199,14 +210,17 @@ module _ (q : ℕ) (small_q : q < 2 ^ 64) where
 
   fine-under : (t : Term) (vs : List Variable) → TermNamed t → AllByRecursion VariableNamed vs → loose t ≤ length vs → length vs + term_depth t < 2 ^ 64
       → Finely (write_under q vs t)
-  fine-under (Term.free n a) vs h k l s d f = fine-shared (Term.free n a) (λ e. say_word word.VarTerm (write_variable (n, a) e)) f (fine-word word.VarTerm (fine-variable (n, a) h d f))
+  fine-under (Term.free n a) vs h k l s d f = fine-shared (Term.free n a) (λ e. say_word word.VarTerm (write_variable (n, a) e)) f
+      (fine-word word.VarTerm (fine-variable (n, a) h d f))
   fine-under (Term.bound j) vs h k l s d f = fine-word word.VarTerm (fine-variable (binder_at vs j) (binder-named vs j (omega (arith, l)) k) d f)
   fine-under (Term.constant n a) vs h k l s d f =
       fine-shared (Term.constant n a) (λ e. say_word word.ConstTerm (write_type a (say_word word.Const (say_name n e)))) f
       (fine-word word.ConstTerm (fine-type a h.1 (say_word word.Const (say_name n d)) (fine-word word.Const (fine-name n h.0 f))))
   fine-under (Term.app g x) vs h k l s d f =
       fine-shared (Term.app g x) (λ e. say_word word.AppTerm (write_under q vs x (write_under q vs g e))) f
-      (fine-word word.AppTerm (fine-under x vs h.1 k (omega (arith, l)) (omega (arith, s)) (write_under q vs g d) (fine-under g vs h.0 k (omega (arith, l)) (omega (arith, s)) d f)))
+      (fine-word word.AppTerm
+      (fine-under x vs h.1 k (omega (arith, l)) (omega (arith, s)) (write_under q vs g d)
+      (fine-under g vs h.0 k (omega (arith, l)) (omega (arith, s)) d f)))
   fine-under (Term.lam a b) vs h k l s d f =
       let v : Variable = next_binder q vs a in
       let named : VariableNamed v = (binder-writable q (length vs) small_q (omega (arith, s)), h.0) in
@@ -227,26 +241,34 @@ module _ (q : ℕ) (small_q : q < 2 ^ 64) where
   GivenFine (Parameters.term t) = IsNamed t
   GivenFine (Parameters.variable v) = VariableNamed v
   GivenFine (Parameters.substitution types terms) =
-      AllByRecursion (λ (p : Name × HolType). IsWritableName p.0 × TypeNamed p.1) types × AllByRecursion (λ (p : Variable × Term). VariableNamed p.0 × IsNamed p.1) terms
+      AllByRecursion (λ (p : Name × HolType). IsWritableName p.0 × TypeNamed p.1) types
+      × AllByRecursion (λ (p : Variable × Term). VariableNamed p.0 × IsNamed p.1) terms
   GivenFine (Parameters.sequent s) = AllByRecursion IsNamed s.hypotheses × IsNamed s.conclusion
   GivenFine (Parameters.constant n t) = IsWritableName n × IsNamed t
   GivenFine (Parameters.constants pairs) = AllByRecursion (λ (p : Name × Variable). IsWritableName p.0 × VariableNamed p.1) pairs
-  GivenFine (Parameters.type_operator names version) = (IsWritableName names.operator × IsWritableName names.abstraction) × (IsWritableName names.representation × AllByRecursion IsWritableName names.variables)
+  GivenFine (Parameters.type_operator names version) =
+      (IsWritableName names.operator × IsWritableName names.abstraction) × (IsWritableName names.representation × AllByRecursion IsWritableName names.variables)
 
   fine-given : (g : Parameters) → GivenFine g → Finely (write_given q g)
   fine-given Parameters.nothing h d f = f
   fine-given (Parameters.term t) h d f = fine-term t h d f
   fine-given (Parameters.variable v) h d f = fine-variable v h d f
   fine-given (Parameters.substitution types terms) h d f =
-      fine-pair (write_list (λ p. write_pair (say_name p.0) (write_type p.1)) types) (write_list (λ p. write_pair (write_variable p.0) (write_term q p.1)) terms)
-      (fine-list (λ p. write_pair (say_name p.0) (write_type p.1)) (λ (p : Name × HolType). IsWritableName p.0 × TypeNamed p.1) (λ p k. fine-pair (say_name p.0) (write_type p.1) (λ e g. fine-name p.0 k.0 g) (fine-type p.1 k.1)) types h.0)
-      (fine-list (λ p. write_pair (write_variable p.0) (write_term q p.1)) (λ (p : Variable × Term). VariableNamed p.0 × IsNamed p.1) (λ p k. fine-pair (write_variable p.0) (write_term q p.1) (fine-variable p.0 k.0) (fine-term p.1 k.1)) terms h.1) d f
-  fine-given (Parameters.sequent s) h d f = fine-term s.conclusion h.1 (write_list (write_term q) s.hypotheses d) (fine-list (write_term q) IsNamed fine-term s.hypotheses h.0 d f)
+      fine-pair (write_list (λ p. write_pair (say_name p.0) (write_type p.1)) types)
+      (write_list (λ p. write_pair (write_variable p.0) (write_term q p.1)) terms)
+      (fine-list (λ p. write_pair (say_name p.0) (write_type p.1)) (λ (p : Name × HolType). IsWritableName p.0 × TypeNamed p.1)
+      (λ p k. fine-pair (say_name p.0) (write_type p.1) (λ e g. fine-name p.0 k.0 g) (fine-type p.1 k.1)) types h.0)
+      (fine-list (λ p. write_pair (write_variable p.0) (write_term q p.1)) (λ (p : Variable × Term). VariableNamed p.0 × IsNamed p.1)
+      (λ p k. fine-pair (write_variable p.0) (write_term q p.1) (fine-variable p.0 k.0) (fine-term p.1 k.1)) terms h.1) d f
+  fine-given (Parameters.sequent s) h d f = fine-term s.conclusion h.1 (write_list (write_term q) s.hypotheses d)
+      (fine-list (write_term q) IsNamed fine-term s.hypotheses h.0 d f)
   fine-given (Parameters.constant n t) h d f = fine-term t h.1 (say_name n d) (fine-name n h.0 f)
   fine-given (Parameters.constants pairs) h d f =
-      fine-list (λ p. write_pair (say_name p.0) (write_variable p.1)) (λ (p : Name × Variable). IsWritableName p.0 × VariableNamed p.1) (λ p k. fine-pair (say_name p.0) (write_variable p.1) (λ e g. fine-name p.0 k.0 g) (fine-variable p.1 k.1)) pairs h d f
+      fine-list (λ p. write_pair (say_name p.0) (write_variable p.1)) (λ (p : Name × Variable). IsWritableName p.0 × VariableNamed p.1)
+      (λ p k. fine-pair (say_name p.0) (write_variable p.1) (λ e g. fine-name p.0 k.0 g) (fine-variable p.1 k.1)) pairs h d f
   fine-given (Parameters.type_operator names version) h d f =
-      fine-list say_name IsWritableName (λ n k e g. fine-name n k g) names.variables h.1.1 _ (fine-name names.representation h.1.0 (fine-name names.abstraction h.0.1 (fine-name names.operator h.0.0 f)))
+      fine-list say_name IsWritableName (λ n k e g. fine-name n k g) names.variables h.1.1 _
+      (fine-name names.representation h.1.0 (fine-name names.abstraction h.0.1 (fine-name names.operator h.0.0 f)))
 
   -- Steps
   fine-premise : (i : ℕ) → Finely (write_premise i)
@@ -310,7 +332,8 @@ module _ (q : ℕ) (small_q : q < 2 ^ 64) where
   fine-by ProveHyp b i x h d f = fine-inferred i x h d f
   fine-by Subst b i x h d f = fine-inferred i x h d f
 
-  fine-steps : (exports : List ℕ) (ys : List Numbered) → AllByRecursion (λ (y : Numbered). GivenFine y.step.parameters) ys → Finely (write_each (write_step q exports) ys)
+  fine-steps : (exports : List ℕ) (ys : List Numbered) → AllByRecursion (λ (y : Numbered). GivenFine y.step.parameters) ys
+      → Finely (write_each (write_step q exports) ys)
   fine-steps exports [] h d f = f
   fine-steps exports (y ∷ ys) h d f = fine-steps exports ys h.1 (write_step q exports y d) (fine-by y.step.kind _ y.number y.step h.0 d f)
 
@@ -332,7 +355,8 @@ module _ (q : ℕ) (small_q : q < 2 ^ 64) where
   fine-writable n le (item.Word w) h = tt
 
   pub steps-writable : (version : Version) (exports : List ℕ) (ys : List Numbered) → AllByRecursion (λ (y : Numbered). GivenFine y.step.parameters) ys
-      → length (text_of (write_each (write_step q exports) ys (version_draft version)).commands) ≤ max_article → AllByRecursion IsWritable (write_each (write_step q exports) ys (version_draft version)).commands
+      → length (text_of (write_each (write_step q exports) ys (version_draft version)).commands) ≤ max_article
+      → AllByRecursion IsWritable (write_each (write_step q exports) ys (version_draft version)).commands
   steps-writable version exports ys h small =
       let d = write_each (write_step q exports) ys (version_draft version) in
       let f = fine-steps exports ys h (version_draft version) (fine-start version) in

@@ -47,12 +47,14 @@ module _ (q : ℕ) where
   count_given (Parameters.term t) m = count_under q 0 t m
   count_given (Parameters.variable v) m = count_variable v.0 v.1 m
   count_given (Parameters.substitution types terms) m =
-      count_pair (count_list (λ p. count_pair (add (name_length p.0)) (count_type p.1)) types) (count_list (λ p. count_pair (count_variable p.0.0 p.0.1) (count_under q 0 p.1)) terms) m
+      count_pair (count_list (λ p. count_pair (add (name_length p.0)) (count_type p.1)) types)
+      (count_list (λ p. count_pair (count_variable p.0.0 p.0.1) (count_under q 0 p.1)) terms) m
   count_given (Parameters.sequent s) m = count_sequent s m
   count_given (Parameters.constant n t) m = count_under q 0 t (add (name_length n) m)
   count_given (Parameters.constants pairs) m = count_list (λ p. count_pair (add (name_length p.0)) (count_variable p.1.0 p.1.1)) pairs m
   count_given (Parameters.type_operator names version) m =
-      count_list (λ n. add (name_length n)) names.variables (add (name_length names.operator + name_length names.abstraction + name_length names.representation) m)
+      count_list (λ n. add (name_length n)) names.variables
+      (add (name_length names.operator + name_length names.abstraction + name_length names.representation) m)
 
   abbrev pub count_export : Step → Tally → Tally
   count_export x m = add (word_length word.Thm) (count_given x.parameters (count_each count_premise x.premises m))
@@ -78,7 +80,8 @@ module _ (q : ℕ) where
 
 abbrev pub tally : Version → Accepted → Tally
 tally version run =
-    count_each (count_step (binder_number (reached_steps run)) run.exports) (reached_steps run) (record { kept = []; length = items_length (version_items version) })
+    count_each (count_step (binder_number (reached_steps run)) run.exports) (reached_steps run)
+    (record { kept = []; length = items_length (version_items version) })
 
 -- The length, up to a number: greater ones are not told apart.
 abbrev pub article_length : ℕ → Version → Accepted → ℕ
@@ -86,4 +89,5 @@ article_length most version run = capped most (tally version run).length
 
 -- What is counted is the length of the text.
 abbrev pub LengthsAreCounted : Type 0
-LengthsAreCounted = (most : ℕ) (version : Version) (run : Accepted) → IsProof run.made → article_length most version run ≡ capped most (length (article version run))
+LengthsAreCounted = (most : ℕ) (version : Version) (run : Accepted) → IsProof run.made → article_length most version run
+    ≡ capped most (length (article version run))

@@ -31,7 +31,8 @@ defined_by (Symbol.defined d) = d ∷ []
 abbrev pub told_definitions : (ℕ → Bool) → ℕ → List Made → List Definition
 told_definitions told n [] = []
 told_definitions told n (Made.symbol x ∷ made) = (if told n then defined_by x else []) ++ told_definitions told n made
-told_definitions told n (Made.type_definition names c f i ∷ made) = (if told n then Definition.type_operator names c f ∷ [] else []) ++ told_definitions told n made
+told_definitions told n (Made.type_definition names c f i ∷ made) =
+    (if told n then Definition.type_operator names c f ∷ [] else []) ++ told_definitions told n made
 told_definitions told n (Made.step x ∷ made) = told_definitions told (suc n) made
 
 -- what an article's run tells of a run, by the steps that are told
@@ -58,4 +59,5 @@ pub record IsSayable (version : Version) (run : Accepted) : Type 0 where
   pub few : length (variable_names (reached_steps run)) < 2 ^ 64
 
 abbrev pub RunsAreRetold : Type 0
-RunsAreRetold = (articles : List (List ℕ)) (version : Version) (run : Accepted) → Run articles (accepted run) → IsSayable version run → (a : Accepted) × Retells version run a
+RunsAreRetold = (articles : List (List ℕ)) (version : Version) (run : Accepted) → Run articles (accepted run) → IsSayable version run → (a : Accepted)
+    × Retells version run a

@@ -15,7 +15,9 @@ abbrev mutual
   pub count_type : HolType → Tally → Tally
   count_type (HolType.variable n) m = count_once (Kept.type (HolType.variable n)) (add (name_length n + word_length word.VarType)) m
   count_type (HolType.operator n ts) m =
-      count_once (Kept.type (HolType.operator n ts)) (λ e. add (word_length word.Nil + count ts * word_length word.Cons + word_length word.OpType) (count_types ts (add (name_length n + word_length word.TypeOp) e))) m
+      count_once (Kept.type (HolType.operator n ts))
+      (λ e. add (word_length word.Nil + count ts * word_length word.Cons + word_length word.OpType)
+      (count_types ts (add (name_length n + word_length word.TypeOp) e))) m
 
   pub count_types : HolTypes → Tally → Tally
   count_types HolTypes.none m = m
@@ -70,7 +72,8 @@ module _ (q : ℕ) where
   place_length kept d (Term.free n a) = key_length kept (Kept.term (Term.free n a))
   place_length kept d (Term.bound k) = number_length d k
   place_length kept d (Term.constant n a) = key_length kept (Kept.term (Term.constant n a))
-  place_length kept d (Term.app f x) = closed_or (loose (Term.app f x) == 0) (key_length kept (Kept.term (Term.app f x))) (place_length kept d f + place_length kept d x + word_length word.AppTerm)
+  place_length kept d (Term.app f x) = closed_or (loose (Term.app f x) == 0) (key_length kept (Kept.term (Term.app f x)))
+      (place_length kept d f + place_length kept d x + word_length word.AppTerm)
   place_length kept d (Term.lam a b) =
       closed_or (loose (Term.lam a b) == 0) (key_length kept (Kept.term (Term.lam a b)))
       (name_length (binder_name q d) + key_length kept (Kept.type a) + word_length word.Var + place_length kept (suc d) b + binder_length kept a b)

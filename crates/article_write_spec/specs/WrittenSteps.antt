@@ -58,11 +58,13 @@ module _ (q : ℕ) where
   write_given (Parameters.term t) d = write_term q t d
   write_given (Parameters.variable v) d = write_variable v d
   write_given (Parameters.substitution types terms) d =
-      write_pair (write_list (λ p. write_pair (say_name p.0) (write_type p.1)) types) (write_list (λ p. write_pair (write_variable p.0) (write_term q p.1)) terms) d
+      write_pair (write_list (λ p. write_pair (say_name p.0) (write_type p.1)) types)
+      (write_list (λ p. write_pair (write_variable p.0) (write_term q p.1)) terms) d
   write_given (Parameters.sequent s) d = write_sequent s d
   write_given (Parameters.constant n t) d = write_term q t (say_name n d)
   write_given (Parameters.constants pairs) d = write_list (λ p. write_pair (say_name p.0) (write_variable p.1)) pairs d
-  write_given (Parameters.type_operator names version) d = write_list say_name names.variables (say_name names.representation (say_name names.abstraction (say_name names.operator d)))
+  write_given (Parameters.type_operator names version) d =
+      write_list say_name names.variables (say_name names.representation (say_name names.abstraction (say_name names.operator d)))
 
   -- an export has its premise below the sequent, and leaves nothing
   abbrev pub write_export : Step → Draft → Draft

@@ -8,7 +8,8 @@ abbrev mutual
   pub write_type : HolType → Draft → Draft
   write_type (HolType.variable n) d = once (Kept.type (HolType.variable n)) (λ e. say_word word.VarType (say_name n e)) d
   write_type (HolType.operator n ts) d =
-      once (Kept.type (HolType.operator n ts)) (λ e. say_word word.OpType (conses (count ts) (say_word word.Nil (write_types ts (say_word word.TypeOp (say_name n e)))))) d
+      once (Kept.type (HolType.operator n ts))
+      (λ e. say_word word.OpType (conses (count ts) (say_word word.Nil (write_types ts (say_word word.TypeOp (say_name n e)))))) d
 
   pub write_types : HolTypes → Draft → Draft
   write_types HolTypes.none d = d

@@ -22,15 +22,18 @@ its_type t h = go (type_of t) refl h
 known_typed : (trees : Trees) (id : ℕ) (a : HolType) → HasType (term_at trees id) a → id < length trees.terms
 known_typed trees id a h = go (slice_get_cases trees.terms id).1
   where
-    go : ((x : Term) × (id < length trees.terms) × (slice_get trees.terms id ≡ Some x) × (get_or trees.terms id x ≡ x)) ⊎ ((length trees.terms ≤ id) × (slice_get trees.terms id ≡ None)) → id < length trees.terms
+    go : ((x : Term) × (id < length trees.terms) × (slice_get trees.terms id ≡ Some x) × (get_or trees.terms id x ≡ x))
+        ⊎ ((length trees.terms ≤ id) × (slice_get trees.terms id ≡ None)) → id < length trees.terms
     go (inl w) = w.1
     go (inr w) = absurd (let e = ap (λ o. unwrap_or o (bound 0)) w.1 in let f = subst (λ t. HasType t a) e h in cc)
 
 -- the body of a term's abstraction takes what has the type of the variable
-pub body_fits : (old new : Trees) (body arg made id : ℕ) (name : Name) (a c : HolType) → Keeps old new → IsTerm (term_at old id) → HasType (term_at old arg) a → Holds new made (lam a (close (name, a) (term_at old id))) → Holds new made (lam c (term_at new body)) → IsBodyFor new body arg
+pub body_fits : (old new : Trees) (body arg made id : ℕ) (name : Name) (a c : HolType) → Keeps old new → IsTerm (term_at old id) → HasType (term_at old arg) a
+    → Holds new made (lam a (close (name, a) (term_at old id))) → Holds new made (lam c (term_at new body)) → IsBodyFor new body arg
 body_fits old new body arg made id name a c k it typed h v =
     let b = its_type (term_at old id) it in
-    let e : term_at new body ≡ close (name, a) (term_at old id) = (let l : lam c (term_at new body) ≡ lam a (close (name, a) (term_at old id)) = same_Some _ _ (sym v ∙ h) in cc) in (
+    let e : term_at new body ≡ close (name, a) (term_at old id) =
+    (let l : lam c (term_at new body) ≡ lam a (close (name, a) (term_at old id)) = same_Some _ _ (sym v ∙ h) in cc) in (
       a,
       (
         b.0,

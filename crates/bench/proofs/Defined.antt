@@ -15,8 +15,10 @@ over_more : (count : ℕ) (t : Tree) → length signature ≤ count → IsOver (
 over_more count t h o = record { closed = o.closed; kindless = o.kindless; known = omega (arith, h, o.known) }
 
 -- a definition of a new name by a tree over the signature
-pub may_define : (before : List Declaration) (ts : List Tree) (bytes name : List ℕ) (ty body : LpId) → length signature ≤ length before → IsFalse (is_declared before name) → bytes ≡ name
-    → tree_at ts ty.0 ≡ types → IsOver (length signature) (tree_at ts body.0) → MayFollow before (declaration_in ts (record { name = bytes; form = Def; ty = ty; body = Some body }))
+pub may_define : (before : List Declaration) (ts : List Tree) (bytes name : List ℕ) (ty body : LpId) → length signature ≤ length before
+    → IsFalse (is_declared before name) → bytes ≡ name
+    → tree_at ts ty.0 ≡ types → IsOver (length signature) (tree_at ts body.0)
+    → MayFollow before (declaration_in ts (record { name = bytes; form = Def; ty = ty; body = Some body }))
 may_define before ts bytes name ty body h new e f o = record {
   new_name = subst (λ n. IsFalse (is_declared before n)) (sym e) new;
   ty = subst (IsOver (length before)) (sym f) (record { closed = refl; kindless = refl; known = omega (arith, h) });

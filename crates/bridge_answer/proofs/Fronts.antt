@@ -19,7 +19,8 @@ front_on a b c xs d k gained front =
     front_of_take a c (d + k) xs (subst (λ ys. GainsFront a ys c) (sym (take-add d k xs)) (front_of_second a b c (take d xs) (take k (drop d xs)) gained front))
 
 -- the parts before a place, the part there, and those behind it
-pub flat_map_at : {V : Type 0} (f : V → List ℕ) (ps : List V) (i : ℕ) (d : V) → i < length ps → flat_map f ps ≡ (flat_map f (take i ps) ++ f (get_or ps i d)) ++ flat_map f (drop (i + 1) ps)
+pub flat_map_at : {V : Type 0} (f : V → List ℕ) (ps : List V) (i : ℕ) (d : V) → i < length ps → flat_map f ps ≡ (flat_map f (take i ps) ++ f (get_or ps i d))
+    ++ flat_map f (drop (i + 1) ps)
 flat_map_at f [] i d h = absurd (omega arith)
 flat_map_at f (p ∷ ps) zero d h = refl
 flat_map_at f (p ∷ ps) (suc i) d h = rw add-one (ap (λ xs. f p ++ xs) (flat_map_at f ps i d (omega arith)) ∙ rw add-one (simp append_assoc))

@@ -7,8 +7,10 @@ use Rattle.std.proofs.lemmas.List.{append-nil}
 use Rattle.bridge_spec.specs.Texts.{refusal_line, byte_line, declaration_line}
 
 -- the pieces of a refusal
-pub refusal_pieces : (first place name number : List ℕ) (article line : ℕ) (kind : Kind) → first ≡ decimal article → place ≡ decimal line → name ≡ kind_name kind → number ≡ decimal (kind_number kind)
-    → codes "article " ++ (first ++ (codes " line " ++ (place ++ (codes ": " ++ (name ++ (codes " (" ++ (number ++ codes ")\n"))))))) ≡ refusal_line article line kind
+pub refusal_pieces : (first place name number : List ℕ) (article line : ℕ) (kind : Kind) → first ≡ decimal article → place ≡ decimal line → name
+    ≡ kind_name kind → number ≡ decimal (kind_number kind)
+    → codes "article " ++ (first ++ (codes " line " ++ (place ++ (codes ": " ++ (name ++ (codes " (" ++ (number ++ codes ")\n")))))))
+    ≡ refusal_line article line kind
 refusal_pieces first place name number article line kind d e f h = rw (d, e, f, h) refl
 
 -- the pieces of a fault at a byte

@@ -14,7 +14,8 @@ use Rattle.bridge_spec.specs.declared.status.Status.TheVariants.{Usage, Memory}
 
 -- What a call does is its outputs, and what the outside keeps.
 pub outputs-Performs : (call : Call) (result : Status) → Outputs call result → call.shelf.told ≡ call.shelf.told_before
-    → call.shelf.faults_before ≤ call.shelf.faults → call.out.faults_before ≤ call.out.faults → call.note.faults_before ≤ call.note.faults → Performs call result
+    → call.shelf.faults_before ≤ call.shelf.faults → call.out.faults_before ≤ call.out.faults → call.note.faults_before ≤ call.note.faults
+    → Performs call result
 outputs-Performs call result h told shelf_count out_count note_count = record {
   outputs = h;
   told_kept = told;
@@ -26,14 +27,16 @@ outputs-Performs call result h told shelf_count out_count note_count = record {
 -- Words that are no form: the usage line is delivered, and nothing else is done.
 pub usage-Performs : (call : Call) (result : Status) → call.form ≡ None → Delivers Usage [] usage_line call.out call.note result
     → call.shelf.begun ≡ call.shelf.begun_before → call.shelf.told ≡ call.shelf.told_before
-    → call.shelf.faults_before ≤ call.shelf.faults → call.out.faults_before ≤ call.out.faults → call.note.faults_before ≤ call.note.faults → Performs call result
+    → call.shelf.faults_before ≤ call.shelf.faults → call.out.faults_before ≤ call.out.faults → call.note.faults_before ≤ call.note.faults
+    → Performs call result
 usage-Performs call result none d begun =
     outputs-Performs call result (record {
       answer = Usage;
       out_text = [];
       note_text = usage_line;
       answers = subst (λ form. FormAnswers form call.shelf Usage [] usage_line) (sym none) (refl, refl);
-      begins = subst (λ form. Begins call.shelf.begun_before (names_of form) call.shelf.begun) (sym none) (begins_none_of_same call.shelf.begun_before call.shelf.begun begun);
+      begins = subst (λ form. Begins call.shelf.begun_before (names_of form) call.shelf.begun) (sym none)
+          (begins_none_of_same call.shelf.begun_before call.shelf.begun begun);
       delivered = d;
     })
 
@@ -51,7 +54,8 @@ memory-answers (Some (Form.article names)) shelf = (refl, refl)
 -- Where there is no memory for the words, that is told, and nothing else is done.
 pub memory-Performs : (call : Call) (result : Status) → Delivers Memory [] memory_line call.out call.note result → call.shelf.begun ≡ call.shelf.begun_before
     → call.shelf.told ≡ call.shelf.told_before
-    → call.shelf.faults_before ≤ call.shelf.faults → call.out.faults_before ≤ call.out.faults → call.note.faults_before ≤ call.note.faults → Performs call result
+    → call.shelf.faults_before ≤ call.shelf.faults → call.out.faults_before ≤ call.out.faults → call.note.faults_before ≤ call.note.faults
+    → Performs call result
 memory-Performs call result d begun =
     outputs-Performs call result (record {
       answer = Memory;

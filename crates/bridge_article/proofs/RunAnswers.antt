@@ -15,12 +15,14 @@ use Rattle.bridge_spec.specs.declared.status.Status.TheVariants.{Done, Refused, 
 use Rattle.bridge_article.specs.Runs.{AnswersOfRun}
 
 -- the run of a proof is that of the state that has it
-pub run_of-state : (p : Kept) (assumptions exports : List ℕ) (s : State) → p.made ≡ s.made → assumptions ≡ s.assumptions → exports ≡ s.exports → run_of p assumptions exports ≡ accepted_state s
+pub run_of-state : (p : Kept) (assumptions exports : List ℕ) (s : State) → p.made ≡ s.made → assumptions ≡ s.assumptions → exports ≡ s.exports
+    → run_of p assumptions exports ≡ accepted_state s
 run_of-state p assumptions exports s made assumed exported = rw made (rw assumed (rw exported refl))
 
 module _ (version : Version) (run : Accepted) where
   -- an answer of a run of these files is one of the form
-  pub of-run-AnswersArticle : (names : List (List ℕ)) (shelf : Shelved) → IsRunOfVersion shelf.told_before names version run → (status : Status) (out note : List ℕ) → AnswersOfRun version run status out note → AnswersArticle names shelf status out note
+  pub of-run-AnswersArticle : (names : List (List ℕ)) (shelf : Shelved) → IsRunOfVersion shelf.told_before names version run
+      → (status : Status) (out note : List ℕ) → AnswersOfRun version run status out note → AnswersArticle names shelf status out note
   of-run-AnswersArticle names shelf r Done out note h = (version, run, r, h.0, h.1, h.2)
   of-run-AnswersArticle names shelf r Memory out note h = h
   of-run-AnswersArticle names shelf r Unwritable out note h = (version, run, r, h.0, h.1)
@@ -34,7 +36,8 @@ module _ (version : Version) (run : Accepted) where
   of-run-AnswersArticle names shelf r (NotSequent i) out note h = absurd h
 
   -- where all files were begun, they are those that belong to the answer
-  pub of-run-BeginsFiles : (before now : Option (List (List ℕ))) (names : List (List ℕ)) → Begins before names now → BeginsFront before names now → (status : Status) (out note : List ℕ) → AnswersOfRun version run status out note → BeginsFiles status before names now
+  pub of-run-BeginsFiles : (before now : Option (List (List ℕ))) (names : List (List ℕ)) → Begins before names now → BeginsFront before names now
+      → (status : Status) (out note : List ℕ) → AnswersOfRun version run status out note → BeginsFiles status before names now
   of-run-BeginsFiles before now names all front Done out note h = all
   of-run-BeginsFiles before now names all front Memory out note h = front
   of-run-BeginsFiles before now names all front Unwritable out note h = all

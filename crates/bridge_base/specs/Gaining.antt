@@ -43,13 +43,19 @@ front_of_same a b xs same = (0, omega arith, gains_none_of_same a b same)
 
 -- a prefix of a first part is one of the whole
 pub front_of_first : (a b : Option (List ℕ)) (xs ys : List ℕ) → GainsFront a xs b → GainsFront a (xs ++ ys) b
-front_of_first a b xs ys front =
-    (front.0, (let long : length (xs ++ ys) ≡ length xs + length ys = length-append xs ys in omega (arith, long, front.1)), subst (λ zs. Gains a zs b) (sym (take-append-le front.0 xs ys front.1)) front.2)
+front_of_first a b xs ys front = (
+  front.0,
+  (let long : length (xs ++ ys) ≡ length xs + length ys = length-append xs ys in omega (arith, long, front.1)),
+  subst (λ zs. Gains a zs b) (sym (take-append-le front.0 xs ys front.1)) front.2,
+)
 
 -- a first part, and then a prefix of the second, is a prefix of both
 pub front_of_second : (a b c : Option (List ℕ)) (xs ys : List ℕ) → Gains a xs b → GainsFront b ys c → GainsFront a (xs ++ ys) c
-front_of_second a b c xs ys first front =
-    (length xs + front.0, (let long : length (xs ++ ys) ≡ length xs + length ys = length-append xs ys in omega (arith, long, front.1)), subst (λ zs. Gains a zs c) (sym (take-append-add xs ys front.0)) (gains_both a b c xs (take front.0 ys) first front.2))
+front_of_second a b c xs ys first front = (
+  length xs + front.0,
+  (let long : length (xs ++ ys) ≡ length xs + length ys = length-append xs ys in omega (arith, long, front.1)),
+  subst (λ zs. Gains a zs c) (sym (take-append-add xs ys front.0)) (gains_both a b c xs (take front.0 ys) first front.2),
+)
 
 -- what is given as nothing stays as it was
 pub gives_none : (a : Option (List ℕ)) → Gives a [] a
@@ -87,7 +93,8 @@ given_whole (Some a) None xs given end = absurd given
 -- a file of a name that no file has is empty
 pub file-absent : (files : Files) (name : List ℕ) → has files name ≡ false → file files name ≡ []
 file-absent files name absent =
-    elim (lookup (bytes_eq name) files) as (λ found. is_some found ≡ false → unwrap_or found [] ≡ []) [ None ↦ (λ _. refl) | Some bytes ↦ (λ impossible. cc) ] absent
+    elim (lookup (bytes_eq name) files) as (λ found. is_some found ≡ false → unwrap_or found [] ≡ []) [ None ↦ (λ _. refl) | Some bytes ↦ (λ impossible. cc) ]
+    absent
 
 -- a count that rose after some calls rose in all of them
 pub rose_after : (before middle now : ℕ) → before ≤ middle → Rose middle now → Rose before now
@@ -100,9 +107,11 @@ rose_before before middle now rose later = omega (arith, later, rose)
 -- a cause in the last of some calls is one in all of them
 pub cause_after : {T E : Type 0} (before middle now : ℕ) (result : Result T E) → before ≤ middle → HasCause middle now result → HasCause before now result
 cause_after before middle now (Ok value) later cause = record { later = omega (arith, later, cause.later); failed = tt }
-cause_after before middle now (Err error) later cause = record { later = omega (arith, later, cause.later); failed = rose_after before middle now later cause.failed }
+cause_after before middle now (Err error) later cause =
+    record { later = omega (arith, later, cause.later); failed = rose_after before middle now later cause.failed }
 
 -- a cause in the first of some calls is one in all of them
 pub cause_before : {T E : Type 0} (before middle now : ℕ) (result : Result T E) → HasCause before middle result → middle ≤ now → HasCause before now result
 cause_before before middle now (Ok value) cause later = record { later = omega (arith, later, cause.later); failed = tt }
-cause_before before middle now (Err error) cause later = record { later = omega (arith, later, cause.later); failed = rose_before before middle now cause.failed later }
+cause_before before middle now (Err error) cause later =
+    record { later = omega (arith, later, cause.later); failed = rose_before before middle now cause.failed later }

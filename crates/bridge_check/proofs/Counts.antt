@@ -37,9 +37,11 @@ module _ (m : Module) (i : ℕ) (d : Decl) (at : slice_get m.decls i ≡ Some d)
   pub unproved-more : is_none d.body ≡ true → unproved_before (i + 1) m ≡ unproved_before i m + 1
   unproved-more e =
       let x = declaration_in m.table d in
-      count_by_more_yes is_unproved (declarations_of m) i x (slice_get_within (declarations_of m) i x there) (ap is_unproved (get_or_from_slice_get (declarations_of m) i x x there) ∙ same true e)
+      count_by_more_yes is_unproved (declarations_of m) i x (slice_get_within (declarations_of m) i x there)
+      (ap is_unproved (get_or_from_slice_get (declarations_of m) i x x there) ∙ same true e)
 
   pub unproved-same : is_none d.body ≡ false → unproved_before (i + 1) m ≡ unproved_before i m
   unproved-same e =
       let x = declaration_in m.table d in
-      count_by_more_no is_unproved (declarations_of m) i x (slice_get_within (declarations_of m) i x there) (ap is_unproved (get_or_from_slice_get (declarations_of m) i x x there) ∙ same false e)
+      count_by_more_no is_unproved (declarations_of m) i x (slice_get_within (declarations_of m) i x there)
+      (ap is_unproved (get_or_from_slice_get (declarations_of m) i x x there) ∙ same false e)

@@ -17,7 +17,8 @@ copied n x i y h =
     let within : i < n = subst (λ k. i < k) (length-replicate n x) (slice_get_within (replicate n x) i y h) in
     (within, sym (get_or_from_slice_get (replicate n x) i y y h) ∙ get_or-replicate n i x y within)
 
-pub judged-one : (rechecks : Bool) (m : List Declaration) (budget : ℕ) (v : Verdict) → kernel.IsJudged rechecks m (replicate (length m) budget) v → (v ≡ verdict.Accepted → WellTyped m) → IsJudged rechecks m budget v
+pub judged-one : (rechecks : Bool) (m : List Declaration) (budget : ℕ) (v : Verdict) → kernel.IsJudged rechecks m (replicate (length m) budget) v
+    → (v ≡ verdict.Accepted → WellTyped m) → IsJudged rechecks m budget v
 judged-one rechecks m budget verdict.Accepted h typed = record { pass = h; typed = typed refl }
 judged-one rechecks m budget (verdict.IllTyped i) h typed = record { before = h.before; price = h.price; no = h.no }
 judged-one rechecks m budget (verdict.OverBudget i) h typed =
@@ -25,7 +26,8 @@ judged-one rechecks m budget (verdict.OverBudget i) h typed =
     record { is = at.0; before = h.before; over = λ reply price by. subst (λ b. b < price) at.1 (h.over reply price by) }
 
 -- the verdict that is answered
-pub judged-all : (rechecks : Bool) (m : List Declaration) (budget : ℕ) (budgets : List ℕ) (r : Result Verdict Memory) → budgets ≡ replicate (length m) budget → IfOk r (kernel.IsJudged rechecks m budgets)
+pub judged-all : (rechecks : Bool) (m : List Declaration) (budget : ℕ) (budgets : List ℕ) (r : Result Verdict Memory) → budgets ≡ replicate (length m) budget
+    → IfOk r (kernel.IsJudged rechecks m budgets)
     → IfOk r (λ v. v ≡ verdict.Accepted → WellTyped m) → IfOk r (IsJudged rechecks m budget)
 judged-all rechecks m budget budgets (Ok v) e h typed = judged-one rechecks m budget v (subst (λ bs. kernel.IsJudged rechecks m bs v) e h) typed
 judged-all rechecks m budget budgets (Err f) e h typed = tt

@@ -9,7 +9,8 @@ use Rattle.bridge_answer.specs.declared.answer.Answer.{Answer}
 use Rattle.bridge_answer.specs.declared.answer.Answer.TheVariants as answer
 use Rattle.bridge_decode.specs.Saying.{IsAnswer}
 
-pub IsAnswer-AnswersDecode : (shelf : Shelved) (name : List ℕ) (m : List Declaration) (a : Answer) → ReadsAs shelf.told_before name m → IsAnswer m a → AnswersDecode name shelf (status_of a) (text_of a) (note_of a)
+pub IsAnswer-AnswersDecode : (shelf : Shelved) (name : List ℕ) (m : List Declaration) (a : Answer) → ReadsAs shelf.told_before name m → IsAnswer m a
+    → AnswersDecode name shelf (status_of a) (text_of a) (note_of a)
 IsAnswer-AnswersDecode shelf name m (answer.Told text) reads h = (m, h.said, record { file = reads; decoded = h.decoded }, h.is, refl)
 IsAnswer-AnswersDecode shelf name m (answer.Refused article line kind) reads h = absurd h
 IsAnswer-AnswersDecode shelf name m answer.Usage reads h = absurd h

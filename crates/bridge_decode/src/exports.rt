@@ -8,9 +8,9 @@ ghost use Rattle.sequent.specs.Closed.{closed_view};
 ghost use Rattle.bridge_spec.specs.Texts.{export_line};
 ghost use Rattle.bridge_decode.specs.Saying.{IsSaid, IsOneSaid};
 
-use hol_text::append_closed;
 use common::Memory;
 use decode_back::decode;
+use hol_text::append_closed;
 use holide_sig::Module;
 use sequent::Closed;
 use std::alloc::Global;

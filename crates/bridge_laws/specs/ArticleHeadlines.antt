@@ -88,7 +88,8 @@ second-given P x ss r = λ e. law-given P ss x.parameters x.sequent (subst (λ k
 laws-given : (P : Name → Type 0) (m : List Made) → IsProof m → AllByRecursion (IsLawGiven P) (steps_of m)
 laws-given P m made.Each.empty = tt
 laws-given P m (made.Each.more {made = before} x p h is) =
-    subst (AllByRecursion (IsLawGiven P)) (sym (ap steps_of is ∙ steps_of-append before (x ∷ []))) (All-append (IsLawGiven P) (steps_of before) (steps_of (x ∷ [])) (laws-given P before p) (last x h))
+    subst (AllByRecursion (IsLawGiven P)) (sym (ap steps_of is ∙ steps_of-append before (x ∷ [])))
+    (All-append (IsLawGiven P) (steps_of before) (steps_of (x ∷ [])) (laws-given P before p) (last x h))
   where
     last : (x : Made) → IsMade before x → AllByRecursion (IsLawGiven P) (steps_of (x ∷ []))
     last (Made.symbol y) h = tt
@@ -96,7 +97,8 @@ laws-given P m (made.Each.more {made = before} x p h is) =
     last (Made.step y) h = (second-given P y h.premises h.follows.rule, tt {0})
 
 -- the step that says what stands at a place
-said-by : (xs : List Step) (i : ℕ) (s : Sequent) → slice_get (map (λ (x : Step). x.sequent) xs) i ≡ Some s → (y : Step) × (slice_get xs i ≡ Some y) × (y.sequent ≡ s)
+said-by : (xs : List Step) (i : ℕ) (s : Sequent) → slice_get (map (λ (x : Step). x.sequent) xs) i ≡ Some s → (y : Step) × (slice_get xs i ≡ Some y)
+    × (y.sequent ≡ s)
 said-by [] i s e = absurd (cc)
 said-by (x ∷ xs) zero s e = (x, refl, same_Some _ _ e)
 said-by (x ∷ xs) (suc i) s e = said-by xs i s e
@@ -107,12 +109,14 @@ in-mapped (j ∷ is) i (inl e) = inl (ap Need.step e)
 in-mapped (j ∷ is) i (inr h) = inr (in-mapped is i h)
 
 -- what holds of each step that is told holds of all of these
-selected-each : (Q : Step → Type 0) (flag : ℕ → Bool) (i : ℕ) (xs : List Step) → ((k : ℕ) (x : Step) → slice_get xs k ≡ Some x → flag (i + k) ≡ true → Q x) → AllByRecursion (λ (y : Numbered). Q y.step) (selected flag i xs)
+selected-each : (Q : Step → Type 0) (flag : ℕ → Bool) (i : ℕ) (xs : List Step) → ((k : ℕ) (x : Step) → slice_get xs k ≡ Some x → flag (i + k) ≡ true → Q x)
+    → AllByRecursion (λ (y : Numbered). Q y.step) (selected flag i xs)
 selected-each Q flag i [] h = tt
 selected-each Q flag i (x ∷ xs) h =
     go (flag i) refl (selected-each Q flag (suc i) xs (λ k y e on. h (suc k) y e (let there : i + suc k ≡ suc i + k = omega arith in ap flag there ∙ on)))
   where
-    go : (b : Bool) → flag i ≡ b → AllByRecursion (λ (y : Numbered). Q y.step) (selected flag (suc i) xs) → AllByRecursion (λ (y : Numbered). Q y.step) (cond b (record { number = i; step = x } ∷ selected flag (suc i) xs) (selected flag (suc i) xs))
+    go : (b : Bool) → flag i ≡ b → AllByRecursion (λ (y : Numbered). Q y.step) (selected flag (suc i) xs)
+        → AllByRecursion (λ (y : Numbered). Q y.step) (cond b (record { number = i; step = x } ∷ selected flag (suc i) xs) (selected flag (suc i) xs))
     go true on rest = (h 0 x refl (let here : i + 0 ≡ i = omega arith in ap flag here ∙ on), rest)
     go false off rest = rest
 
@@ -130,7 +134,8 @@ module _ (P : Name → Type 0) (new : P (codes "a" ∷ [])) (old : P (codes "r" 
       let zero_k : 0 + k ≡ k = omega arith in
       let zero_i : 0 + i ≡ i = omega arith in
       ap flag (sym zero_i)
-      ∙ need-flagged (map Need.step run.exports) 0 all i k y x (Need.step i) there at low (ap flag zero_k ∙ on) (IsIn-left (map Need.step x.premises) _ (Need.step i) (in-mapped x.premises i h)) (inl (ap Need.step (sym zero_i)))
+      ∙ need-flagged (map Need.step run.exports) 0 all i k y x (Need.step i) there at low (ap flag zero_k ∙ on)
+      (IsIn-left (map Need.step x.premises) _ (Need.step i) (in-mapped x.premises i h)) (inl (ap Need.step (sym zero_i)))
 
   module _ (given : (k : ℕ) (x : Step) → slice_get all k ≡ Some x → flag k ≡ true → GivenIn P x.parameters) where
     abbrev AreIn : List Made → Type 0
@@ -138,14 +143,16 @@ module _ (P : Name → Type 0) (new : P (codes "a" ∷ [])) (old : P (codes "r" 
 
     premises-In : (before rest : List Made) → run.made ≡ before ++ rest → AreIn before → (k : ℕ) (x : Step) → k ≡ length (steps_of before)
         → slice_get all k ≡ Some x → flag k ≡ true
-        → (is : List ℕ) (ss : List Sequent) → ((i : ℕ) → IsIn is i → IsIn x.premises i) → ArePremises (sequents_of before) is ss → AllByRecursion (SequentIn P) ss
+        → (is : List ℕ) (ss : List Sequent) → ((i : ℕ) → IsIn is i → IsIn x.premises i) → ArePremises (sequents_of before) is ss
+        → AllByRecursion (SequentIn P) ss
     premises-In before rest whole h k x last at on [] [] some e = tt
     premises-In before rest whole h k x last at on [] (s ∷ ss) some e = absurd e
     premises-In before rest whole h k x last at on (i ∷ is) [] some e = absurd e
     premises-In before rest whole h k x last at on (i ∷ is) (s ∷ ss) some e =
         let y = said-by (steps_of before) i s e.0 in
         let low = slice_get_within (steps_of before) i y.0 y.1 in
-        let there : slice_get all i ≡ Some y.0 = ap (λ l. slice_get l i) (ap steps_of whole ∙ steps_of-append before rest) ∙ slice_get-append (steps_of before) (steps_of rest) i y.0 y.1 in
+        let there : slice_get all i ≡ Some y.0 = ap (λ l. slice_get l i) (ap steps_of whole ∙ steps_of-append before rest) ∙ slice_get-append (steps_of before)
+        (steps_of rest) i y.0 y.1 in
         let reached = premise-reached k i x y.0 at there on (omega (arith, low, last)) (some i (inl refl)) in
         (subst (SequentIn P) y.2 (h i y.0 y.1 reached), premises-In before rest whole h k x last at on is ss (λ j m. some j (inr m)) e.1)
 
@@ -169,7 +176,9 @@ module _ (P : Name → Type 0) (new : P (codes "a" ∷ [])) (old : P (codes "r" 
             elim (slice_get-one_more (steps_of before) y z k (sym (ap (λ l. slice_get l k) parts) ∙ e)) [
               | inl front ↦ earlier k z front on
               | inr place ↦ subst (λ (w : Step). SequentIn P w.sequent) place.1 (
-                  let at : slice_get all k ≡ Some y = ap (λ l. slice_get l k) (ap steps_of whole ∙ steps_of-append part rest) ∙ slice_get-append (steps_of part) (steps_of rest) k y (e ∙ ap Some (sym place.1)) in
+                  let at : slice_get all k ≡ Some y =
+                  ap (λ l. slice_get l k) (ap steps_of whole ∙ steps_of-append part rest)
+                  ∙ slice_get-append (steps_of part) (steps_of rest) k y (e ∙ ap Some (sym place.1)) in
                   rule-In P new old y.kind h.premises y.parameters y.sequent h.follows.rule
                   (premises-In before (x ∷ rest) longer earlier k y place.0 at on y.premises h.premises (λ i m. m) h.earlier) (given k y at on))
             ]
@@ -188,9 +197,14 @@ given-places P (Parameters.term t) h = TermIn-places P t h
 given-places P (Parameters.variable v) h = (h, tt {0})
 given-places P (Parameters.substitution types terms) h = go terms h
   where
-    go : (ps : List (Variable × Term)) → AllByRecursion (λ (p : Variable × Term). P p.0.0 × TermIn P p.1) ps → AllByRecursion (λ (v : Variable). P v.0) (flat_map (λ p. p.0 ∷ free_places p.1) ps)
+    go : (ps : List (Variable × Term)) → AllByRecursion (λ (p : Variable × Term). P p.0.0 × TermIn P p.1) ps
+        → AllByRecursion (λ (v : Variable). P v.0) (flat_map (λ p. p.0 ∷ free_places p.1) ps)
     go [] h = tt
-    go (p ∷ ps) h = (h.0.0, All-append (λ (v : Variable). P v.0) (free_places p.1) (flat_map (λ p. p.0 ∷ free_places p.1) ps) (TermIn-places P p.1 h.0.1) (go ps h.1))
+    go (p ∷ ps) h = (
+      h.0.0,
+      All-append (λ (v : Variable). P v.0) (free_places p.1) (flat_map (λ p. p.0 ∷ free_places p.1) ps) (TermIn-places P p.1 h.0.1)
+          (go ps h.1),
+    )
 given-places P (Parameters.sequent s) h = sequent-places P s h
 given-places P (Parameters.constant n t) h = TermIn-places P t h
 given-places P (Parameters.constants pairs) h = go pairs h
@@ -200,12 +214,14 @@ given-places P (Parameters.constants pairs) h = go pairs h
     go (p ∷ ps) h = (h.0, go ps h.1)
 given-places P (Parameters.type_operator names version) h = tt
 
-steps-places : (P : Name → Type 0) (ys : List Numbered) → AllByRecursion (λ (y : Numbered). GivenIn P y.step.parameters) ys → AllByRecursion (λ (y : Numbered). SequentIn P y.step.sequent) ys
+steps-places : (P : Name → Type 0) (ys : List Numbered) → AllByRecursion (λ (y : Numbered). GivenIn P y.step.parameters) ys
+    → AllByRecursion (λ (y : Numbered). SequentIn P y.step.sequent) ys
     → AllByRecursion (λ (v : Variable). P v.0) (flat_map (λ x. step_variables x.step) ys)
 steps-places P [] h k = tt
 steps-places P (y ∷ ys) h k =
     All-append (λ (v : Variable). P v.0) (step_variables y.step) (flat_map (λ x. step_variables x.step) ys)
-    (All-append (λ (v : Variable). P v.0) (given_variables y.step.parameters) (flat_map free_places (terms_of y.step.sequent)) (given-places P y.step.parameters h.0) (sequent-places P y.step.sequent k.0))
+    (All-append (λ (v : Variable). P v.0) (given_variables y.step.parameters) (flat_map free_places (terms_of y.step.sequent))
+    (given-places P y.step.parameters h.0) (sequent-places P y.step.sequent k.0))
     (steps-places P ys h.1 k.1)
 
 -- The names are few
@@ -221,7 +237,8 @@ names-few version run proof short =
     let told = is_flagged roots 0 xs in
     let ys = reached_steps run in
     let reached = reached-selected roots 0 xs in
-    let laws : AllByRecursion (λ (y : Numbered). IsLawGiven P y.step) ys = subst (AllByRecursion (λ (y : Numbered). IsLawGiven P y.step)) (sym reached) (selected-all (IsLawGiven P) told 0 xs (laws-given P run.made proof)) in
+    let laws : AllByRecursion (λ (y : Numbered). IsLawGiven P y.step) ys =
+    subst (AllByRecursion (λ (y : Numbered). IsLawGiven P y.step)) (sym reached) (selected-all (IsLawGiven P) told 0 xs (laws-given P run.made proof)) in
     let wrote = steps P (binder_number ys) run.exports ys laws (version_draft version) in
     let given = (wrote.then (λ n s. IsIn-left (item_names items) own n (item_names-In items n s)) (tt {0})).1 in
     let given_told = subst (AllByRecursion (λ (y : Numbered). GivenIn P y.step.parameters)) reached given in
@@ -231,10 +248,12 @@ names-few version run proof short =
     let new : P (codes "a" ∷ []) = IsIn-right (item_names items) own (codes "a" ∷ []) (inl refl) in
     let old : P (codes "r" ∷ []) = IsIn-right (item_names items) own (codes "r" ∷ []) (inr (inl refl)) in
     let all_in = steps-In P new old run given_at run.made [] proof (sym (nil-append run.made)) in
-    let said_told = selected-each (λ x. SequentIn P x.sequent) told 0 xs (λ k x e on. all_in k x e (let zero_k : k ≡ 0 + k = omega arith in ap told zero_k ∙ on)) in
+    let said_told = selected-each (λ x. SequentIn P x.sequent) told 0 xs
+    (λ k x e on. all_in k x e (let zero_k : k ≡ 0 + k = omega arith in ap told zero_k ∙ on)) in
     let said = subst (AllByRecursion (λ (y : Numbered). SequentIn P y.step.sequent)) (sym reached) said_told in
     let places = steps-places P ys given said in
-    let few = few-distinct (map (λ (v : Variable). v.0) (flat_map (λ x. step_variables x.step) ys)) known (All-mapped P (λ (v : Variable). v.0) (flat_map (λ x. step_variables x.step) ys) places) in
+    let few = few-distinct (map (λ (v : Variable). v.0) (flat_map (λ x. step_variables x.step) ys)) known
+    (All-mapped P (λ (v : Variable). v.0) (flat_map (λ x. step_variables x.step) ys) places) in
     let distinct_few : length (distinct name_eq known) ≤ 0 + length known = union-short name_eq known [] in
     let two : length known ≡ length (item_names items) + 2 = length-append (item_names items) own in
     let lines = item_names-short items in

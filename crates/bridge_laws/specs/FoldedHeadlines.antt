@@ -57,8 +57,12 @@ each_folded_run_carries texts run bytes r =
     let unshort = image-NoneShort run named sound in
     let shaped = (runs_are_carried (name_in run) texts run r).shaped in
     let declared = runs_are_modules texts run r named in
-    let back = folded-ReadsBack (image run) (module_bounds true run) declared unshort shaped (image-ArePlain run named sound) (runs_are_shallow texts run r) (length-map (folded (image run)) (bound (folded (image run)))) in
-    let weights : (i : ℕ) (d : Declaration) → slice_get (folded (image run)) i ≡ Some d → weight (folded (image run)) d ≤ 2 ^ 43 = λ i d e. small-weight (weight (folded (image run)) d) (All-get (λ c. weight (folded (image run)) c ≤ 5 * greatest_weight + 4) (folded (image run)) i d (folded-weights greatest_weight (image run) shaped (run-weights texts run r)) e) in
+    let back = folded-ReadsBack (image run) (module_bounds true run) declared unshort shaped (image-ArePlain run named sound) (runs_are_shallow texts run r)
+    (length-map (folded (image run)) (bound (folded (image run)))) in
+    let weights : (i : ℕ) (d : Declaration) → slice_get (folded (image run)) i ≡ Some d → weight (folded (image run)) d ≤ 2 ^ 43 =
+    λ i d e. small-weight (weight (folded (image run)) d)
+    (All-get (λ c. weight (folded (image run)) c ≤ 5 * greatest_weight + 4) (folded (image run)) i d
+    (folded-weights greatest_weight (image run) shaped (run-weights texts run r)) e) in
     record {
       reads = back.read;
       only = back.only;
@@ -69,7 +73,8 @@ each_folded_run_carries texts run bytes r =
       within_fast = λ i d e.
           let f = priced-fast (folded (image run)) i d (folded-priced (image run) shaped i d e) in
           record { price = f.0; by = f.1; within = omega (arith, f.2, square-fast_bound (weight (folded (image run)) d) (weights i d e)) };
-      once = λ rest t e h. subst (λ m. places (moved (place_in (entries_of m)) t) (all_written lemmas (drop (length lemmas) (folded m))) ≤ 1) (sym e) (written_once rest t (subst IsModule e declared) h);
+      once = λ rest t e h. subst (λ m. places (moved (place_in (entries_of m)) t) (all_written lemmas (drop (length lemmas) (folded m))) ≤ 1) (sym e)
+          (written_once rest t (subst IsModule e declared) h);
       proof = sound.proof;
       derived = sound.exports;
     }

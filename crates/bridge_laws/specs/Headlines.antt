@@ -30,7 +30,9 @@ written-ReadsBack : (texts : List (List ℕ)) (run : Accepted) → AllByRecursio
     → ReadsBack (image run) (module_bounds false run)
 written-ReadsBack texts run bytes r =
     let named = run-has_names texts run bytes r in
-    written_reads (image run) (module_bounds false run) (runs_are_modules texts run r named) (unshort-AreLong (image run) (image-NoneShort run named (runs_are_sound texts run r))) (image-ArePlain run named (runs_are_sound texts run r)) (runs_are_shallow texts run r) (length-map (image run) (bound (image run)))
+    written_reads (image run) (module_bounds false run) (runs_are_modules texts run r named)
+    (unshort-AreLong (image run) (image-NoneShort run named (runs_are_sound texts run r))) (image-ArePlain run named (runs_are_sound texts run r))
+    (runs_are_shallow texts run r) (length-map (image run) (bound (image run)))
 
 -- the check of a declaration without rechecks of sorts ends within its bound
 runs_are_fast : (texts : List (List ℕ)) (run : Accepted) → Run texts (accepted run) → (i : ℕ) (d : Declaration) → slice_get (image run) i ≡ Some d

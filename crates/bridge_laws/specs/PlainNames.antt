@@ -56,7 +56,8 @@ high_digit n l h = grind (arith, nat_tests)
 hex_digit-word : (n : ℕ) → n < 16 → is_word_byte (hex_digit n) ≡ true
 hex_digit-word n h = elim (cases_lt n 10) [
   | inl l ↦ ap (λ b. is_word_byte (cond b (n + 48) (n + 87))) (lt-ltb n 10 l) ∙ digit-word (n + 48) (low_digit n l)
-  | inr l ↦ ap (λ b. is_word_byte (cond b (n + 48) (n + 87))) (le-ltb n 10 l) ∙ letter (nat_le 65 (n + 87) && nat_le (n + 87) 90) (nat_le 97 (n + 87) && nat_le (n + 87) 122) _ (high_digit n l h)
+  | inr l ↦ ap (λ b. is_word_byte (cond b (n + 48) (n + 87))) (le-ltb n 10 l)
+      ∙ letter (nat_le 65 (n + 87) && nat_le (n + 87) 90) (nat_le 97 (n + 87) && nat_le (n + 87) 122) _ (high_digit n l h)
 ]
   where
     letter : (upper lower other : Bool) → lower ≡ true → ((upper || lower) || other) ≡ true
@@ -97,7 +98,8 @@ component-words (b ∷ bs) rest h k = go (is_ascii_alphanumeric b) refl (compone
         let l = h.0 in
         let after = mangled_before bs rest in
         word-more underscore (hex_digit (b / 16) ∷ hex_digit (b % 16) ∷ after) refl
-        (word-more (hex_digit (b / 16)) (hex_digit (b % 16) ∷ after) (hex_digit-word (b / 16) (omega (arith, l))) (word-more (hex_digit (b % 16)) after (hex_digit-word (b % 16) (omega (arith, l))) more))
+        (word-more (hex_digit (b / 16)) (hex_digit (b % 16) ∷ after) (hex_digit-word (b / 16) (omega (arith, l)))
+        (word-more (hex_digit (b % 16)) after (hex_digit-word (b % 16) (omega (arith, l))) more))
 
 more-words : (name : Name) → AllByRecursion AreBytes name → AreWordBytes (mangled_more name)
 more-words [] h = refl
@@ -122,7 +124,11 @@ plain-name : (first : ℕ) (more name : List ℕ) → name ≡ first ∷ more �
     → IsPlainName name
 plain-name first more name is letter other bytes low = record {
   word = record { first = first; more = more; is = is; letter = letter; bytes = bytes };
-  no_key = rw (other-word name (codes "Type") low (omega arith), other-word name (codes "def") low (omega arith), other-word name (codes "thm") low (omega arith)) refl;
+  no_key = rw (
+    other-word name (codes "Type") low (omega arith),
+    other-word name (codes "def") low (omega arith),
+    other-word name (codes "thm") low (omega arith),
+  ) refl;
   no_binder = λ d e. let same : first ≡ 118 = ap first_byte (sym is ∙ e) in other same;
 }
 
@@ -130,11 +136,16 @@ symbol_name-plain : (symbols : List Symbol) (c : Content) (name : List ℕ) → 
 symbol_name-plain symbols c name h = go h (symbol_name-high symbols c name h).1
   where
     go : IsSymbolName symbols c name → second_byte name ≤ 95 → IsPlainName name
-    go (IsSymbolName.an_input n is e w) low = plain-name 105 (codes "_" ++ mangled n) name w refl (λ e. absurd (omega (arith, e))) (word-more 95 (mangled n) refl (mangled-words n is)) low
+    go (IsSymbolName.an_input n is e w) low = plain-name 105 (codes "_" ++ mangled n) name w refl (λ e. absurd (omega (arith, e)))
+        (word-more 95 (mangled n) refl (mangled-words n is)) low
     go (IsSymbolName.an_input_operator n k is e w) low =
-        plain-name 116 (numeral k ++ (codes "_" ++ mangled n)) name w refl (λ e. absurd (omega (arith, e))) (words-append (numeral k) (codes "_" ++ mangled n) (numeral-words k) (word-more 95 (mangled n) refl (mangled-words n is))) low
-    go (IsSymbolName.a_constant n is e w) low = plain-name 99 (codes "_" ++ mangled n) name w refl (λ e. absurd (omega (arith, e))) (word-more 95 (mangled n) refl (mangled-words n is)) low
-    go (IsSymbolName.an_operator names a f j one is among e w) low = plain-name 111 (codes "_" ++ mangled names.operator) name w refl (λ e. absurd (omega (arith, e))) (word-more 95 (mangled names.operator) refl (mangled-words names.operator is)) low
+        plain-name 116 (numeral k ++ (codes "_" ++ mangled n)) name w refl (λ e. absurd (omega (arith, e)))
+        (words-append (numeral k) (codes "_" ++ mangled n) (numeral-words k) (word-more 95 (mangled n) refl (mangled-words n is))) low
+    go (IsSymbolName.a_constant n is e w) low = plain-name 99 (codes "_" ++ mangled n) name w refl (λ e. absurd (omega (arith, e)))
+        (word-more 95 (mangled n) refl (mangled-words n is)) low
+    go (IsSymbolName.an_operator names a f j one is among e w) low =
+        plain-name 111 (codes "_" ++ mangled names.operator) name w refl (λ e. absurd (omega (arith, e)))
+        (word-more 95 (mangled names.operator) refl (mangled-words names.operator is)) low
 
 lower : (a : ℕ) → a ≤ 57 → a ≤ 95
 lower a l = omega (arith, l)
@@ -143,8 +154,10 @@ step_name-plain : (run : Accepted) (i : ℕ) (name : List ℕ) {k : _} → IsSte
 step_name-plain run i name {k} h = go h (lower (second_byte name) (step_name-low run i k name h).1)
   where
     go : IsStepName run i k name → second_byte name ≤ 95 → IsPlainName name
-    go (IsStepName.an_export e n) low = plain-name 69 (numeral (position_or_len (nat_eq i) run.exports)) name n refl (λ e. absurd (omega (arith, e))) (numeral-words _) low
-    go (IsStepName.an_assumption d e y n) low = plain-name 65 (numeral (position_or_len (nat_eq i) run.assumptions)) name n refl (λ e. absurd (omega (arith, e))) (numeral-words _) low
+    go (IsStepName.an_export e n) low = plain-name 69 (numeral (position_or_len (nat_eq i) run.exports)) name n refl (λ e. absurd (omega (arith, e)))
+        (numeral-words _) low
+    go (IsStepName.an_assumption d e y n) low = plain-name 65 (numeral (position_or_len (nat_eq i) run.assumptions)) name n refl
+        (λ e. absurd (omega (arith, e))) (numeral-words _) low
     go (IsStepName.a_law e y n) low = plain-name 76 (numeral i) name n refl (λ e. absurd (omega (arith, e))) (numeral-words i) low
     go (IsStepName.a_theorem e y n) low = plain-name 84 (numeral i) name n refl (λ e. absurd (omega (arith, e))) (numeral-words i) low
 
@@ -170,7 +183,8 @@ declared-name symbols z = go z.content
     go (item.unproved s) = refl
     go (item.step kind js premises given s) = refl
 
-declared-plain : (symbols : _) (number : ℕ → ℕ) (keep : ℕ → Bool) (xs : List Item) → AllByRecursion (λ (z : Item). IsPlainName z.name) xs → ArePlain (map (declaration symbols) (map (renumbered number) (kept keep xs)))
+declared-plain : (symbols : _) (number : ℕ → ℕ) (keep : ℕ → Bool) (xs : List Item) → AllByRecursion (λ (z : Item). IsPlainName z.name) xs
+    → ArePlain (map (declaration symbols) (map (renumbered number) (kept keep xs)))
 declared-plain symbols number keep [] h = tt
 declared-plain symbols number keep (x ∷ xs) h = go (keep x.symbol) (declared-plain symbols number keep xs h.1)
   where
@@ -185,9 +199,19 @@ image-ArePlain run named sound =
     let items = items_of (name_in run) run.made in
     let keep = keep_of (roots_of (name_in run) run.made run.exports) items in
     let plain = items-plain run [] items (items-named run named sound [] items (made-origins run run.made)) in (
-      record { word = record { first = 115; more = codes "ym"; is = refl; letter = refl; bytes = refl }; no_key = refl; no_binder = λ d e. let same = ap first_byte e in absurd (omega (arith, same)) },
+      record {
+        word = record { first = 115; more = codes "ym"; is = refl; letter = refl; bytes = refl };
+        no_key = refl;
+        no_binder = λ d e. let same =
+            ap first_byte e in absurd (omega (arith, same));
+      },
       (
-        record { word = record { first = 116; more = codes "rans"; is = refl; letter = refl; bytes = refl }; no_key = refl; no_binder = λ d e. let same = ap first_byte e in absurd (omega (arith, same)) },
+        record {
+          word = record { first = 116; more = codes "rans"; is = refl; letter = refl; bytes = refl };
+          no_key = refl;
+          no_binder = λ d e. let same =
+              ap first_byte e in absurd (omega (arith, same));
+        },
         declared-plain (item.symbols_of (image_items keep items)) (symbol_of keep) keep items plain,
       ),
     )
@@ -202,13 +226,16 @@ unshort first more name is other = ap is_short_name is ∙ go (nat_eq first 88) 
 
 symbol_name-unshort : (symbols : List Symbol) (c : Content) (name : List ℕ) → IsSymbolName symbols c name → is_short_name name ≡ false
 symbol_name-unshort symbols c name (IsSymbolName.an_input n is e w) = unshort 105 (codes "_" ++ mangled n) name w (λ e. absurd (omega (arith, e)))
-symbol_name-unshort symbols c name (IsSymbolName.an_input_operator n k is e w) = unshort 116 (numeral k ++ (codes "_" ++ mangled n)) name w (λ e. absurd (omega (arith, e)))
+symbol_name-unshort symbols c name (IsSymbolName.an_input_operator n k is e w) =
+    unshort 116 (numeral k ++ (codes "_" ++ mangled n)) name w (λ e. absurd (omega (arith, e)))
 symbol_name-unshort symbols c name (IsSymbolName.a_constant n is e w) = unshort 99 (codes "_" ++ mangled n) name w (λ e. absurd (omega (arith, e)))
-symbol_name-unshort symbols c name (IsSymbolName.an_operator names a f j one is among e w) = unshort 111 (codes "_" ++ mangled names.operator) name w (λ e. absurd (omega (arith, e)))
+symbol_name-unshort symbols c name (IsSymbolName.an_operator names a f j one is among e w) =
+    unshort 111 (codes "_" ++ mangled names.operator) name w (λ e. absurd (omega (arith, e)))
 
 step_name-unshort : (run : Accepted) (i : ℕ) (name : List ℕ) {k : _} → IsStepName run i k name → is_short_name name ≡ false
 step_name-unshort run i name (IsStepName.an_export e n) = unshort 69 (numeral (position_or_len (nat_eq i) run.exports)) name n (λ e. absurd (omega (arith, e)))
-step_name-unshort run i name (IsStepName.an_assumption d e y n) = unshort 65 (numeral (position_or_len (nat_eq i) run.assumptions)) name n (λ e. absurd (omega (arith, e)))
+step_name-unshort run i name (IsStepName.an_assumption d e y n) =
+    unshort 65 (numeral (position_or_len (nat_eq i) run.assumptions)) name n (λ e. absurd (omega (arith, e)))
 step_name-unshort run i name (IsStepName.a_law e y n) = unshort 76 (numeral i) name n (λ e. absurd (omega (arith, e)))
 step_name-unshort run i name (IsStepName.a_theorem e y n) = unshort 84 (numeral i) name n (λ e. absurd (omega (arith, e)))
 
@@ -220,7 +247,8 @@ items-unshort : (run : Accepted) (before xs : List Item) → HaveNames run befor
 items-unshort run before [] h = tt
 items-unshort run before (z ∷ zs) h = (item_name-unshort run _ z h.0, items-unshort run (before ++ z ∷ []) zs h.1)
 
-declared-unshort : (symbols : _) (number : ℕ → ℕ) (keep : ℕ → Bool) (xs : List Item) → AllByRecursion (λ (z : Item). is_short_name z.name ≡ false) xs → NoneShort (map (declaration symbols) (map (renumbered number) (kept keep xs)))
+declared-unshort : (symbols : _) (number : ℕ → ℕ) (keep : ℕ → Bool) (xs : List Item) → AllByRecursion (λ (z : Item). is_short_name z.name ≡ false) xs
+    → NoneShort (map (declaration symbols) (map (renumbered number) (kept keep xs)))
 declared-unshort symbols number keep [] h = tt
 declared-unshort symbols number keep (x ∷ xs) h = go (keep x.symbol) (declared-unshort symbols number keep xs h.1)
   where
@@ -232,5 +260,11 @@ declared-unshort symbols number keep (x ∷ xs) h = go (keep x.symbol) (declared
 pub image-NoneShort : (run : Accepted) → HasNames run → IsSoundRun run → NoneShort (image run)
 image-NoneShort run named sound =
     let items = items_of (name_in run) run.made in
-    let keep = keep_of (roots_of (name_in run) run.made run.exports) items in
-    (refl, (refl, declared-unshort (item.symbols_of (image_items keep items)) (symbol_of keep) keep items (items-unshort run [] items (items-named run named sound [] items (made-origins run run.made)))))
+    let keep = keep_of (roots_of (name_in run) run.made run.exports) items in (
+      refl,
+      (
+        refl,
+        declared-unshort (item.symbols_of (image_items keep items)) (symbol_of keep) keep items
+            (items-unshort run [] items (items-named run named sound [] items (made-origins run run.made))),
+      ),
+    )

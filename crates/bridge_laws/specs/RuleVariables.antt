@@ -92,7 +92,8 @@ module _ (P : Name → Type 0) where
       go true k = h.0
       go false k = k
 
-  sub-In : (types : TypePairs) (terms : TermPairs) → AllByRecursion (λ (p : Variable × Term). TermIn P p.1) terms → (t : Term) → TermIn P t → TermIn P (sub types terms t)
+  sub-In : (types : TypePairs) (terms : TermPairs) → AllByRecursion (λ (p : Variable × Term). TermIn P p.1) terms → (t : Term) → TermIn P t
+      → TermIn P (sub types terms t)
   sub-In types terms all (term.Term.free n t) h = term_image-In terms (n, substitute types t) h all
   sub-In types terms all (term.Term.bound k) h = tt
   sub-In types terms all (term.Term.constant n t) h = tt
@@ -110,7 +111,8 @@ module _ (P : Name → Type 0) where
   of_equation : (x y : Term) (a : HolType) → TermIn P x → TermIn P y → TermIn P (equation a x y)
   of_equation x y a hx hy = ((tt {0}, hx), hy)
 
-  concludes : (hs : List Term) (c : Term) (s : Sequent) → s ≡ record { hypotheses = hs; conclusion = c } → AllByRecursion (TermIn P) hs → TermIn P c → SequentIn P s
+  concludes : (hs : List Term) (c : Term) (s : Sequent) → s ≡ record { hypotheses = hs; conclusion = c } → AllByRecursion (TermIn P) hs → TermIn P c
+      → SequentIn P s
   concludes hs c s e h k = subst (SequentIn P) (sym e) (record { hypotheses = h; conclusion = k })
 
   joined-In : (gs hs : List Term) → AllByRecursion (TermIn P) gs → AllByRecursion (TermIn P) hs → AllByRecursion (TermIn P) (union term_eq gs hs)
@@ -128,7 +130,8 @@ module _ (P : Name → Type 0) where
   rule-In new old kind premises given s (rule.refl {t = t} {a = a} h e) p g = concludes [] (equation a t t) s e (tt {0}) (of_equation t t a g g)
   rule-In new old kind premises given s (rule.assume {p = q} h e) p g = concludes (q ∷ []) q s e (g, tt {0}) g
   rule-In new old kind premises given s (rule.eq_mp {p = x} {q = y} {one = one} {two = two} e f i) p g =
-      concludes (union term_eq one.hypotheses two.hypotheses) y s i (joined-In one.hypotheses two.hypotheses p.0.hypotheses p.1.0.hypotheses) (sides bool x y one.conclusion e p.0.conclusion).1
+      concludes (union term_eq one.hypotheses two.hypotheses) y s i (joined-In one.hypotheses two.hypotheses p.0.hypotheses p.1.0.hypotheses)
+      (sides bool x y one.conclusion e p.0.conclusion).1
   rule-In new old kind premises given s (rule.abs_thm {v = v} {b = b} {t = t} {u = u} {one = one} e fresh i) p g =
       let w = sides b t u one.conclusion e p.0.conclusion in
       concludes one.hypotheses (equation (function v.1 b) (term.Term.lam v.1 (close v t)) (term.Term.lam v.1 (close v u))) s i p.0.hypotheses
@@ -136,14 +139,18 @@ module _ (P : Name → Type 0) where
   rule-In new old kind premises given s (rule.app_thm {a = a} {b = b} {f = f} {g = h} {x = x} {y = y} {one = one} {two = two} e i l) p g =
       let w = sides (function a b) f h one.conclusion e p.0.conclusion in
       let z = sides a x y two.conclusion i p.1.0.conclusion in
-      concludes (union term_eq one.hypotheses two.hypotheses) (equation b (term.Term.app f x) (term.Term.app h y)) s l (joined-In one.hypotheses two.hypotheses p.0.hypotheses p.1.0.hypotheses)
+      concludes (union term_eq one.hypotheses two.hypotheses) (equation b (term.Term.app f x) (term.Term.app h y)) s l
+      (joined-In one.hypotheses two.hypotheses p.0.hypotheses p.1.0.hypotheses)
       (of_equation (term.Term.app f x) (term.Term.app h y) b (w.0, z.0) (w.1, z.1))
   rule-In new old kind premises given s (rule.deduct_antisym {one = one} {two = two} i) p g =
-      concludes (union term_eq (without term_eq one.hypotheses two.conclusion) (without term_eq two.hypotheses one.conclusion)) (equation bool one.conclusion two.conclusion) s i
-      (joined-In (without term_eq one.hypotheses two.conclusion) (without term_eq two.hypotheses one.conclusion) (removed-In one.hypotheses two.conclusion p.0.hypotheses) (removed-In two.hypotheses one.conclusion p.1.0.hypotheses))
+      concludes (union term_eq (without term_eq one.hypotheses two.conclusion) (without term_eq two.hypotheses one.conclusion))
+      (equation bool one.conclusion two.conclusion) s i
+      (joined-In (without term_eq one.hypotheses two.conclusion) (without term_eq two.hypotheses one.conclusion)
+      (removed-In one.hypotheses two.conclusion p.0.hypotheses) (removed-In two.hypotheses one.conclusion p.1.0.hypotheses))
       (of_equation one.conclusion two.conclusion bool p.0.conclusion p.1.0.conclusion)
   rule-In new old kind premises given s (rule.beta_conv {a = a} {b = b} {t = t} {u = u} h e) p g =
-      concludes [] (equation b (term.Term.app (term.Term.lam a t) u) (put u t)) s e (tt {0}) (of_equation (term.Term.app (term.Term.lam a t) u) (put u t) b g (put_at-In 0 u t g.1 g.0))
+      concludes [] (equation b (term.Term.app (term.Term.lam a t) u) (put u t)) s e (tt {0})
+      (of_equation (term.Term.app (term.Term.lam a t) u) (put u t) b g (put_at-In 0 u t g.1 g.0))
   rule-In new old kind premises given s (rule.sym {a = a} {x = x} {y = y} {one = one} e i) p g =
       let w = sides a x y one.conclusion e p.0.conclusion in
       concludes one.hypotheses (equation a y x) s i p.0.hypotheses (of_equation y x a w.1 w.0)
@@ -152,22 +159,28 @@ module _ (P : Name → Type 0) where
       (of_equation x z a (sides a x y one.conclusion e p.0.conclusion).0 (sides a y z two.conclusion f p.1.0.conclusion).1)
   rule-In new old kind premises given s (rule.prove_hyp {one = one} {two = two} i) p g =
       concludes (union term_eq one.hypotheses (without term_eq two.hypotheses one.conclusion)) two.conclusion s i
-      (joined-In one.hypotheses (without term_eq two.hypotheses one.conclusion) p.0.hypotheses (removed-In two.hypotheses one.conclusion p.1.0.hypotheses)) p.1.0.conclusion
+      (joined-In one.hypotheses (without term_eq two.hypotheses one.conclusion) p.0.hypotheses (removed-In two.hypotheses one.conclusion p.1.0.hypotheses))
+      p.1.0.conclusion
   rule-In new old kind premises given s (rule.subst {types = types} {terms = terms} {one = one} fitting i) p g =
       let all : AllByRecursion (λ (q : Variable × Term). TermIn P q.1) terms = All-weaker _ _ (λ q h. h.1) terms g in
       concludes (distinct term_eq (map (sub types terms) one.hypotheses)) (sub types terms one.conclusion) s i
-      (joined-In [] (map (sub types terms) one.hypotheses) (tt {0}) (All-mapped (TermIn P) (sub types terms) one.hypotheses (All-weaker _ _ (sub-In types terms all) one.hypotheses p.0.hypotheses)))
+      (joined-In [] (map (sub types terms) one.hypotheses) (tt {0})
+      (All-mapped (TermIn P) (sub types terms) one.hypotheses (All-weaker _ _ (sub-In types terms all) one.hypotheses p.0.hypotheses)))
       (sub-In types terms all one.conclusion p.0.conclusion)
   rule-In new old kind premises given s (rule.recorded is) p g = g
   rule-In new old kind premises given s (rule.restate is i) p g = g
-  rule-In new old kind premises given s (rule.define_const {n = n} {t = t} {a = a} h e) p g = concludes [] (equation a (term.Term.constant n a) t) s e (tt {0}) (of_equation (term.Term.constant n a) t a (tt {0}) g)
+  rule-In new old kind premises given s (rule.define_const {n = n} {t = t} {a = a} h e) p g =
+      concludes [] (equation a (term.Term.constant n a) t) s e (tt {0}) (of_equation (term.Term.constant n a) t a (tt {0}) g)
   rule-In new old kind premises given s (rule.define_const_list {pairs = pairs} {one = one} defining list e) p g =
-      concludes [] (sub [] (constants_put pairs) one.conclusion) s e (tt {0}) (sub-In [] (constants_put pairs) (constants_put-In pairs) one.conclusion p.0.conclusion)
+      concludes [] (sub [] (constants_put pairs) one.conclusion) s e (tt {0})
+      (sub-In [] (constants_put pairs) (constants_put-In pairs) one.conclusion p.0.conclusion)
   rule-In new old kind premises given s (rule.first_law {names = names} {c = c} {f = f} {one = one} t e) p g =
       concludes [] (type_definition.first_law names c).conclusion s e (tt {0}) ((tt {0}, (tt {0}, (tt {0}, tt {0}))), tt {0})
   rule-In new old kind premises given s (rule.second_law {names = names} {c = c} {f = f} {one = one} t e) p g =
-      concludes [] (type_definition.second_law names c f).conclusion s e (tt {0}) ((tt {0}, ((tt {0}, (tt {0}, (tt {0}, tt {0}))), tt {0})), (predicate-In names c f one t p.0, tt {0}))
+      concludes [] (type_definition.second_law names c f).conclusion s e (tt {0})
+      ((tt {0}, ((tt {0}, (tt {0}, (tt {0}, tt {0}))), tt {0})), (predicate-In names c f one t p.0, tt {0}))
   rule-In new old kind premises given s (rule.first_law_free {names = names} {c = c} {f = f} {one = one} t e) p g =
       concludes [] (type_definition.first_law_free names c).conclusion s e (tt {0}) ((tt {0}, (tt {0}, (tt {0}, new))), new)
   rule-In new old kind premises given s (rule.second_law_free {names = names} {c = c} {f = f} {one = one} t e) p g =
-      concludes [] (type_definition.second_law_free names c f).conclusion s e (tt {0}) ((tt {0}, (predicate-In names c f one t p.0, old)), ((tt {0}, (tt {0}, (tt {0}, old))), old))
+      concludes [] (type_definition.second_law_free names c f).conclusion s e (tt {0})
+      ((tt {0}, (predicate-In names c f one t p.0, old)), ((tt {0}, (tt {0}, (tt {0}, old))), old))

@@ -50,17 +50,21 @@ chained-bytes i = go (i == 1)
 
 block-bytes : (i : ℕ) → AreBytes (lines (block i))
 block-bytes i =
-    let end : AreBytes (lines (chained i) ++ lines keeping_words) = All-append (λ b. b < 256) (lines (chained i)) (lines keeping_words) (chained-bytes i) (bytes-told (lines keeping_words) refl) in
+    let end : AreBytes (lines (chained i) ++ lines keeping_words) =
+    All-append (λ b. b < 256) (lines (chained i)) (lines keeping_words) (chained-bytes i) (bytes-told (lines keeping_words) refl) in
     let middle : AreBytes ((codes "\"\n" ++ lines defining_words) ++ (lines (chained i) ++ lines keeping_words)) =
-    All-append (λ b. b < 256) (codes "\"\n" ++ lines defining_words) (lines (chained i) ++ lines keeping_words) (bytes-told (codes "\"\n" ++ lines defining_words) refl) end in
+    All-append (λ b. b < 256) (codes "\"\n" ++ lines defining_words) (lines (chained i) ++ lines keeping_words)
+    (bytes-told (codes "\"\n" ++ lines defining_words) refl) end in
     subst AreBytes (sym (block_parts i (decimal i) refl))
-    (All-append (λ b. b < 256) (codes "\"c") (decimal i ++ ((codes "\"\n" ++ lines defining_words) ++ (lines (chained i) ++ lines keeping_words))) (bytes-told (codes "\"c") refl)
+    (All-append (λ b. b < 256) (codes "\"c") (decimal i ++ ((codes "\"\n" ++ lines defining_words) ++ (lines (chained i) ++ lines keeping_words)))
+    (bytes-told (codes "\"c") refl)
     (All-append (λ b. b < 256) (decimal i) ((codes "\"\n" ++ lines defining_words) ++ (lines (chained i) ++ lines keeping_words)) (decimal-bytes i) middle))
 
 -- the blocks
 blocks-bytes : (n : ℕ) → AreBytes (lines (blocks n))
 blocks-bytes zero = tt
-blocks-bytes (suc n) = subst AreBytes (sym (lines-append (blocks n) (block (suc n)))) (All-append (λ b. b < 256) (lines (blocks n)) (lines (block (suc n))) (blocks-bytes n) (block-bytes (suc n)))
+blocks-bytes (suc n) = subst AreBytes (sym (lines-append (blocks n) (block (suc n))))
+    (All-append (λ b. b < 256) (lines (blocks n)) (lines (block (suc n))) (blocks-bytes n) (block-bytes (suc n)))
 
 -- the whole text
 pub trial_text-bytes : (n : ℕ) → AreBytes (trial_text n)

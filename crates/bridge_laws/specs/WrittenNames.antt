@@ -119,8 +119,10 @@ module _ (P : Name → Type 0) where
     typed (HolType.variable n) d =
         once_kept (Kept.type (HolType.variable n)) (λ e. say_word word.VarType (say_name n e)) d (infer (λ h. tt) (word_said word.VarType (name n d)))
     typed (HolType.operator n ts) d =
-        once_kept (Kept.type (HolType.operator n ts)) (λ e. say_word word.OpType (conses (count ts) (say_word word.Nil (write_types ts (say_word word.TypeOp (say_name n e)))))) d
-        (word_said word.OpType (consed (count ts) (word_said word.Nil (second (word_said word.TypeOp (name n d)) (all_typed ts (say_word word.TypeOp (say_name n d)))))))
+        once_kept (Kept.type (HolType.operator n ts))
+        (λ e. say_word word.OpType (conses (count ts) (say_word word.Nil (write_types ts (say_word word.TypeOp (say_name n e)))))) d
+        (word_said word.OpType
+        (consed (count ts) (word_said word.Nil (second (word_said word.TypeOp (name n d)) (all_typed ts (say_word word.TypeOp (say_name n d)))))))
 
     all_typed : (ts : HolTypes) (d : Draft) → Wrote d (write_types ts d) (Unit {0})
     all_typed HolTypes.none d = nothing d
@@ -166,9 +168,11 @@ module _ (P : Name → Type 0) where
     given (Parameters.variable v) d = variable v d
     given (Parameters.substitution types terms) d =
         infer (λ h. h.1)
-        (paired (write_list (λ p. write_pair (say_name p.0) (write_type p.1)) types) (write_list (λ p. write_pair (write_variable p.0) (write_term q p.1)) terms)
+        (paired (write_list (λ p. write_pair (say_name p.0) (write_type p.1)) types)
+        (write_list (λ p. write_pair (write_variable p.0) (write_term q p.1)) terms)
         (AllByRecursion (λ (p : Name × HolType). P p.0 × Unit {0}) types) (AllByRecursion (λ (p : Variable × Term). P p.0.0 × TermIn P p.1) terms)
-        (listed (λ p. write_pair (say_name p.0) (write_type p.1)) (λ (p : Name × HolType). P p.0 × Unit {0}) (λ p e. paired (say_name p.0) (write_type p.1) (P p.0) (Unit {0}) (name p.0) (typed p.1) e) types)
+        (listed (λ p. write_pair (say_name p.0) (write_type p.1)) (λ (p : Name × HolType). P p.0 × Unit {0})
+        (λ p e. paired (say_name p.0) (write_type p.1) (P p.0) (Unit {0}) (name p.0) (typed p.1) e) types)
         (listed (λ p. write_pair (write_variable p.0) (write_term q p.1)) (λ (p : Variable × Term). P p.0.0 × TermIn P p.1)
         (λ p e. paired (write_variable p.0) (write_term q p.1) (P p.0.0) (TermIn P p.1) (variable p.0) (under p.1 []) e) terms)
         d)
@@ -179,7 +183,8 @@ module _ (P : Name → Type 0) where
         (λ p e. infer (λ h. h.1) (paired (say_name p.0) (write_variable p.1) (P p.0) (P p.1.0) (name p.0) (variable p.1) e)) pairs d
     given (Parameters.type_operator names version) d =
         infer (λ h. tt)
-        (second (second (second (name names.operator d) (name names.abstraction (say_name names.operator d))) (name names.representation (say_name names.abstraction (say_name names.operator d))))
+        (second (second (second (name names.operator d) (name names.abstraction (say_name names.operator d)))
+        (name names.representation (say_name names.abstraction (say_name names.operator d))))
         (listed say_name P name names.variables (say_name names.representation (say_name names.abstraction (say_name names.operator d)))))
 
     premises : (is : List ℕ) (d : Draft) → Wrote d (write_each write_premise is d) (Unit {0})
@@ -241,4 +246,5 @@ module _ (P : Name → Type 0) where
     pub steps : (exports : List ℕ) (ys : List Numbered) → AllByRecursion (λ (y : Numbered). IsLawGiven y.step) ys → (d : Draft)
         → Wrote d (write_each (write_step q exports) ys d) (AllByRecursion (λ (y : Numbered). GivenIn P y.step.parameters) ys)
     steps exports [] h d = nothing d
-    steps exports (y ∷ ys) h d = after (by_kind y.step.kind (list_any (λ i. y.number == i) exports) y.number y.step d h.0) (steps exports ys h.1 (write_step q exports y d))
+    steps exports (y ∷ ys) h d = after (by_kind y.step.kind (list_any (λ i. y.number == i) exports) y.number y.step d h.0)
+        (steps exports ys h.1 (write_step q exports y d))

@@ -39,10 +39,19 @@ room r = room_by r.fault (place_of r.progress)
 
 -- a reader that was fed nothing
 pub none_read : (whole : Option (List ℕ)) (r : Reading) → r.limit ≡ Some max_file → IsFed r [] → IsReading whole whole r
-none_read whole r limit fed = record { text = []; limit = limit; fed = fed; within = omega arith; given = gives_none whole; place = λ going. ap place_of (subst (λ f. fed_with f r []) going fed).0 }
+none_read whole r limit fed = record {
+  text = [];
+  limit = limit;
+  fed = fed;
+  within = omega arith;
+  given = gives_none whole;
+  place =
+      λ going. ap place_of (subst (λ f. fed_with f r []) going fed).0;
+}
 
 -- a reader that took a piece goes on
-pub piece_read : (whole old left : Option (List ℕ)) (r s : Reading) (piece : List ℕ) (h : IsReading whole old r) → Gives old piece left → s.limit ≡ r.limit → Feeds r piece s → GoesOn r piece s
+pub piece_read : (whole old left : Option (List ℕ)) (r s : Reading) (piece : List ℕ) (h : IsReading whole old r) → Gives old piece left → s.limit ≡ r.limit
+    → Feeds r piece s → GoesOn r piece s
     → IsWithin r.limit (h.text ++ piece) → IsReading whole left s
 piece_read whole old left r s piece h gives limit feeds goes within = record {
   text = h.text ++ piece;
@@ -54,7 +63,8 @@ piece_read whole old left r s piece h gives limit feeds goes within = record {
 }
 
 -- a text that isn't refused is within the limit
-pub judged-IsWithin : (limit : Option ℕ) (text : List ℕ) (r : Result (Unit {0}) DkFault) → ((f : DkFault) → r ≡ Err f → ⊥) → IsJudged limit text r → IsWithin limit text
+pub judged-IsWithin : (limit : Option ℕ) (text : List ℕ) (r : Result (Unit {0}) DkFault) → ((f : DkFault) → r ≡ Err f → ⊥) → IsJudged limit text r
+    → IsWithin limit text
 judged-IsWithin limit text (Ok u) h judged = judged
 judged-IsWithin limit text (Err f) h judged = absurd (h f refl)
 
@@ -64,15 +74,18 @@ not_stopped None u h = refl
 not_stopped (Some f) u h = absurd h
 
 -- and has less room
-pub room_less : (whole left : Option (List ℕ)) (r s : Reading) (piece : List ℕ) (h : IsReading whole left r) → GoesOn r piece s → s.fault ≡ None → length (h.text ++ piece) ≤ max_file → 0 < length piece → room s < room r
+pub room_less : (whole left : Option (List ℕ)) (r s : Reading) (piece : List ℕ) (h : IsReading whole left r) → GoesOn r piece s → s.fault ≡ None
+    → length (h.text ++ piece) ≤ max_file → 0 < length piece → room s < room r
 room_less whole left r s piece h goes going within some =
     let old : room r ≡ max_file - place_of r.progress = ap (λ f. room_by f (place_of r.progress)) (goes going).0 in
-    let new : room s ≡ max_file - (place_of r.progress + length piece) = ap (λ f. room_by f (place_of s.progress)) going ∙ ap (λ n. max_file - n) (goes going).1 in
+    let new : room s ≡ max_file - (place_of r.progress + length piece) =
+    ap (λ f. room_by f (place_of s.progress)) going ∙ ap (λ n. max_file - n) (goes going).1 in
     let place : place_of r.progress ≡ length h.text = h.place (goes going).0 in
     omega (arith, old, new, place, some, length-append h.text piece, within)
 
 -- a text that goes on is refused, whatever follows
-pub piece_refused : (whole left : Option (List ℕ)) (text : List ℕ) (f : DkFault) → Gives whole text left → IsJudged (Some max_file) text (Err f) → StopsText whole (stop_of f)
+pub piece_refused : (whole left : Option (List ℕ)) (text : List ℕ) (f : DkFault) → Gives whole text left → IsJudged (Some max_file) text (Err f)
+    → StopsText whole (stop_of f)
 piece_refused None None text (fault.Refused p k) gives h = record { text = text ++ []; is = tt; refused = h.refuses [] }
 piece_refused (Some whole) (Some left) text (fault.Refused p k) gives h = record { text = text ++ left; is = sym gives; refused = h.refuses left }
 piece_refused None (Some left) text (fault.Refused p k) gives h = absurd gives
@@ -80,9 +93,11 @@ piece_refused (Some whole) None text (fault.Refused p k) gives h = absurd gives
 piece_refused whole left text fault.Memory gives h = tt
 
 -- so it is where it was fed to the reader
-pub feed_refused : (whole old left : Option (List ℕ)) (r : Reading) (piece : List ℕ) (h : IsReading whole old r) (f : DkFault) → Gives old piece left → Judges r piece (Err f) → StopsText whole (stop_of f)
+pub feed_refused : (whole old left : Option (List ℕ)) (r : Reading) (piece : List ℕ) (h : IsReading whole old r) (f : DkFault) → Gives old piece left
+    → Judges r piece (Err f) → StopsText whole (stop_of f)
 feed_refused whole old left r piece h f gives judges =
-    piece_refused whole left (h.text ++ piece) f (gives_both whole old left h.text piece h.given gives) (subst (λ n. IsJudged n (h.text ++ piece) (Err f)) h.limit (judges h.text h.fed))
+    piece_refused whole left (h.text ++ piece) f (gives_both whole old left h.text piece h.given gives)
+    (subst (λ n. IsJudged n (h.text ++ piece) (Err f)) h.limit (judges h.text h.fed))
 
 -- the whole was read
 whole_read : (whole left : Option (List ℕ)) (text : List ℕ) → Gives whole text left → IfSome left (λ rest. rest ≡ []) → IfSome whole (λ bytes. text ≡ bytes)
@@ -98,7 +113,8 @@ pub ended_well : (whole : Option (List ℕ)) (r : Reading) (h : IsFedWhole whole
 ended_well whole r h m is = record { text = h.text; is = h.is; within = h.within; reads = is.reads; only = is.only }
 
 -- or its refusal
-pub ended_badly : (whole : Option (List ℕ)) (r : Reading) (h : IsFedWhole whole r) (f : DkFault) → Ends (answer_within r.limit h.text) (Err f) → StopsText whole (stop_of f)
+pub ended_badly : (whole : Option (List ℕ)) (r : Reading) (h : IsFedWhole whole r) (f : DkFault) → Ends (answer_within r.limit h.text) (Err f)
+    → StopsText whole (stop_of f)
 ended_badly whole r h (fault.Refused p k) is = record { text = h.text; is = h.is; refused = subst (λ n. Refuses (answer_within n h.text) p k) h.limit is }
 ended_badly whole r h fault.Memory is = tt
 
@@ -108,7 +124,8 @@ file_module None name m h = record { text = h.text; read = tt; within = h.within
 file_module (Some files) name m h = record { text = h.text; read = h.is; within = h.within; reads = h.reads; only = h.only }
 
 -- within the limit a refusal is that of the least fault, at its place
-refused_least : (text : List ℕ) (p : ℕ) (k : DkKind) → Refuses (answer_within (Some max_file) text) p k → IsLeastWithin (Some max_file) text (refusal p (fault_of k))
+refused_least : (text : List ℕ) (p : ℕ) (k : DkKind) → Refuses (answer_within (Some max_file) text) p k
+    → IsLeastWithin (Some max_file) text (refusal p (fault_of k))
 refused_least text p k h =
     let within = answer_within-place max_file text h.r h.is in
     let place : p ≡ h.r.place = omega (arith, h.place, within) in

@@ -119,7 +119,8 @@ run-exact : (out_of note_of : Accepted → List ℕ) (names : List (List ℕ)) (
     → AnswersRun out_of note_of names shelf answer out note
     → IsAnswerOfRun shelf.told_before names due → Aside answer (answer ≡ due)
 run-exact out_of note_of names shelf well Done due out note h d = accepted-due shelf.told_before names well.tells h.0 h.1 due d
-run-exact out_of note_of names shelf well (Refused article line kind) due out note h d = refused_run-due shelf.told_before names well.tells article line kind h.0 due d
+run-exact out_of note_of names shelf well (Refused article line kind) due out note h d =
+    refused_run-due shelf.told_before names well.tells article line kind h.0 due d
 run-exact out_of note_of names shelf well Usage due out note h d = absurd h
 run-exact out_of note_of names shelf well ReadFault due out note h d = absurd (well.no_fault h.0)
 run-exact out_of note_of names shelf well WriteFault due out note h d = tt
@@ -179,7 +180,8 @@ article-exact : (names : List (List ℕ)) (shelf : Shelved) → ReadWell shelf �
     → FormAnswers (Some (Form.article names)) shelf answer out note
     → IsDue (Some (Form.article names)) shelf.told_before due → Aside answer (answer ≡ due)
 article-exact names shelf well Done due out note h d = running.written-due shelf.told_before names well.tells h.0 h.1 h.2 h.3 due d
-article-exact names shelf well (Refused article line kind) due out note h d = running.refused_article-due shelf.told_before names well.tells article line kind h.0 due d
+article-exact names shelf well (Refused article line kind) due out note h d =
+    running.refused_article-due shelf.told_before names well.tells article line kind h.0 due d
 article-exact names shelf well Usage due out note h d = absurd h
 article-exact names shelf well ReadFault due out note h d = absurd (well.no_fault h.0)
 article-exact names shelf well WriteFault due out note h d = tt
@@ -224,9 +226,11 @@ check-exact fast name budget shelf well Usage due out note h d = absurd h
 check-exact fast name budget shelf well ReadFault due out note h d = absurd (well.no_fault h.0)
 check-exact fast name budget shelf well WriteFault due out note h d = tt
 check-exact fast name budget shelf well Memory due out note h d = tt
-check-exact fast name budget shelf well (DkRefused place kind) due out note h d = checking.refused-due (not fast) shelf.told_before name budget well.tells place kind h.0 due d
+check-exact fast name budget shelf well (DkRefused place kind) due out note h d =
+    checking.refused-due (not fast) shelf.told_before name budget well.tells place kind h.0 due d
 check-exact fast name budget shelf well (IllTyped i) due out note h d = checking.ill_typed-due (not fast) shelf.told_before name budget well.tells i h.0 due d
-check-exact fast name budget shelf well (OverBudget i) due out note h d = absurd (checking.over_budget-due (not fast) shelf.told_before name budget well.tells i h.0 due d)
+check-exact fast name budget shelf well (OverBudget i) due out note h d =
+    absurd (checking.over_budget-due (not fast) shelf.told_before name budget well.tells i h.0 due d)
 check-exact fast name budget shelf well (NotSequent i) due out note h d = absurd h
 check-exact fast name budget shelf well Unwritable due out note h d = absurd h
 
@@ -428,8 +432,10 @@ text-ReadsWellTyped share run h = record { m = module_of share run; reads = h.re
 -- what is written at Done by a form that writes the module of its run
 module-written : (form : Option Form) (shelf : Shelved) (out note : List ℕ) → WritesModule form → FormAnswers form shelf Done out note → ReadsWellTyped out
 module-written None shelf out note w h = absurd w
-module-written (Some (verify share fast names)) shelf out note w h = subst ReadsWellTyped (sym h.2) (text-ReadsWellTyped share h.0 (run-headline share shelf.told_before names h.0 h.1))
-module-written (Some (translate share names)) shelf out note w h = subst ReadsWellTyped (sym h.2) (text-ReadsWellTyped share h.0 (run-headline share shelf.told_before names h.0 h.1))
+module-written (Some (verify share fast names)) shelf out note w h =
+    subst ReadsWellTyped (sym h.2) (text-ReadsWellTyped share h.0 (run-headline share shelf.told_before names h.0 h.1))
+module-written (Some (translate share names)) shelf out note w h =
+    subst ReadsWellTyped (sym h.2) (text-ReadsWellTyped share h.0 (run-headline share shelf.told_before names h.0 h.1))
 module-written (Some (check fast name budget)) shelf out note w h = absurd w
 module-written (Some (show names)) shelf out note w h = absurd w
 module-written (Some (decode name)) shelf out note w h = absurd w
@@ -465,7 +471,8 @@ within-bound false share run h i d e =
     let f = fast_passes (module_of share run) i d.ty w.price w.by in
     record { price = f.0; by = f.1; within = let short = w.within in omega (arith, f.2, short) }
 
-module-PassesWithin : (rechecks : Bool) (told : Option Files) (name : List ℕ) (budget : ℕ) → (file : HasModule told name) → AllByRecursion (λ bound. bound ≤ budget) (module_bounds file.share file.run) → PassesWithin rechecks told name budget
+module-PassesWithin : (rechecks : Bool) (told : Option Files) (name : List ℕ) (budget : ℕ) → (file : HasModule told name)
+    → AllByRecursion (λ bound. bound ≤ budget) (module_bounds file.share file.run) → PassesWithin rechecks told name budget
 module-PassesWithin rechecks told name budget file h = record {
   m = module_of file.share file.run;
   file = module-ReadsAs told name file;
@@ -477,7 +484,8 @@ module-PassesWithin rechecks told name budget file h = record {
 }
 
 -- no check of it says no
-module-passes : (rechecks : Bool) (told : Option Files) (name : List ℕ) (i : ℕ) → IsTrue (is_some told) → HasModule told name → IsIllTyped rechecks told name i → ⊥
+module-passes : (rechecks : Bool) (told : Option Files) (name : List ℕ) (i : ℕ) → IsTrue (is_some told) → HasModule told name → IsIllTyped rechecks told name i
+    → ⊥
 module-passes rechecks None name i tells file ill = absurd (cc)
 module-passes rechecks (Some files) name i tells file ill =
     let h = each_run_carries file.share file.texts file.run file.bytes file.runs in
@@ -495,10 +503,12 @@ outputs-Consequences call result h law = record {
   written = λ writes done. record {
     text = h.out_text;
     gained = delivered-Gained h.answer h.out_text h.note_text call.out call.note result h.delivered (λ f. differ done f);
-    typed = module-written call.form call.shelf h.out_text h.note_text writes (subst (λ status. FormAnswers call.form call.shelf status h.out_text h.note_text) (is done (λ f. cc)) h.answers);
+    typed = module-written call.form call.shelf h.out_text h.note_text writes
+        (subst (λ status. FormAnswers call.form call.shelf status h.out_text h.note_text) (is done (λ f. cc)) h.answers);
   };
   retold = λ names form done.
-      let a = subst (λ f. FormAnswers f call.shelf Done h.out_text h.note_text) form (subst (λ status. FormAnswers call.form call.shelf status h.out_text h.note_text) (is done (λ f. cc)) h.answers) in
+      let a = subst (λ f. FormAnswers f call.shelf Done h.out_text h.note_text) form
+      (subst (λ status. FormAnswers call.form call.shelf status h.out_text h.note_text) (is done (λ f. cc)) h.answers) in
       let gained = delivered-Gained h.answer h.out_text h.note_text call.out call.note result h.delivered (λ f. differ done f) in
       record {
         version = a.0;
@@ -507,19 +517,25 @@ outputs-Consequences call result h law = record {
         gained = subst (Gained call.out) a.4 gained;
         retold = law a.0 a.1 (subst (λ f. FormArticle f call.shelf.told_before a.0 a.1) (sym form) (a.2, a.3));
       };
-  unwritable = λ e. facts.unwritable h.out_text h.note_text (subst (λ status. FormAnswers call.form call.shelf status h.out_text h.note_text) (is e (λ f. cc)) h.answers);
+  unwritable = λ e. facts.unwritable h.out_text h.note_text
+      (subst (λ status. FormAnswers call.form call.shelf status h.out_text h.note_text) (is e (λ f. cc)) h.answers);
   passes = λ well fast name budget form file bounds.
-      exact well Done (subst (λ f. IsDue f call.shelf.told_before Done) (sym form) (module-PassesWithin (not fast) call.shelf.told_before name budget file bounds));
+      exact well Done
+      (subst (λ f. IsDue f call.shelf.told_before Done) (sym form) (module-PassesWithin (not fast) call.shelf.told_before name budget file bounds));
   never_ill_typed = λ well fast name budget i form file ill.
       module-passes (not fast) call.shelf.told_before name i well.tells file
-      (subst (λ f. FormAnswers f call.shelf (IllTyped i) h.out_text h.note_text) form (subst (λ status. FormAnswers call.form call.shelf status h.out_text h.note_text) (is ill (λ f. cc)) h.answers)).0;
-  checked = λ fast name budget files form told_files done. of_check fast name budget files form told_files (subst (λ status. FormAnswers call.form call.shelf status h.out_text h.note_text) (is done (λ f. cc)) h.answers);
+      (subst (λ f. FormAnswers f call.shelf (IllTyped i) h.out_text h.note_text) form
+      (subst (λ status. FormAnswers call.form call.shelf status h.out_text h.note_text) (is ill (λ f. cc)) h.answers)).0;
+  checked = λ fast name budget files form told_files done. of_check fast name budget files form told_files
+      (subst (λ status. FormAnswers call.form call.shelf status h.out_text h.note_text) (is done (λ f. cc)) h.answers);
   trial_done = λ n e. delivered-Aside (λ status. status ≡ Done) h.answer h.out_text h.note_text call.out call.note result h.delivered
       (trial-done n call.shelf h.answer h.out_text h.note_text (subst (λ form. FormAnswers form call.shelf h.answer h.out_text h.note_text) e h.answers));
   usage = λ e. delivered-Aside (λ status. status ≡ Usage) h.answer h.out_text h.note_text call.out call.note result h.delivered
       (no_form-usage call.shelf h.answer h.out_text h.note_text (subst (λ form. FormAnswers form call.shelf h.answer h.out_text h.note_text) e h.answers));
-  usage_alone = λ e. facts.usage h.out_text h.note_text (subst (λ status. FormAnswers call.form call.shelf status h.out_text h.note_text) (is e (λ f. cc)) h.answers);
-  read_fault = λ e. facts.read_fault h.out_text h.note_text (subst (λ status. FormAnswers call.form call.shelf status h.out_text h.note_text) (is e (λ f. cc)) h.answers);
+  usage_alone = λ e. facts.usage h.out_text h.note_text
+      (subst (λ status. FormAnswers call.form call.shelf status h.out_text h.note_text) (is e (λ f. cc)) h.answers);
+  read_fault = λ e. facts.read_fault h.out_text h.note_text
+      (subst (λ status. FormAnswers call.form call.shelf status h.out_text h.note_text) (is e (λ f. cc)) h.answers);
   write_fault = delivered-Failed h.answer h.out_text h.note_text call.out call.note result h.delivered
       (λ e. facts.write_fault h.out_text h.note_text (subst (λ status. FormAnswers call.form call.shelf status h.out_text h.note_text) e h.answers));
   out_kept = outputs-KeepsOut call result h;
@@ -535,7 +551,8 @@ outputs-Consequences call result h law = record {
     differ e f = let g : Done ≡ WriteFault = sym e ∙ f in absurd (cc)
 
     exact : ReadWell call.shelf → (status : Status) → IsDue call.form call.shelf.told_before status → Aside result (result ≡ status)
-    exact well due d = delivered-Aside (λ status. status ≡ due) h.answer h.out_text h.note_text call.out call.note result h.delivered (facts.exact well h.answer due h.out_text h.note_text h.answers d)
+    exact well due d = delivered-Aside (λ status. status ≡ due) h.answer h.out_text h.note_text call.out call.note result h.delivered
+        (facts.exact well h.answer due h.out_text h.note_text h.answers d)
 
     of_check : (fast : Bool) (name : List ℕ) (budget : ℕ) (files : Files) → call.form ≡ Some (check fast name budget) → call.shelf.told_before ≡ Some files
         → FormAnswers call.form call.shelf Done h.out_text h.note_text → ReadsWellTyped (file files name)

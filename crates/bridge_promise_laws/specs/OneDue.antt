@@ -31,7 +31,8 @@ not-both rechecks m i t n k c d = absurd (Found-No (one_check rechecks m i (Foun
 
 -- Two numbers are equal where neither is below the other.
 pub neither-below : (i j : ℕ) → (i < j → ⊥) → (j < i → ⊥) → i ≡ j
-neither-below i j f g = ⊎_elim (λ less. absurd (f less)) (λ no. ⊎_elim (λ less. absurd (g less)) (λ other. omega (arith, no, other)) (cases_lt j i)) (cases_lt i j)
+neither-below i j f g = ⊎_elim (λ less. absurd (f less)) (λ no. ⊎_elim (λ less. absurd (g less)) (λ other. omega (arith, no, other)) (cases_lt j i))
+    (cases_lt i j)
 
 -- A text within the limit of files that reads as a module has it for its answer.
 within-answer : (text : List ℕ) (m : List Declaration) (b : Bool) → nat_le (length text) max_file ≡ b → length text ≤ max_file → Reads text m
@@ -68,7 +69,8 @@ IsTextRefused text place kind = IsLeastWithin (Some max_file) text (refusal plac
 pub one_refusal : (text : List ℕ) (p q : ℕ) (k l : DkKind) → IsTextRefused text p k → IsTextRefused text q l → DkRefused p k ≡ DkRefused q l
 one_refusal text p q k l h g =
     let answered = least-answered (Some max_file) text in
-    let two : refused (refusal p (fault_of k)) ≡ refused (refusal q (fault_of l)) = sym (answered (refusal p (fault_of k)) h) ∙ answered (refusal q (fault_of l)) g in
+    let two : refused (refusal p (fault_of k)) ≡ refused (refusal q (fault_of l)) =
+    sym (answered (refusal p (fault_of k)) h) ∙ answered (refusal q (fault_of l)) g in
     let same : refusal p (fault_of k) ≡ refusal q (fault_of l) = cc in
     let kinds : k ≡ l = sym (kind_of-fault_of k) ∙ ap (λ r. kind_of r.fault) same ∙ kind_of-fault_of l in
     ap₂ DkRefused (ap (λ r. r.place) same) kinds
@@ -130,8 +132,10 @@ module _ (files : Files) (name : List ℕ) where
     ill_typed_due i h (IllTyped j) d =
         let same = one_module d.m h.m d.file h.file in
         ap IllTyped (neither-below i j
-        (λ less. let passes = d.before i less in not-both rechecks d.m i passes.0 passes.1.price h.price passes.1.by (subst (λ n. CheckBy rechecks n i No h.price) (sym same) h.no))
-        (λ less. let passes = h.before j less in not-both rechecks h.m j passes.found passes.price d.no.price passes.by (subst (λ n. CheckBy rechecks n j No d.no.price) same d.no.by)))
+        (λ less. let passes = d.before i less in not-both rechecks d.m i passes.0 passes.1.price h.price passes.1.by
+        (subst (λ n. CheckBy rechecks n i No h.price) (sym same) h.no))
+        (λ less. let passes = h.before j less in not-both rechecks h.m j passes.found passes.price d.no.price passes.by
+        (subst (λ n. CheckBy rechecks n j No d.no.price) same d.no.by)))
     ill_typed_due i h (Refused article line kind) d = absurd d
     ill_typed_due i h Usage d = absurd d
     ill_typed_due i h ReadFault d = absurd d
@@ -145,14 +149,30 @@ module _ (files : Files) (name : List ℕ) where
     over_budget_due i h Done d =
         let same = one_module d.m h.m d.file h.file in
         let passes = d.pass i (subst (λ n. i < length n) (sym same) h.is) in
-        absurd (omega (arith, passes.1.within, h.over (Found passes.0) passes.1.price (subst (λ n. CheckBy rechecks n i (Found passes.0) passes.1.price) same passes.1.by)))
+        absurd (omega (
+          arith,
+          passes.1.within,
+          h.over (Found passes.0) passes.1.price (subst (λ n. CheckBy rechecks n i (Found passes.0) passes.1.price) same passes.1.by),
+        ))
     over_budget_due i h (DkRefused p k) d = read_or_refused h.m p k h.file d
     over_budget_due i h (IllTyped j) d =
         let same = one_module d.m h.m d.file h.file in
         let equal : i ≡ j = neither-below i j
-        (λ less. let passes = d.before i less in absurd (omega (arith, passes.1.within, h.over (Found passes.0) passes.1.price (subst (λ n. CheckBy rechecks n i (Found passes.0) passes.1.price) same passes.1.by))))
-        (λ less. let passes = h.before j less in not-both rechecks h.m j passes.found passes.price d.no.price passes.by (subst (λ n. CheckBy rechecks n j No d.no.price) same d.no.by)) in
-        absurd (omega (arith, d.no.within, h.over No d.no.price (subst (λ k. CheckBy rechecks h.m k No d.no.price) (sym equal) (subst (λ n. CheckBy rechecks n j No d.no.price) same d.no.by))))
+        (λ less. let passes = d.before i less in absurd
+        (omega (
+          arith,
+          passes.1.within,
+          h.over (Found passes.0) passes.1.price
+              (subst (λ n. CheckBy rechecks n i (Found passes.0) passes.1.price) same passes.1.by),
+        )))
+        (λ less. let passes = h.before j less in not-both rechecks h.m j passes.found passes.price d.no.price passes.by
+        (subst (λ n. CheckBy rechecks n j No d.no.price) same d.no.by)) in
+        absurd (omega (
+          arith,
+          d.no.within,
+          h.over No d.no.price
+              (subst (λ k. CheckBy rechecks h.m k No d.no.price) (sym equal) (subst (λ n. CheckBy rechecks n j No d.no.price) same d.no.by)),
+        ))
     over_budget_due i h (Refused article line kind) d = absurd d
     over_budget_due i h Usage d = absurd d
     over_budget_due i h ReadFault d = absurd d

@@ -62,7 +62,8 @@ writable-or-not version run h not =
 module _ (told : Option Files) (names : List (List ℕ)) (tells : IsTrue (is_some told)) where
   -- the run, and the version of the last article
   one_run : (v w : Version) (a b : Accepted) → RunsToVersion told names v a → RunsToVersion told names w b → (v ≡ w) × (a ≡ b)
-  one_run v w a b h g = (version told tells v w a b h g, (let same : accepted a ≡ accepted b = RunsTo-unique told names (accepted a) (accepted b) tells h.to g.to in cc))
+  one_run v w a b h g =
+      (version told tells v w a b h g, (let same : accepted a ≡ accepted b = RunsTo-unique told names (accepted a) (accepted b) tells h.to g.to in cc))
     where
       version : (o : Option Files) → IsTrue (is_some o) → (v w : Version) (a b : Accepted) → RunsToVersion o names v a → RunsToVersion o names w b → v ≡ w
       version None t v w a b h g = absurd (cc)
@@ -111,7 +112,8 @@ module _ (told : Option Files) (names : List (List ℕ)) (tells : IsTrue (is_som
       → Refused place line kind ≡ due
   refused_article-due place line kind h Done d = accepted-or-refused d.1 place line kind d.2.to h
   refused_article-due place line kind h (Refused place2 line2 kind2) d =
-      let same : refused_at place line kind ≡ refused_at place2 line2 kind2 = RunsTo-unique told names (refused_at place line kind) (refused_at place2 line2 kind2) tells h d in
+      let same : refused_at place line kind ≡ refused_at place2 line2 kind2 =
+      RunsTo-unique told names (refused_at place line kind) (refused_at place2 line2 kind2) tells h d in
       cc
   refused_article-due place line kind h Unwritable d = accepted-or-refused d.1 place line kind d.2.to h
   refused_article-due place line kind h Usage d = absurd d

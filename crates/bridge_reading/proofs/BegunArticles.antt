@@ -22,7 +22,8 @@ module _ (before now : Option (List (List ℕ))) (files : List (String Global)) 
       (begins_both before middle now (take i (names_in files)) (name ∷ []) first second))
 
   -- the files up to the article that was halted were begun
-  pub halted-StopsBegun : (i article : ℕ) (why : Halt) → article ≡ i + 1 → Begins before (take (i + 1) (names_in files)) now → StopsBegun (stop_of_halt article why) before (names_in files) now
+  pub halted-StopsBegun : (i article : ℕ) (why : Halt) → article ≡ i + 1 → Begins before (take (i + 1) (names_in files)) now
+      → StopsBegun (stop_of_halt article why) before (names_in files) now
   halted-StopsBegun i article (halt.Refused line kind) number begun = subst (λ k. Begins before (take k (names_in files)) now) (sym number) begun
   halted-StopsBegun i article halt.ReadFault number begun = tt
   halted-StopsBegun i article halt.Memory number begun = tt

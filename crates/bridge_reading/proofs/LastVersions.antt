@@ -53,19 +53,22 @@ other-number z (item.Word word.Version ∷ items) e = rw e refl
 other-number z items e = refl
 
 -- nor does a second word that isn't `version`
-no-version : (z : _) (w : Word) (items : List Item) (s : State) → second_word s w ≡ obey (in_body Five s) w → (next : State) → second_word s w ≡ Ok next → version_of (item.Number z ∷ item.Word w ∷ items) ≡ Five
+no-version : (z : _) (w : Word) (items : List Item) (s : State) → second_word s w ≡ obey (in_body Five s) w → (next : State) → second_word s w ≡ Ok next
+    → version_of (item.Number z ∷ item.Word w ∷ items) ≡ Five
 no-version z word.Version items s e next f = absurd (let g : obey (in_body Five s) word.Version ≡ Ok next = sym e ∙ f in cc)
 no-version z w items s e next f = refl
 
 -- After the number 6
-after-six : (z : _) (commands : List Command) (s t : State) → int_eq z (pos 6) ≡ true → s.place ≡ version → obey_all machine s commands ≡ Ok t → version_at t.place ≡ version_of (item.Number z ∷ map (λ c. c.item) commands)
+after-six : (z : _) (commands : List Command) (s t : State) → int_eq z (pos 6) ≡ true → s.place ≡ version → obey_all machine s commands ≡ Ok t
+    → version_at t.place ≡ version_of (item.Number z ∷ map (λ c. c.item) commands)
 after-six z [] s t six h e = let f : s ≡ t = cc in ap version_at (subst (λ (u : State). u.place ≡ version) f h)
 after-six z (c ∷ cs) s t six h e =
     let next = bound (at_line c.line (step s c)) _ t e in
     let one : step_at s.place s c.item ≡ Ok next.0 = on_line c.line (step s c) next.0 next.1 in
     go c.item next.0 (subst (λ p. step_at p s c.item ≡ Ok next.0) h one) next.2
   where
-    go : (i : Item) (next : State) → step_at version s i ≡ Ok next → obey_all machine next cs ≡ Ok t → version_at t.place ≡ version_of (item.Number z ∷ i ∷ map (λ c. c.item) cs)
+    go : (i : Item) (next : State) → step_at version s i ≡ Ok next → obey_all machine next cs ≡ Ok t → version_at t.place
+        ≡ version_of (item.Number z ∷ i ∷ map (λ c. c.item) cs)
     go (item.Number y) next one more = in-body cs Five next t (first-body (item.Number y) s next one) more
     go (item.Name n) next one more = in-body cs Five next t (first-body (item.Name n) s next one) more
     go (item.Word w) next one more = elim (second_word-cases s w) [
@@ -80,14 +83,16 @@ after-six z (c ∷ cs) s t six h e =
         same u e h = let f : u ≡ next = cc in subst (λ (v : State). v.place ≡ body Six) f h
 
 -- The commands of an article
-commands-version : (commands : List Command) (v : Version) (s t : State) → s.place ≡ start v → obey_all machine s commands ≡ Ok t → version_at t.place ≡ version_of (map (λ c. c.item) commands)
+commands-version : (commands : List Command) (v : Version) (s t : State) → s.place ≡ start v → obey_all machine s commands ≡ Ok t → version_at t.place
+    ≡ version_of (map (λ c. c.item) commands)
 commands-version [] v s t h e = let f : s ≡ t = cc in ap version_at (subst (λ (u : State). u.place ≡ start v) f h)
 commands-version (c ∷ cs) v s t h e =
     let next = bound (at_line c.line (step s c)) _ t e in
     let one : step_at s.place s c.item ≡ Ok next.0 = on_line c.line (step s c) next.0 next.1 in
     go c.item next.0 (subst (λ p. step_at p s c.item ≡ Ok next.0) h one) next.2
   where
-    go : (i : Item) (next : State) → step_at (start v) s i ≡ Ok next → obey_all machine next cs ≡ Ok t → version_at t.place ≡ version_of (i ∷ map (λ c. c.item) cs)
+    go : (i : Item) (next : State) → step_at (start v) s i ≡ Ok next → obey_all machine next cs ≡ Ok t → version_at t.place
+        ≡ version_of (i ∷ map (λ c. c.item) cs)
     go (item.Name n) next one more = in-body cs Five next t (first-body (item.Name n) s next one) more
     go (item.Word w) next one more = in-body cs Five next t (first-body (item.Word w) s next one) more
     go (item.Number z) next one more = by (int_eq z (pos 6)) refl (placed _ one)
@@ -95,12 +100,14 @@ commands-version (c ∷ cs) v s t h e =
         placed : (u : State) → ◌≡◌ {A = Result State Kind} (Ok u) (Ok next) → next.place ≡ u.place
         placed u e = let f : u ≡ next = cc in ap (λ (v : State). v.place) (sym f)
 
-        by : (b : Bool) → int_eq z (pos 6) ≡ b → next.place ≡ cond (int_eq z (pos 6)) version (body Five) → version_at t.place ≡ version_of (item.Number z ∷ map (λ c. c.item) cs)
+        by : (b : Bool) → int_eq z (pos 6) ≡ b → next.place ≡ cond (int_eq z (pos 6)) version (body Five) → version_at t.place
+            ≡ version_of (item.Number z ∷ map (λ c. c.item) cs)
         by true is place = after-six z cs next t is (place ∙ ap (λ b. cond b version (body Five)) is) more
         by false is place = in-body cs Five next t (place ∙ ap (λ b. cond b version (body Five)) is) more ∙ sym (other-number z (map (λ c. c.item) cs) is)
 
 -- The version of an article
-pub article-version : (commands : List Command) (end : End) (v : Version) (s t : State) → s.place ≡ start v → obey_article machine s commands end ≡ Ok t → t.place ≡ start (version_of (map (λ c. c.item) commands))
+pub article-version : (commands : List Command) (end : End) (v : Version) (s t : State) → s.place ≡ start v → obey_article machine s commands end ≡ Ok t
+    → t.place ≡ start (version_of (map (λ c. c.item) commands))
 article-version commands end v s t h e =
     let last = bound (obey_all machine s commands) _ t e in
     finished last.0 end last.2 ∙ ap start (commands-version commands v s last.0 h last.1)

@@ -37,8 +37,10 @@ none-passed None = record { texts = []; read = (refl, tt); bytes = tt; runs = λ
 none-passed (Some files) = record { texts = []; read = refl; bytes = tt; runs = λ rest o r. r; version = Six; place = refl; last = no_article }
 
 -- What was read of some files, and of others.
-reads-append : (told : Option Files) (names others : List (List ℕ)) (texts more : List (List ℕ)) → AreRead told names texts → AreRead told others more → AreRead told (names ++ others) (texts ++ more)
-reads-append None names others texts more h k = (length-both texts more ∙ (λ i. h.0 i + k.0 i) ∙ sym (length-both names others), All-append AreBytes texts more h.1 k.1)
+reads-append : (told : Option Files) (names others : List (List ℕ)) (texts more : List (List ℕ)) → AreRead told names texts → AreRead told others more
+    → AreRead told (names ++ others) (texts ++ more)
+reads-append None names others texts more h k =
+    (length-both texts more ∙ (λ i. h.0 i + k.0 i) ∙ sym (length-both names others), All-append AreBytes texts more h.1 k.1)
   where
     length-both : {A : Type 0} (xs ys : List A) → length (xs ++ ys) ≡ length xs + length ys
     length-both [] ys = omega arith
@@ -65,7 +67,8 @@ unread-read None names = (length-map names (λ name. []), none-AreBytes names)
 unread-read (Some files) names = refl
 
 -- One more passed.
-pub more-passed : (told : Option Files) (names : List (List ℕ)) (name : List ℕ) (s next : State) → HavePassed told names s → OfText (bytes_told told name) (λ text. Passes text s next) → HavePassed told (names ++ name ∷ []) next
+pub more-passed : (told : Option Files) (names : List (List ℕ)) (name : List ℕ) (s next : State) → HavePassed told names s
+    → OfText (bytes_told told name) (λ text. Passes text s next) → HavePassed told (names ++ name ∷ []) next
 more-passed told names name s next h one = record {
   texts = h.texts ++ one.text ∷ [];
   read = reads-append told names (name ∷ []) h.texts (one.text ∷ []) h.read (read-one told name _ one);
@@ -88,16 +91,20 @@ passed-IsRunOf told names s h = record {
   texts = h.texts;
   read = h.read;
   bytes = h.bytes;
-  runs = subst (λ texts. RunsFrom machine 1 initial texts (accepted (accepted_state s))) (append-nil h.texts) (h.runs [] (accepted (accepted_state s)) (finished refl));
+  runs = subst (λ texts. RunsFrom machine 1 initial texts (accepted (accepted_state s))) (append-nil h.texts)
+      (h.runs [] (accepted (accepted_state s)) (finished refl));
 }
 
 -- and the machine has the version of the last
-pub passed-IsRunOfVersion : (told : Option Files) (names : List (List ℕ)) (s : State) → HavePassed told names s → IsRunOfVersion told names (last_version s.place) (accepted_state s)
+pub passed-IsRunOfVersion : (told : Option Files) (names : List (List ℕ)) (s : State) → HavePassed told names s
+    → IsRunOfVersion told names (last_version s.place) (accepted_state s)
 unfolding passed-IsRunOf
-passed-IsRunOfVersion told names s h = record { of = passed-IsRunOf told names s h; last = subst (IsLastVersion h.texts) (sym (ap last_version h.place)) h.last }
+passed-IsRunOfVersion told names s h = record
+    { of = passed-IsRunOf told names s h; last = subst (IsLastVersion h.texts) (sym (ap last_version h.place)) h.last }
 
 -- The next is refused: so is the run.
-pub refused-RunsTo : (told : Option Files) (names : List (List ℕ)) (name : List ℕ) (others : List (List ℕ)) (s : State) (line : ℕ) (kind : Kind) → HavePassed told names s
+pub refused-RunsTo : (told : Option Files) (names : List (List ℕ)) (name : List ℕ) (others : List (List ℕ)) (s : State) (line : ℕ) (kind : Kind)
+    → HavePassed told names s
     → OfText (bytes_told told name) (λ text. IsRefused text s line kind) → RunsTo told (names ++ name ∷ others) (refused_at (1 + length names) line kind)
 refused-RunsTo told names name others s line kind h one = record {
   texts = h.texts ++ one.text ∷ unread told others;
@@ -108,12 +115,14 @@ refused-RunsTo told names name others s line kind h one = record {
 
 -- The files one after another
 -- the names of one more file
-pub names-next : (files : List (String Global)) (i : ℕ) (d : String Global) → i < length files → take (suc i) (names_in files) ≡ take i (names_in files) ++ string_bytes (get_or files i d) ∷ []
+pub names-next : (files : List (String Global)) (i : ℕ) (d : String Global) → i < length files → take (suc i) (names_in files) ≡ take i (names_in files)
+    ++ string_bytes (get_or files i d) ∷ []
 names-next [] i d l = absurd (omega (arith, l))
 names-next (file ∷ files) zero d l = refl
 names-next (file ∷ files) (suc i) d l = ap (λ names. string_bytes file ∷ names) (names-next files i d (omega (arith, l)))
 
-names-split : (files : List (String Global)) (i : ℕ) (d : String Global) → i < length files → names_in files ≡ take i (names_in files) ++ string_bytes (get_or files i d) ∷ drop (suc i) (names_in files)
+names-split : (files : List (String Global)) (i : ℕ) (d : String Global) → i < length files → names_in files ≡ take i (names_in files)
+    ++ string_bytes (get_or files i d) ∷ drop (suc i) (names_in files)
 names-split [] i d l = absurd (omega (arith, l))
 names-split (file ∷ files) zero d l = refl
 names-split (file ∷ files) (suc i) d l = ap (λ names. string_bytes file ∷ names) (names-split files i d (omega (arith, l)))
@@ -124,20 +133,25 @@ names-count (file ∷ files) zero l = refl
 names-count (file ∷ files) (suc i) l = ap suc (names-count files i (omega (arith, l)))
 
 -- The next file passed.
-pub file-passed : (told : Option Files) (files : List (String Global)) (i : ℕ) (d : String Global) (name : List ℕ) (s next : State) → i < length files → name ≡ string_bytes (get_or files i d)
-    → HavePassed told (take i (names_in files)) s → OfText (bytes_told told name) (λ text. Passes text s next) → HavePassed told (take (i + 1) (names_in files)) next
+pub file-passed : (told : Option Files) (files : List (String Global)) (i : ℕ) (d : String Global) (name : List ℕ) (s next : State) → i < length files → name
+    ≡ string_bytes (get_or files i d)
+    → HavePassed told (take i (names_in files)) s → OfText (bytes_told told name) (λ text. Passes text s next)
+    → HavePassed told (take (i + 1) (names_in files)) next
 file-passed told files i d name s next l is h one =
     let up : suc i ≡ i + 1 = omega arith in
     subst (λ k. HavePassed told (take k (names_in files)) next) up
-    (subst (λ names. HavePassed told names next) (ap (λ n. take i (names_in files) ++ n ∷ []) is ∙ sym (names-next files i d l)) (more-passed told (take i (names_in files)) name s next h one))
+    (subst (λ names. HavePassed told names next) (ap (λ n. take i (names_in files) ++ n ∷ []) is ∙ sym (names-next files i d l))
+    (more-passed told (take i (names_in files)) name s next h one))
 
 -- The next file is refused, or something failed there.
-pub file-stopped : (told : Option Files) (files : List (String Global)) (i : ℕ) (d : String Global) (name : List ℕ) (s : State) (article : ℕ) (halt : Halt) → i < length files → name ≡ string_bytes (get_or files i d) → article ≡ i + 1
+pub file-stopped : (told : Option Files) (files : List (String Global)) (i : ℕ) (d : String Global) (name : List ℕ) (s : State) (article : ℕ) (halt : Halt)
+    → i < length files → name ≡ string_bytes (get_or files i d) → article ≡ i + 1
     → HavePassed told (take i (names_in files)) s → HaltsText halt (bytes_told told name) s → Stops (stop_of_halt article halt) told (names_in files)
 file-stopped told files i d name s article (halt.Refused line kind) l is number h one =
     let count = names-count files i l in
     let place : 1 + length (take i (names_in files)) ≡ article = omega (arith, count, number) in
-    subst (λ names. RunsTo told names (refused_at article line kind)) (ap (λ n. take i (names_in files) ++ n ∷ drop (suc i) (names_in files)) is ∙ sym (names-split files i d l))
+    subst (λ names. RunsTo told names (refused_at article line kind))
+    (ap (λ n. take i (names_in files) ++ n ∷ drop (suc i) (names_in files)) is ∙ sym (names-split files i d l))
     (subst (λ k. RunsTo told (take i (names_in files) ++ name ∷ drop (suc i) (names_in files)) (refused_at k line kind)) place
     (refused-RunsTo told (take i (names_in files)) name (drop (suc i) (names_in files)) s line kind h one))
 file-stopped told files i d name s article halt.ReadFault l is number h one = tt
@@ -151,8 +165,10 @@ names-whole (file ∷ files) zero l = absurd (omega (arith, l))
 names-whole (file ∷ files) (suc i) l = ap (λ names. string_bytes file ∷ names) (names-whole files i (omega (arith, l)))
 
 -- No file is left.
-pub all-passed : (told : Option Files) (files : List (String Global)) (i : ℕ) (s : State) → length files ≤ i → HavePassed told (take i (names_in files)) s → IsRunOf told (names_in files) (accepted_state s)
+pub all-passed : (told : Option Files) (files : List (String Global)) (i : ℕ) (s : State) → length files ≤ i → HavePassed told (take i (names_in files)) s
+    → IsRunOf told (names_in files) (accepted_state s)
 all-passed told files i s l h = passed-IsRunOf told (names_in files) s (subst (λ names. HavePassed told names s) (names-whole files i l) h)
 
-pub all-passed-version : (told : Option Files) (files : List (String Global)) (i : ℕ) (s : State) → length files ≤ i → HavePassed told (take i (names_in files)) s → IsRunOfVersion told (names_in files) (last_version s.place) (accepted_state s)
+pub all-passed-version : (told : Option Files) (files : List (String Global)) (i : ℕ) (s : State) → length files ≤ i
+    → HavePassed told (take i (names_in files)) s → IsRunOfVersion told (names_in files) (last_version s.place) (accepted_state s)
 all-passed-version told files i s l h = passed-IsRunOfVersion told (names_in files) s (subst (λ names. HavePassed told names s) (names-whole files i l) h)

@@ -56,7 +56,8 @@ check_after-HasBlocks g true (w ∷ ws) = either (is_file w) _ None (check_after
 check_after-HasBlocks g false (w ∷ ws) =
     either (bytes_eq w (codes "--fast")) _ _ (either g.fast None _ tt (check_after-HasBlocks (record g { fast = true }) false ws))
     (either (bytes_eq w (codes "--budget")) _ _ (either (is_some g.budget) None _ tt (check_after-HasBlocks g true ws))
-    (either (bytes_eq (take 9 w) (codes "--budget=")) _ _ (either (is_some g.budget) None _ tt (check_after-HasBlocks (record g { budget = Some (drop 9 w) }) false ws))
+    (either (bytes_eq (take 9 w) (codes "--budget=")) _ _
+    (either (is_some g.budget) None _ tt (check_after-HasBlocks (record g { budget = Some (drop 9 w) }) false ws))
     (either (is_file w) _ None (either (is_some g.file) None _ tt (check_after-HasBlocks (record g { file = Some w }) false ws)) tt)))
 
 check_form-HasBlocks : (words : List (List ℕ)) → HasBlocks (check_form words)
@@ -100,7 +101,8 @@ trial_form-HasBlocks (word ∷ []) = go (trial_of word) (number_up_to-IsNumber g
 trial_form-HasBlocks (one ∷ two ∷ words) = tt
 
 -- files, or no form
-files_form-HasBlocks : (form : List (List ℕ) → Form) → ((names : List (List ℕ)) → HasBlocks (Some (form names))) → (words : List (List ℕ)) → HasBlocks (files_form form words)
+files_form-HasBlocks : (form : List (List ℕ) → Form) → ((names : List (List ℕ)) → HasBlocks (Some (form names))) → (words : List (List ℕ))
+    → HasBlocks (files_form form words)
 files_form-HasBlocks form none words = either (are_files words) (Some (form words)) None (none words) tt
 
 form_by-HasBlocks : (word : List ℕ) (words : List (List ℕ)) → HasBlocks (form_by word words)

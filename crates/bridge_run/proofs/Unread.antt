@@ -23,7 +23,8 @@ without_words-Promise _ call result none d begun told shelf_count out_count note
     Performs-Promise call result (memory-Performs call result d begun told shelf_count out_count note_count)
 
 -- What is delivered is its answer or a write fault.
-pub delivered-IsOrWriteFault : (answer result : Status) (out_text note_text : List ℕ) (out note : Sunk) → Delivers answer out_text note_text out note result → IsOrWriteFault answer result
+pub delivered-IsOrWriteFault : (answer result : Status) (out_text note_text : List ℕ) (out note : Sunk) → Delivers answer out_text note_text out note result
+    → IsOrWriteFault answer result
 delivered-IsOrWriteFault answer result out_text note_text out note (inl d) = inl d.0
 delivered-IsOrWriteFault answer result out_text note_text out note (inr d) = inr d.0
 

@@ -15,7 +15,8 @@ all-at P (x ∷ xs) zero d h w = h.0
 all-at P (x ∷ xs) (suc i) d h w = all-at P xs i d h.1 (omega (arith, w))
 
 -- the line of the next step is written
-pub theorem_lines-next : (what : List ℕ) (made : List Made) (steps : List ℕ) (i d : ℕ) (old new start : List ℕ) → i < length steps → new ≡ old ++ theorem_line what i (closed_form (sequent_at made (get_or steps i d)))
+pub theorem_lines-next : (what : List ℕ) (made : List Made) (steps : List ℕ) (i d : ℕ) (old new start : List ℕ) → i < length steps → new ≡ old
+    ++ theorem_line what i (closed_form (sequent_at made (get_or steps i d)))
     → old ++ theorem_lines what made i (drop i steps) ≡ start → new ++ theorem_lines what made (i + 1) (drop (i + 1) steps) ≡ start
 theorem_lines-next what made steps i d old new start h e s =
     let up : i + 1 ≡ suc i = omega arith in
@@ -27,5 +28,6 @@ theorem_lines-next what made steps i d old new start h e s =
     ∙ s
 
 -- the pieces of a line, one after another
-pub line_pieces : (old what : List ℕ) (number : ℕ) (s : ClosedSequent) → ((((old ++ what) ++ decimal number) ++ codes ": ") ++ closed_text s) ++ codes "\n" ≡ old ++ theorem_line what number s
+pub line_pieces : (old what : List ℕ) (number : ℕ) (s : ClosedSequent) → ((((old ++ what) ++ decimal number) ++ codes ": ") ++ closed_text s) ++ codes "\n"
+    ≡ old ++ theorem_line what number s
 line_pieces old what number s = simp append_assoc

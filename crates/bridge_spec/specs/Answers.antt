@@ -149,7 +149,8 @@ AnswersTrial n _ out note = ⊥
 -- say it; or what failed.
 abbrev pub AnswersArticle : List (List ℕ) → Shelved → Status → List ℕ → List ℕ → Type 0
 AnswersArticle names shelf Done out note =
-    (version : Version) × (run : Accepted) × IsRunOfVersion shelf.told_before names version run × IsWritable version run × (out ≡ article_of version run) × (note ≡ [])
+    (version : Version) × (run : Accepted) × IsRunOfVersion shelf.told_before names version run × IsWritable version run × (out ≡ article_of version run)
+    × (note ≡ [])
 AnswersArticle names shelf (Refused article line kind) out note =
     RunsTo shelf.told_before names (refused_at article line kind) × NoteAlone (refusal_line article line kind) out note
 AnswersArticle names shelf ReadFault out note = ReadFailed shelf × NoteAlone read_fault_line out note

@@ -29,7 +29,8 @@ pub record Call : Type 0 where
 
 -- a shelf before a call and after it, by its meanings: its files, its count of faults, the names begun
 abbrev pub shelved : {H : Type 0} → (H → Option Files) → (H → ℕ) → (H → Option (List (List ℕ))) → H → H → Shelved
-shelved told faults begun old new = record { told_before = told old; told = told new; faults_before = faults old; faults = faults new; begun_before = begun old; begun = begun new }
+shelved told faults begun old new = record
+    { told_before = told old; told = told new; faults_before = faults old; faults = faults new; begun_before = begun old; begun = begun new }
 
 -- a shelf that a call leaves alone: it tells the same, counts the same and began nothing
 abbrev pub untouched : Option Files → ℕ → Option (List (List ℕ)) → Shelved

@@ -84,7 +84,8 @@ abbrev pub six_lines : Counts → List ℕ
 six_lines counts = five_lines counts ++ codes "verified\n"
 
 abbrev pub usage_line : List ℕ
-usage_line = codes "usage: bridge verify [--share] [--fast] FILE.. | translate [--share] FILE.. | check FILE [--budget N] [--fast] | decode FILE | show FILE.. | trial N | article FILE..\n"
+usage_line = codes
+    "usage: bridge verify [--share] [--fast] FILE.. | translate [--share] FILE.. | check FILE [--budget N] [--fast] | decode FILE | show FILE.. | trial N | article FILE..\n"
 
 abbrev pub refusal_line : ℕ → ℕ → Kind → List ℕ
 refusal_line article line kind =

@@ -11,12 +11,14 @@ use Rattle.lp_spec.specs.Weight.{bound, greatest}
 use Rattle.bridge_spec.specs.Texts.{written_bound}
 
 -- what a function gives of the elements so far, and of the next
-take_suc-map : {A : Type 0} (f : A → ℕ) (xs : List A) (i : ℕ) → i < length xs → map f (take (suc i) xs) ≡ map f (take i xs) ++ option_map_or f (slice_get xs i) 0 ∷ []
+take_suc-map : {A : Type 0} (f : A → ℕ) (xs : List A) (i : ℕ) → i < length xs → map f (take (suc i) xs) ≡ map f (take i xs)
+    ++ option_map_or f (slice_get xs i) 0 ∷ []
 take_suc-map f [] i l = absurd (omega (arith, l))
 take_suc-map f (x ∷ xs) zero l = refl
 take_suc-map f (x ∷ xs) (suc i) l = ap (λ ys. f x ∷ ys) (take_suc-map f xs i (omega (arith, l)))
 
-pub front-more : {A : Type 0} (f : A → ℕ) (xs : List A) (i : ℕ) → i < length xs → map f (take (i + 1) xs) ≡ map f (take i xs) ++ option_map_or f (slice_get xs i) 0 ∷ []
+pub front-more : {A : Type 0} (f : A → ℕ) (xs : List A) (i : ℕ) → i < length xs → map f (take (i + 1) xs) ≡ map f (take i xs)
+    ++ option_map_or f (slice_get xs i) 0 ∷ []
 front-more f xs i l = let up : i + 1 ≡ suc i = omega arith in ap (λ k. map f (take k xs)) up ∙ take_suc-map f xs i l
 
 -- what is cut off before is cut off after
@@ -31,7 +33,8 @@ front-whole (x ∷ xs) zero l = absurd (omega (arith, l))
 front-whole (x ∷ xs) (suc i) l = ap (λ ys. x ∷ ys) (front-whole xs i (omega (arith, l)))
 
 -- the bound that is written of the next declaration is added, as far as a number goes
-pub written-more : (m : List Declaration) (bounds : List ℕ) (i : ℕ) (d : Declaration) (b x total : ℕ) → bounds ≡ map (bound m) m → slice_get m i ≡ Some d → get_or bounds i x ≡ b
+pub written-more : (m : List Declaration) (bounds : List ℕ) (i : ℕ) (d : Declaration) (b x total : ℕ) → bounds ≡ map (bound m) m → slice_get m i ≡ Some d
+    → get_or bounds i x ≡ b
     → total ≡ min (sum_by (λ d. written_bound d.form (bound m d)) (take i m)) greatest
     → min (total + written_bound d.form b) greatest ≡ min (sum_by (λ d. written_bound d.form (bound m d)) (take (i + 1) m)) greatest
 written-more m bounds i d b x total are at is so =

@@ -35,7 +35,8 @@ module _ (told : Option Files) (names : List (List ℕ)) (run : Accepted) (r : I
   image-shaped = (runs_are_carried (name_in run) r.texts run r.runs).shaped
 
 -- what is folded of the image is the run's module, where it is to have shared abbreviations
-pub folded-module_of : (share : Bool) (run : Accepted) (source made : List Declaration) → share ≡ true → source ≡ image run → made ≡ folded source → made ≡ module_of share run
+pub folded-module_of : (share : Bool) (run : Accepted) (source made : List Declaration) → share ≡ true → source ≡ image run → made ≡ folded source → made
+    ≡ module_of share run
 folded-module_of share run source made e same is = is ∙ ap folded same ∙ ap (λ share. module_of share run) (sym e)
 
 -- and where it is not, the image is

@@ -9,7 +9,14 @@ use Rattle.bridge_translate.specs.declared.translation.Translation.{Translation}
 
 -- what is counted in a translation
 abbrev pub counts_in : Counts → texts.Counts
-counts_in counts = record { articles = counts.articles; assumptions = counts.assumptions; exports = counts.exports; declarations = counts.declarations; bounds = counts.bounds }
+counts_in counts = record {
+  articles = counts.articles;
+  assumptions = counts.assumptions;
+  exports = counts.exports;
+  declarations = counts.declarations;
+  bounds =
+      counts.bounds;
+}
 
 -- the module of a run of so many articles, with shared abbreviations or without, its bounds and its counts
 pub record IsTranslationOf (share : Bool) (articles : ℕ) (run : Accepted) (t : Translation) : Type 0 where

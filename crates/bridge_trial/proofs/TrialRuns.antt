@@ -20,12 +20,14 @@ read-article : (n : ℕ) (texts : List (List ℕ)) → AreRead (Some (article_fi
 read-article n texts h = h
 
 -- the article is not refused
-not-refused : (n article line : ℕ) (kind : Kind) → 0 < n → n ≤ greatest_trial → RunsTo (Some (article_files n)) (article_name ∷ []) (refused_at article line kind) → ⊥
+not-refused : (n article line : ℕ) (kind : Kind) → 0 < n → n ≤ greatest_trial
+    → RunsTo (Some (article_files n)) (article_name ∷ []) (refused_at article line kind) → ⊥
 not-refused n article line kind some within h =
     let one = one_outcome machine (trial_text n ∷ []) in
     let a = trials_are_accepted n some within in
     let same : refused_at article line kind ≡ accepted a.0 =
-    one.only (refused_at article line kind) (subst (λ texts. Run texts (refused_at article line kind)) (read-article n h.texts h.read) h.runs) ∙ sym (one.only (accepted a.0) a.1.run) in
+    one.only (refused_at article line kind) (subst (λ texts. Run texts (refused_at article line kind)) (read-article n h.texts h.read) h.runs)
+    ∙ sym (one.only (accepted a.0) a.1.run) in
     absurd (cc)
 
 module _ (n : ℕ) (files : Files) (names : List (List ℕ)) (shelf : files ≡ article_files n) (name : names ≡ article_name ∷ []) where
@@ -43,6 +45,7 @@ module _ (n : ℕ) (files : Files) (names : List (List ℕ)) (shelf : files ≡ 
   pub stop-Memory : 0 < n → n ≤ greatest_trial → (s : Stop) → Stops s (Some files) names → (s ≡ stop.ReadFault → Rose 0 0) → answer_of_stop s ≡ answer.Memory
   stop-Memory some within (stop.Refused article line kind) h failed =
       absurd (not-refused n article line kind some within
-      (subst (λ fs. RunsTo (Some fs) (article_name ∷ []) (refused_at article line kind)) shelf (subst (λ ns. RunsTo (Some files) ns (refused_at article line kind)) name h)))
+      (subst (λ fs. RunsTo (Some fs) (article_name ∷ []) (refused_at article line kind)) shelf
+      (subst (λ ns. RunsTo (Some files) ns (refused_at article line kind)) name h)))
   stop-Memory some within stop.ReadFault h failed = let rose = failed refl in absurd (omega (arith, rose))
   stop-Memory some within stop.Memory h failed = refl

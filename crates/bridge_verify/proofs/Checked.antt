@@ -21,7 +21,8 @@ use Rattle.bridge_translate.specs.TranslationLaws.{written-module_text}
 use Rattle.bridge_translate.specs.declared.translation.Translation.{Translation}
 
 -- the check of each declaration says yes within its bound
-module-PassWithin : (share : Bool) (run : Accepted) → Headline share run → PassWithin true (module_of share run) (module_bounds share run) (length (module_of share run))
+module-PassWithin : (share : Bool) (run : Accepted) → Headline share run
+    → PassWithin true (module_of share run) (module_bounds share run) (length (module_of share run))
 module-PassWithin share run h k l =
     let m = module_of share run in
     let d = declaration-at m k l in
@@ -44,7 +45,8 @@ pub OverBudget-Accepted : (v : Verdict) (i : ℕ) → v ≡ verdict.OverBudget i
 OverBudget-Accepted v i e f = absurd (cc)
 
 -- of the verdict that is accepted, what it says of the declarations
-pub accepted-PassBelow : (rechecks : Bool) (ds : List Declaration) (budgets : List ℕ) (v : Verdict) → IsJudged rechecks ds budgets v → v ≡ verdict.Accepted → PassBelow rechecks ds (length ds)
+pub accepted-PassBelow : (rechecks : Bool) (ds : List Declaration) (budgets : List ℕ) (v : Verdict) → IsJudged rechecks ds budgets v → v ≡ verdict.Accepted
+    → PassBelow rechecks ds (length ds)
 accepted-PassBelow rechecks ds budgets verdict.Accepted h e = h
 accepted-PassBelow rechecks ds budgets (verdict.IllTyped i) h e = absurd (cc)
 accepted-PassBelow rechecks ds budgets (verdict.OverBudget i) h e = absurd (cc)

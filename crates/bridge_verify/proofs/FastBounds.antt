@@ -15,12 +15,14 @@ use Rattle.bridge_spec.specs.Texts.{module_of}
 use Rattle.bridge_laws.specs.Headlines.{declaration-at}
 
 -- what a function gives of the elements so far, and of the next
-take_suc-map : {A : Type 0} (f : A → ℕ) (xs : List A) (i : ℕ) → i < length xs → map f (take (suc i) xs) ≡ map f (take i xs) ++ option_map_or f (slice_get xs i) 0 ∷ []
+take_suc-map : {A : Type 0} (f : A → ℕ) (xs : List A) (i : ℕ) → i < length xs → map f (take (suc i) xs) ≡ map f (take i xs)
+    ++ option_map_or f (slice_get xs i) 0 ∷ []
 take_suc-map f [] i l = absurd (omega (arith, l))
 take_suc-map f (x ∷ xs) zero l = refl
 take_suc-map f (x ∷ xs) (suc i) l = ap (λ ys. f x ∷ ys) (take_suc-map f xs i (omega (arith, l)))
 
-pub front-more : {A : Type 0} (f : A → ℕ) (xs : List A) (i : ℕ) → i < length xs → map f (take (i + 1) xs) ≡ map f (take i xs) ++ option_map_or f (slice_get xs i) 0 ∷ []
+pub front-more : {A : Type 0} (f : A → ℕ) (xs : List A) (i : ℕ) → i < length xs → map f (take (i + 1) xs) ≡ map f (take i xs)
+    ++ option_map_or f (slice_get xs i) 0 ∷ []
 front-more f xs i l = let up : i + 1 ≡ suc i = omega arith in ap (λ k. map f (take k xs)) up ∙ take_suc-map f xs i l
 
 -- as many elements as there are, or more, are all of them
@@ -31,7 +33,8 @@ front-whole (x ∷ xs) zero l = absurd (omega (arith, l))
 front-whole (x ∷ xs) (suc i) l = ap (λ ys. x ∷ ys) (front-whole xs i (omega (arith, l)))
 
 -- the check of each declaration of a run's module without rechecks of sorts says yes within its bound
-module-PassWithin : (share : Bool) (run : Accepted) → Headline share run → PassWithin false (module_of share run) (map (fast_bound (module_of share run)) (module_of share run)) (length (module_of share run))
+module-PassWithin : (share : Bool) (run : Accepted) → Headline share run
+    → PassWithin false (module_of share run) (map (fast_bound (module_of share run)) (module_of share run)) (length (module_of share run))
 module-PassWithin share run h k l =
     let m = module_of share run in
     let d = declaration-at m k l in
@@ -46,7 +49,8 @@ module-PassWithin share run h k l =
       },
     )
 
-module _ (share : Bool) (run : Accepted) (good : Headline share run) (back : Module) (same : declarations_of back ≡ module_of share run) (budgets : List ℕ) (are : budgets ≡ map (fast_bound (declarations_of back)) (declarations_of back)) where
+module _ (share : Bool) (run : Accepted) (good : Headline share run) (back : Module) (same : declarations_of back ≡ module_of share run) (budgets : List ℕ)
+    (are : budgets ≡ map (fast_bound (declarations_of back)) (declarations_of back)) where
   length-back : length back.decls ≡ length (module_of share run)
   length-back = sym (length-map back.decls (declaration_in back.table)) ∙ ap length same
 
@@ -59,4 +63,5 @@ module _ (share : Bool) (run : Accepted) (good : Headline share run) (back : Mod
   back-PassWithin =
       subst (λ m. PassWithin false m budgets (length back.decls)) (sym same)
       (subst (λ bounds. PassWithin false (module_of share run) bounds (length back.decls)) (sym (are ∙ ap (λ m. map (fast_bound m) m) same))
-      (subst (PassWithin false (module_of share run) (map (fast_bound (module_of share run)) (module_of share run))) (sym length-back) (module-PassWithin share run good)))
+      (subst (PassWithin false (module_of share run) (map (fast_bound (module_of share run)) (module_of share run))) (sym length-back)
+      (module-PassWithin share run good)))

@@ -15,7 +15,8 @@ pub IsWithin-None : (limit : Option ℕ) (text : List ℕ) → limit ≡ None �
 IsWithin-None limit text e = subst (λ l. IsWithin l text) (sym e) tt
 
 -- a piece of a text that reads as a module is refused by no reader without a limit
-pub judged-Memory : (old : Reading) (piece before rest : List ℕ) (m : List Declaration) (r : Result (Unit {0}) DkFault) (f : DkFault) → old.limit ≡ None → IsFed old before
+pub judged-Memory : (old : Reading) (piece before rest : List ℕ) (m : List Declaration) (r : Result (Unit {0}) DkFault) (f : DkFault) → old.limit ≡ None
+    → IsFed old before
     → Reads ((before ++ piece) ++ rest) m → Judges old piece r → r ≡ Err f → f ≡ fault.Memory
 judged-Memory old piece before rest m r (fault.Refused p k) e fed reads judges is =
     let j = subst (Judges old piece) is judges in
@@ -28,14 +29,16 @@ module _ (d : List Declaration) (bounds : List ℕ) where
       → Reads ((text_before d bounds i ++ line) ++ declarations_text d (drop (i + 1) (shortened_after [] d)) (drop (i + 1) bounds)) m
   reads-line i line m e reads =
       let rest = declarations_text d (drop (i + 1) (shortened_after [] d)) (drop (i + 1) bounds) in
-      subst (λ text. Reads text m) (written-text_before d bounds (i + 1) ∙ ap (λ l. l ++ rest) (text_before-next d bounds i ∙ ap (λ l. text_before d bounds i ++ l) (sym e))) reads
+      subst (λ text. Reads text m) (written-text_before d bounds (i + 1)
+      ∙ ap (λ l. l ++ rest) (text_before-next d bounds i ∙ ap (λ l. text_before d bounds i ++ l) (sym e))) reads
 
   -- a reader that was fed the prelude was fed the text up to the first declaration
   pub fed-prelude : (old new : Reading) (text : List ℕ) → text ≡ prelude → IsFed old [] → Feeds old text new → IsFed new (text_before d bounds 0)
   fed-prelude old new text e fed feeds = subst (IsFed new) (e ∙ sym (text_before-first d bounds)) (feeds [] fed)
 
   -- a reader that was fed the text up to a declaration was fed its line
-  pub fed-line : (old new : Reading) (i : ℕ) (line : List ℕ) → line ≡ line_at d bounds i → IsFed old (text_before d bounds i) → Feeds old line new → IsFed new (text_before d bounds (i + 1))
+  pub fed-line : (old new : Reading) (i : ℕ) (line : List ℕ) → line ≡ line_at d bounds i → IsFed old (text_before d bounds i) → Feeds old line new
+      → IsFed new (text_before d bounds (i + 1))
   fed-line old new i line e fed feeds =
       subst (IsFed new) (sym (text_before-next d bounds i ∙ ap (λ l. text_before d bounds i ++ l) (sym e))) (feeds (text_before d bounds i) fed)
 

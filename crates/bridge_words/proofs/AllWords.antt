@@ -37,11 +37,13 @@ walk_fault-past name seen (x ∷ words) = walk_fault-past name (seen ++ x ∷ []
 abbrev asked_at : Kinds → Walk → Option Form
 asked_at step w =
     taken (or_else step (or_else (entered_fault built_app w.stopped)
-    (or_else (settle_fault [] false w.held) (or_else (defaults_fault (settled [] w.held).rows []) (check_fault top_shape (finished [] w.held) (is_some (entered built_app w.stopped)))))))
+    (or_else (settle_fault [] false w.held)
+    (or_else (defaults_fault (settled [] w.held).rows []) (check_fault top_shape (finished [] w.held) (is_some (entered built_app w.stopped)))))))
     (read (entered built_app w.stopped))
 
 -- the words after a subcommand are left to it
-asked_at-name : (name : Text) (words : List Text) → asked_at (walk_fault top_shape names (at name []) words) (fold (walked [] names) (at name []) words) ≡ asked_at [] (at name words)
+asked_at-name : (name : Text) (words : List Text) → asked_at (walk_fault top_shape names (at name []) words) (fold (walked [] names) (at name []) words)
+    ≡ asked_at [] (at name words)
 asked_at-name name words = ap₂ asked_at (walk_fault-past name [] words) (sym (walk_stopped [] names (walk_from nothing_held) name [] words))
 
 -- nothing is at fault after the last words
@@ -55,7 +57,8 @@ Asks words = taken (fault_of bridge_app words) (read (subcommand_of bridge_app w
 
 -- two texts that differ, the other way round
 bytes_eq-turned : (xs ys : Text) → bytes_eq xs ys ≡ false → bytes_eq ys xs ≡ false
-bytes_eq-turned xs ys n = one_answer (bytes_eq ys xs) (bytes_eq xs ys) (bytes_eq-Decides ys xs) (λ e. sym ((bytes_eq-Decides xs ys).0 e), λ e. (bytes_eq-Decides xs ys).1 (sym e)) ∙ n
+bytes_eq-turned xs ys n = one_answer (bytes_eq ys xs) (bytes_eq xs ys) (bytes_eq-Decides ys xs)
+    (λ e. sym ((bytes_eq-Decides xs ys).0 e), λ e. (bytes_eq-Decides xs ys).1 (sym e)) ∙ n
 
 module _ (program : Text) (ws : List Text) (h : AllByRecursion Kind ws) where
   -- so it is with each subcommand
@@ -65,11 +68,13 @@ module _ (program : Text) (ws : List Text) (h : AllByRecursion Kind ws) where
 
   translate-asks : Asks (program ∷ codes "translate" ∷ ws)
   unfolding walked walk_fault defaults_fault
-  translate-asks = asked_at-name (codes "translate") ws ∙ or_else-nil (fault translate_leaf ws) (read_translate (rows_after translate_leaf.rules [] ws)) ∙ translate-words ws h
+  translate-asks = asked_at-name (codes "translate") ws ∙ or_else-nil (fault translate_leaf ws) (read_translate (rows_after translate_leaf.rules [] ws))
+      ∙ translate-words ws h
 
   show-asks : Asks (program ∷ codes "show" ∷ ws)
   unfolding walked walk_fault defaults_fault
-  show-asks = asked_at-name (codes "show") ws ∙ or_else-nil (fault (files_leaf (codes "show")) ws) (read_files show (rows_after (files_leaf (codes "show")).rules [] ws)) ∙ files-words (codes "show") show ws h
+  show-asks = asked_at-name (codes "show") ws ∙ or_else-nil (fault (files_leaf (codes "show")) ws)
+      (read_files show (rows_after (files_leaf (codes "show")).rules [] ws)) ∙ files-words (codes "show") show ws h
 
   check-asks : Asks (program ∷ codes "check" ∷ ws)
   unfolding walked walk_fault defaults_fault
@@ -85,7 +90,9 @@ module _ (program : Text) (ws : List Text) (h : AllByRecursion Kind ws) where
 
   article-asks : Asks (program ∷ codes "article" ∷ ws)
   unfolding walked walk_fault defaults_fault
-  article-asks = asked_at-name (codes "article") ws ∙ or_else-nil (fault (files_leaf (codes "article")) ws) (read_files Form.article (rows_after (files_leaf (codes "article")).rules [] ws)) ∙ files-words (codes "article") Form.article ws h
+  article-asks = asked_at-name (codes "article") ws
+      ∙ or_else-nil (fault (files_leaf (codes "article")) ws) (read_files Form.article (rows_after (files_leaf (codes "article")).rules [] ws))
+      ∙ files-words (codes "article") Form.article ws h
 
   -- a word that is no subcommand's name
   no-name : (b : ℕ) (bs : Text) → (b == 45) ≡ false
@@ -94,7 +101,23 @@ module _ (program : Text) (ws : List Text) (h : AllByRecursion Kind ws) where
       → bytes_eq (b ∷ bs) (codes "article") ≡ false → Asks (program ∷ (b ∷ bs) ∷ ws)
   unfolding walked walk_fault defaults_fault
   no-name b bs e v t c s d r a =
-      simp (e, v, t, c, s, d, r, a, bytes_eq-turned (b ∷ bs) (codes "verify") v, bytes_eq-turned (b ∷ bs) (codes "translate") t, bytes_eq-turned (b ∷ bs) (codes "check") c, bytes_eq-turned (b ∷ bs) (codes "show") s, bytes_eq-turned (b ∷ bs) (codes "decode") d, bytes_eq-turned (b ∷ bs) (codes "trial") r, bytes_eq-turned (b ∷ bs) (codes "article") a) refl
+      simp (
+        e,
+        v,
+        t,
+        c,
+        s,
+        d,
+        r,
+        a,
+        bytes_eq-turned (b ∷ bs) (codes "verify") v,
+        bytes_eq-turned (b ∷ bs) (codes "translate") t,
+        bytes_eq-turned (b ∷ bs) (codes "check") c,
+        bytes_eq-turned (b ∷ bs) (codes "show") s,
+        bytes_eq-turned (b ∷ bs) (codes "decode") d,
+        bytes_eq-turned (b ∷ bs) (codes "trial") r,
+        bytes_eq-turned (b ∷ bs) (codes "article") a,
+      ) refl
 
   -- a first word, whatever it is
   first-asks : (w : Text) → Kind w → Asks (program ∷ w ∷ ws)
@@ -106,13 +129,16 @@ module _ (program : Text) (ws : List Text) (h : AllByRecursion Kind ws) where
   first-asks w (fast_valued value) = refl
   first-asks w (share_valued value) = refl
   first-asks w (other c cs o) = refl
-  first-asks w (file b bs e) = go (bytes_eq w (codes "verify")) refl (bytes_eq w (codes "translate")) refl (bytes_eq w (codes "check")) refl (bytes_eq w (codes "show")) refl (bytes_eq w (codes "decode")) refl (bytes_eq w (codes "trial")) refl (bytes_eq w (codes "article")) refl
+  first-asks w (file b bs e) = go (bytes_eq w (codes "verify")) refl (bytes_eq w (codes "translate")) refl (bytes_eq w (codes "check")) refl
+      (bytes_eq w (codes "show")) refl (bytes_eq w (codes "decode")) refl (bytes_eq w (codes "trial")) refl (bytes_eq w (codes "article")) refl
     where
       is : (name : Text) → bytes_eq (b ∷ bs) name ≡ true → Asks (program ∷ name ∷ ws) → Asks (program ∷ (b ∷ bs) ∷ ws)
       is name same asks = subst (λ x. Asks (program ∷ x ∷ ws)) (sym ((bytes_eq-Decides (b ∷ bs) name).0 same)) asks
 
-      go : (v : Bool) → bytes_eq (b ∷ bs) (codes "verify") ≡ v → (t : Bool) → bytes_eq (b ∷ bs) (codes "translate") ≡ t → (c : Bool) → bytes_eq (b ∷ bs) (codes "check") ≡ c
-          → (s : Bool) → bytes_eq (b ∷ bs) (codes "show") ≡ s → (d : Bool) → bytes_eq (b ∷ bs) (codes "decode") ≡ d → (r : Bool) → bytes_eq (b ∷ bs) (codes "trial") ≡ r
+      go : (v : Bool) → bytes_eq (b ∷ bs) (codes "verify") ≡ v → (t : Bool) → bytes_eq (b ∷ bs) (codes "translate") ≡ t → (c : Bool)
+          → bytes_eq (b ∷ bs) (codes "check") ≡ c
+          → (s : Bool) → bytes_eq (b ∷ bs) (codes "show") ≡ s → (d : Bool) → bytes_eq (b ∷ bs) (codes "decode") ≡ d → (r : Bool)
+          → bytes_eq (b ∷ bs) (codes "trial") ≡ r
           → (a : Bool) → bytes_eq (b ∷ bs) (codes "article") ≡ a → Asks (program ∷ (b ∷ bs) ∷ ws)
       go true v t t2 c c2 s s2 d d2 r r2 a a2 = is (codes "verify") v verify-asks
       go false v true t c c2 s s2 d d2 r r2 a a2 = is (codes "translate") t translate-asks

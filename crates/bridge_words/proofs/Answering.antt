@@ -38,11 +38,13 @@ module _ {Z : Type 0} where
   both-rows None name rows e f = absurd (true≢false (ap is_some e))
   both-rows (Some b) name rows e f = ap₂ (λ n r. Some (n, r)) (same_Some _ _ e) (same_Some _ _ f)
 
-  no-rows : (o : Option (Box SubCommand Z)) → None ≡ option_map (λ b. (out-SubCommand (box_value b)).name.now) o → ◌≡◌ {A = Option (Text × List Row)} None (subcommand_rows o)
+  no-rows : (o : Option (Box SubCommand Z)) → None ≡ option_map (λ b. (out-SubCommand (box_value b)).name.now) o
+      → ◌≡◌ {A = Option (Text × List Row)} None (subcommand_rows o)
   no-rows None e = refl
   no-rows (Some b) e = absurd (true≢false (sym (ap is_some e)))
 
-pub named-rows : (m : ArgMatches) (name : Text) (rows : List Row) → Some name ≡ subcommand_name_of m → Some rows ≡ option_map (λ p. p.1) (subcommand_rows (out-ArgMatches m).subcommand)
+pub named-rows : (m : ArgMatches) (name : Text) (rows : List Row) → Some name ≡ subcommand_name_of m → Some rows
+    ≡ option_map (λ p. p.1) (subcommand_rows (out-ArgMatches m).subcommand)
     → Some (name, rows) ≡ subcommand_rows_of m
 named-rows m name rows e f = both-rows (out-ArgMatches m).subcommand name rows e f
 
@@ -52,7 +54,8 @@ unnamed-rows m e = no-rows (out-ArgMatches m).subcommand e
 -- ---- words that are handed to `clap`
 
 -- the loop over the words after the first is over those that are to be readable
-pub each-readable : (words : List (String Global)) → list_all (λ word. is_readable (string_bytes word)) (take (length words - 1) (drop 1 words)) ≡ are_readable (drop 1 (names_in words))
+pub each-readable : (words : List (String Global)) → list_all (λ word. is_readable (string_bytes word)) (take (length words - 1) (drop 1 words))
+    ≡ are_readable (drop 1 (names_in words))
 each-readable [] = refl
 each-readable (program ∷ words) =
     let all : take (suc (length words) - 1) words ≡ words = take_all (suc (length words) - 1) words (omega arith) in
@@ -88,8 +91,10 @@ refused-None _ form e = e
 -- .. and so is what is refused, want of memory aside
 pub refused-form : (app : App) (words : List Text) (k : ErrorKind) → app ≡ bridge_app → true ≡ are_readable (drop 1 words)
     → (is_simple_and_free app ≡ true → (k ≡ OutOfMemory) ⊎ IsAmong k (fault_of app words)) → IfOk (refused k) (λ found. option_map asked found ≡ form_of words)
-refused-form app words k is e kind = go (subst (λ (a : App). is_simple_and_free a ≡ true → (k ≡ OutOfMemory) ⊎ IsAmong k (fault_of a words)) is kind simple_and_free)
+refused-form app words k is e kind = go
+    (subst (λ (a : App). is_simple_and_free a ≡ true → (k ≡ OutOfMemory) ⊎ IsAmong k (fault_of a words)) is kind simple_and_free)
   where
     go : (k ≡ OutOfMemory) ⊎ IsAmong k (fault_of bridge_app words) → IfOk (refused k) (λ found. option_map asked found ≡ form_of words)
     go (inl memory) = subst (λ j. IfOk (refused j) (λ found. option_map asked found ≡ form_of words)) (sym memory) tt
-    go (inr among) = refused-None k (form_of words) (among-some k (fault_of bridge_app words) (read (subcommand_of bridge_app words)) (form_of words) among (asks words e))
+    go (inr among) = refused-None k (form_of words)
+        (among-some k (fault_of bridge_app words) (read (subcommand_of bridge_app words)) (form_of words) among (asks words e))

@@ -45,7 +45,8 @@ next-file (x ∷ ws) w b bs e = simp e refl
 -- what is at fault at the end of a walk
 abbrev end_fault : Text → Walk → Kinds
 end_fault name w =
-    or_else (settle_fault (rule ∷ []) false w.held) (or_else (defaults_fault (settled (rule ∷ []) w.held).rows (rule ∷ [])) (check_fault (files_leaf name) (finished (rule ∷ []) w.held) false))
+    or_else (settle_fault (rule ∷ []) false w.held)
+    (or_else (defaults_fault (settled (rule ∷ []) w.held).rows (rule ∷ [])) (check_fault (files_leaf name) (finished (rule ∷ []) w.held) false))
 
 -- what is asked for from where a walk stands, of which the next step has a fault
 abbrev asked_from : Text → (List Text → Form) → Kinds → Walk → List Text → Option Form
@@ -73,11 +74,14 @@ module _ (name : Text) (form : List Text → Form) where
   files-after [] h ws w = ended ws w
   files-after (x ∷ rest) h ws w = go x h.0 (files-after rest h.1)
     where
-      go : (x : Text) → Kind x → ((vs : List Text) (v : Text) → asked_from name form [] (after vs v) rest ≡ (if list_all is_file rest then Some (form (vs ++ v ∷ rest)) else None))
+      go : (x : Text) → Kind x
+          → ((vs : List Text) (v : Text) → asked_from name form [] (after vs v) rest ≡ (if list_all is_file rest then Some (form (vs ++ v ∷ rest)) else None))
           → asked_from name form [] (after ws w) (x ∷ rest) ≡ (if list_all is_file (x ∷ rest) then Some (form (ws ++ w ∷ x ∷ rest)) else None)
       go x (file b bs e) more =
-          let left : asked_from name form [] (after ws w) ((b ∷ bs) ∷ rest) ≡ (if list_all is_file rest then Some (form (ws ++ w ∷ (b ∷ bs) ∷ rest)) else None) =
-          step ws w b bs rest e ∙ more (ws ++ w ∷ []) (b ∷ bs) ∙ ap (λ files. if list_all is_file rest then Some (form files) else None) (append_assoc ws (w ∷ []) ((b ∷ bs) ∷ rest)) in
+          let left : asked_from name form [] (after ws w) ((b ∷ bs) ∷ rest)
+          ≡ (if list_all is_file rest then Some (form (ws ++ w ∷ (b ∷ bs) ∷ rest)) else None) =
+          step ws w b bs rest e ∙ more (ws ++ w ∷ []) (b ∷ bs)
+          ∙ ap (λ files. if list_all is_file rest then Some (form files) else None) (append_assoc ws (w ∷ []) ((b ∷ bs) ∷ rest)) in
           let right : list_all is_file ((b ∷ bs) ∷ rest) ≡ list_all is_file rest = simp e refl in
           left ∙ ap (λ all. if all then Some (form (ws ++ w ∷ (b ∷ bs) ∷ rest)) else None) (sym right)
       go x budget more = refl
@@ -96,12 +100,14 @@ module _ (name : Text) (form : List Text → Form) where
       first-fault : (b : ℕ) (bs : Text) → (b == 45) ≡ false → turn_fault (files_leaf name) [] (walk_from nothing_held) (b ∷ bs) ≡ []
       first-fault b bs e = simp e refl
 
-  pub files-words : (ws : List Text) → AllByRecursion Kind ws → taken (fault (files_leaf name) ws) (read_files form (rows_after (files_leaf name).rules [] ws)) ≡ files_form form ws
+  pub files-words : (ws : List Text) → AllByRecursion Kind ws → taken (fault (files_leaf name) ws) (read_files form (rows_after (files_leaf name).rules [] ws))
+      ≡ files_form form ws
   unfolding walked walk_fault defaults_fault
   files-words [] h = refl
   files-words (x ∷ rest) h = go x h.0 (files-after rest h.1)
     where
-      go : (x : Text) → Kind x → ((vs : List Text) (v : Text) → asked_from name form [] (after vs v) rest ≡ (if list_all is_file rest then Some (form (vs ++ v ∷ rest)) else None))
+      go : (x : Text) → Kind x
+          → ((vs : List Text) (v : Text) → asked_from name form [] (after vs v) rest ≡ (if list_all is_file rest then Some (form (vs ++ v ∷ rest)) else None))
           → asked_from name form [] (walk_from nothing_held) (x ∷ rest) ≡ files_form form (x ∷ rest)
       go x (file b bs e) more =
           let right : are_files ((b ∷ bs) ∷ rest) ≡ list_all is_file rest = simp e refl in

@@ -50,7 +50,8 @@ no-default rows a e = go (has_row a.id rows)
     go true = refl
     go false = ap (λ ds. default_rows a.id (reading_by a) ds rows) e
 
-pub flag-default : (name : Text) (x : Bool) (rows : List Row) → row_at name rows ≡ row_if x (flag_row name) → with_default rows (flag_arg name) ≡ with_flag name x rows
+pub flag-default : (name : Text) (x : Bool) (rows : List Row) → row_at name rows ≡ row_if x (flag_row name) → with_default rows (flag_arg name)
+    ≡ with_flag name x rows
 flag-default name true rows h = rw (has_flag name true rows h) refl
 flag-default name false rows h = rw (has_flag name false rows h) (with_values-None name (reading_by (flag_arg name)) DefaultValue (codes "false" ∷ []) rows h)
 
@@ -68,7 +69,8 @@ says-row_if name true row h = rw h refl
 says-row_if name false row h = rw h refl
 
 -- a flag is found where it is among the words
-pub flag_in-with_flag : (name : Text) (x : Bool) (rows : List Row) → bytes_eq name name ≡ true → row_at name rows ≡ row_if x (flag_row name) → flag_in name (with_flag name x rows) ≡ x
+pub flag_in-with_flag : (name : Text) (x : Bool) (rows : List Row) → bytes_eq name name ≡ true → row_at name rows ≡ row_if x (flag_row name)
+    → flag_in name (with_flag name x rows) ≡ x
 flag_in-with_flag name true rows e h = says-row_if name true (row_at name rows) h
 flag_in-with_flag name false rows e h = ap says (row_at-same name (default_row name) rows e h)
 

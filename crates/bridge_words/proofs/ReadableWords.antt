@@ -60,14 +60,16 @@ text-name_of : (text : List ℕ) → (text ≡ name_of text) ⊎ ((rest : List �
 text-name_of [] = inl refl
 text-name_of (x ∷ xs) = go (x == 61) refl (text-name_of xs)
   where
-    go : (b : Bool) → (x == 61) ≡ b → (xs ≡ name_of xs) ⊎ ((rest : List ℕ) × (xs ≡ name_of xs ++ 61 ∷ rest)) → ((x ∷ xs) ≡ name_of (x ∷ xs)) ⊎ ((rest : List ℕ) × ((x ∷ xs) ≡ name_of (x ∷ xs) ++ 61 ∷ rest))
+    go : (b : Bool) → (x == 61) ≡ b → (xs ≡ name_of xs) ⊎ ((rest : List ℕ) × (xs ≡ name_of xs ++ 61 ∷ rest)) → ((x ∷ xs) ≡ name_of (x ∷ xs))
+        ⊎ ((rest : List ℕ) × ((x ∷ xs) ≡ name_of (x ∷ xs) ++ 61 ∷ rest))
     go true e more = inr (xs, ap (λ y. y ∷ xs) ((Decides-eqb x 61).0 e) ∙ sym (ap (λ name. name ++ 61 ∷ xs) (name_of-sign x xs e)))
     go false e (inl same) = inl (ap (λ ys. x ∷ ys) same ∙ sym (name_of-other x xs e))
     go false e (inr p) = inr (p.0, ap (λ ys. x ∷ ys) p.1 ∙ sym (ap (λ name. name ++ 61 ∷ p.0) (name_of-other x xs e)))
 
 -- two dashes and more
 dashes-Kind : (c : ℕ) (cs : List ℕ) → Kind (45 ∷ 45 ∷ c ∷ cs)
-dashes-Kind c cs = go (bytes_eq (codes "budget") (name_of (c ∷ cs))) refl (bytes_eq (codes "fast") (name_of (c ∷ cs))) refl (bytes_eq (codes "share") (name_of (c ∷ cs))) refl
+dashes-Kind c cs = go (bytes_eq (codes "budget") (name_of (c ∷ cs))) refl (bytes_eq (codes "fast") (name_of (c ∷ cs))) refl
+    (bytes_eq (codes "share") (name_of (c ∷ cs))) refl
   where
     -- an option by its name, alone or with `=` and more
     of_name : (name : List ℕ) → Kind (45 ∷ 45 ∷ name) → ((rest : List ℕ) → Kind (45 ∷ 45 ∷ name ++ 61 ∷ rest)) → name ≡ name_of (c ∷ cs)
@@ -75,26 +77,34 @@ dashes-Kind c cs = go (bytes_eq (codes "budget") (name_of (c ∷ cs))) refl (byt
     of_name name alone more same (inl all) = subst (λ text. Kind (45 ∷ 45 ∷ text)) (same ∙ sym all) alone
     of_name name alone more same (inr p) = subst (λ text. Kind (45 ∷ 45 ∷ text)) (ap (λ name. name ++ 61 ∷ p.0) same ∙ sym p.1) (more p.0)
 
-    not_named : bytes_eq (codes "budget") (name_of (c ∷ cs)) ≡ false → (b : Bool) → bytes_eq (take 9 (45 ∷ 45 ∷ c ∷ cs)) (codes "--budget=") ≡ b → bytes_eq (take 9 (45 ∷ 45 ∷ c ∷ cs)) (codes "--budget=") ≡ false
+    not_named : bytes_eq (codes "budget") (name_of (c ∷ cs)) ≡ false → (b : Bool) → bytes_eq (take 9 (45 ∷ 45 ∷ c ∷ cs)) (codes "--budget=") ≡ b
+        → bytes_eq (take 9 (45 ∷ 45 ∷ c ∷ cs)) (codes "--budget=") ≡ false
     not_named e false m = m
     not_named e true m =
         let front = (bytes_eq-Decides (take 9 (45 ∷ 45 ∷ c ∷ cs)) (codes "--budget=")).0 m in
-        let all : 45 ∷ 45 ∷ c ∷ cs ≡ codes "--budget=" ++ drop 9 (45 ∷ 45 ∷ c ∷ cs) = sym (take-append-drop 9 (45 ∷ 45 ∷ c ∷ cs)) ∙ ap (λ front. front ++ drop 9 (45 ∷ 45 ∷ c ∷ cs)) front in
+        let all : 45 ∷ 45 ∷ c ∷ cs ≡ codes "--budget=" ++ drop 9 (45 ∷ 45 ∷ c ∷ cs) =
+        sym (take-append-drop 9 (45 ∷ 45 ∷ c ∷ cs)) ∙ ap (λ front. front ++ drop 9 (45 ∷ 45 ∷ c ∷ cs)) front in
         let bad : true ≡ false = ap (λ word. bytes_eq (codes "budget") (name_of (drop 2 word))) (sym all) ∙ e in
         absurd (true≢false bad)
 
     -- a word whose name is another is not that option
-    not_option : (name : List ℕ) → bytes_eq name (name_of (c ∷ cs)) ≡ false → name_of name ≡ name → (b : Bool) → bytes_eq (45 ∷ 45 ∷ c ∷ cs) (45 ∷ 45 ∷ name) ≡ b → bytes_eq (45 ∷ 45 ∷ c ∷ cs) (45 ∷ 45 ∷ name) ≡ false
+    not_option : (name : List ℕ) → bytes_eq name (name_of (c ∷ cs)) ≡ false → name_of name ≡ name → (b : Bool) → bytes_eq (45 ∷ 45 ∷ c ∷ cs) (45 ∷ 45 ∷ name)
+        ≡ b → bytes_eq (45 ∷ 45 ∷ c ∷ cs) (45 ∷ 45 ∷ name) ≡ false
     not_option name e own false o = o
     not_option name e own true o =
         let all = (bytes_eq-Decides (45 ∷ 45 ∷ c ∷ cs) (45 ∷ 45 ∷ name)).0 o in
-        let bad : true ≡ false = sym ((bytes_eq-Decides name name).1 refl) ∙ ap (λ text. bytes_eq name text) (sym own) ∙ ap (λ word. bytes_eq name (name_of (drop 2 word))) (sym all) ∙ e in
+        let bad : true ≡ false = sym ((bytes_eq-Decides name name).1 refl) ∙ ap (λ text. bytes_eq name text) (sym own) ∙ ap
+        (λ word. bytes_eq name (name_of (drop 2 word))) (sym all) ∙ e in
         absurd (true≢false bad)
 
-    go : (b : Bool) → bytes_eq (codes "budget") (name_of (c ∷ cs)) ≡ b → (f : Bool) → bytes_eq (codes "fast") (name_of (c ∷ cs)) ≡ f → (s : Bool) → bytes_eq (codes "share") (name_of (c ∷ cs)) ≡ s → Kind (45 ∷ 45 ∷ c ∷ cs)
-    go true e f g s k = of_name (codes "budget") budget (λ rest. named rest) ((bytes_eq-Decides (codes "budget") (name_of (c ∷ cs))).0 e) (text-name_of (c ∷ cs))
-    go false e true g s k = of_name (codes "fast") fast (λ rest. fast_valued rest) ((bytes_eq-Decides (codes "fast") (name_of (c ∷ cs))).0 g) (text-name_of (c ∷ cs))
-    go false e false g true k = of_name (codes "share") share (λ rest. share_valued rest) ((bytes_eq-Decides (codes "share") (name_of (c ∷ cs))).0 k) (text-name_of (c ∷ cs))
+    go : (b : Bool) → bytes_eq (codes "budget") (name_of (c ∷ cs)) ≡ b → (f : Bool) → bytes_eq (codes "fast") (name_of (c ∷ cs)) ≡ f → (s : Bool)
+        → bytes_eq (codes "share") (name_of (c ∷ cs)) ≡ s → Kind (45 ∷ 45 ∷ c ∷ cs)
+    go true e f g s k = of_name (codes "budget") budget (λ rest. named rest) ((bytes_eq-Decides (codes "budget") (name_of (c ∷ cs))).0 e)
+        (text-name_of (c ∷ cs))
+    go false e true g s k = of_name (codes "fast") fast (λ rest. fast_valued rest) ((bytes_eq-Decides (codes "fast") (name_of (c ∷ cs))).0 g)
+        (text-name_of (c ∷ cs))
+    go false e false g true k = of_name (codes "share") share (λ rest. share_valued rest) ((bytes_eq-Decides (codes "share") (name_of (c ∷ cs))).0 k)
+        (text-name_of (c ∷ cs))
     go false e false g false k = other c cs (record {
       budget_name = e;
       fast_name = g;
@@ -114,13 +124,15 @@ is_readable-Kind (b ∷ c ∷ d ∷ ds) h = go (b == 45) refl (c == 45) refl h
   where
     go : (x : Bool) → (b == 45) ≡ x → (y : Bool) → (c == 45) ≡ y → (not x || y) ≡ true → Kind (b ∷ c ∷ d ∷ ds)
     go false e y f h = file b (c ∷ d ∷ ds) e
-    go true e true f h = subst (λ p. Kind (p ∷ c ∷ d ∷ ds)) (sym ((Decides-eqb b 45).0 e)) (subst (λ q. Kind (45 ∷ q ∷ d ∷ ds)) (sym ((Decides-eqb c 45).0 f)) (dashes-Kind d ds))
+    go true e true f h = subst (λ p. Kind (p ∷ c ∷ d ∷ ds)) (sym ((Decides-eqb b 45).0 e))
+        (subst (λ q. Kind (45 ∷ q ∷ d ∷ ds)) (sym ((Decides-eqb c 45).0 f)) (dashes-Kind d ds))
     go true e false f h = absurd (true≢false (sym h))
 
 -- .. and so is each of some words
 pub are_readable-Kinds : (words : List (List ℕ)) → are_readable words ≡ true → AllByRecursion Kind words
 are_readable-Kinds [] h = tt
-are_readable-Kinds (word ∷ words) h = let parts = and-both (is_readable word) (are_readable words) h in (is_readable-Kind word parts.0, are_readable-Kinds words parts.1)
+are_readable-Kinds (word ∷ words) h = let parts = and-both (is_readable word) (are_readable words) h in
+    (is_readable-Kind word parts.0, are_readable-Kinds words parts.1)
 
 -- ---- words that are not
 
@@ -161,7 +173,8 @@ Odd-IsNothing : (word : List ℕ) → Odd word → IsNothing word
 Odd-IsNothing word empty = record { file = refl; alone = refl; share = refl; named = refl; fast = refl; number = λ most. refl; asks = λ words. refl }
 Odd-IsNothing word dash = record { file = refl; alone = refl; share = refl; named = refl; fast = refl; number = λ most. refl; asks = λ words. refl }
 Odd-IsNothing word dashes = record { file = refl; alone = refl; share = refl; named = refl; fast = refl; number = λ most. refl; asks = λ words. refl }
-Odd-IsNothing word (short c cs e) = record { file = refl; alone = simp e refl; share = simp e refl; named = simp e refl; fast = simp e refl; number = λ most. refl; asks = λ words. refl }
+Odd-IsNothing word (short c cs e) = record
+    { file = refl; alone = simp e refl; share = simp e refl; named = simp e refl; fast = simp e refl; number = λ most. refl; asks = λ words. refl }
 
 unreadable-IsNothing : (word : List ℕ) → is_readable word ≡ false → IsNothing word
 unreadable-IsNothing word h = Odd-IsNothing word (unreadable-Odd word h)
@@ -176,7 +189,8 @@ check_after-unreadable : (g : Checking) (b : Bool) (words : List (List ℕ)) →
 check_after-unreadable g b [] h = absurd (true≢false h)
 check_after-unreadable g b (w ∷ ws) h = go (is_readable w) refl h b (λ g b. check_after-unreadable g b ws)
   where
-    go : (x : Bool) → is_readable w ≡ x → (x && are_readable ws) ≡ false → (b : Bool) → ((g : Checking) (b : Bool) → are_readable ws ≡ false → check_after g b ws ≡ None) → check_after g b (w ∷ ws) ≡ None
+    go : (x : Bool) → is_readable w ≡ x → (x && are_readable ws) ≡ false → (b : Bool)
+        → ((g : Checking) (b : Bool) → are_readable ws ≡ false → check_after g b ws ≡ None) → check_after g b (w ∷ ws) ≡ None
     go false e h true more = rw (unreadable-IsNothing w e).file refl
     go false e h false more = let no = unreadable-IsNothing w e in rw (no.fast, no.alone, no.named, no.file) refl
     go true e h true more = neither (is_file w) _ None (more (record g { budget = Some w }) false h) refl
@@ -194,7 +208,8 @@ run_after-unreadable : (z : Bool) (form : Running → Form) (g : Running) (words
 run_after-unreadable z form g [] h = absurd (true≢false h)
 run_after-unreadable z form g (w ∷ ws) h = go (is_readable w) refl h (λ g. run_after-unreadable z form g ws)
   where
-    go : (x : Bool) → is_readable w ≡ x → (x && are_readable ws) ≡ false → ((g : Running) → are_readable ws ≡ false → run_after z form g ws ≡ None) → run_after z form g (w ∷ ws) ≡ None
+    go : (x : Bool) → is_readable w ≡ x → (x && are_readable ws) ≡ false → ((g : Running) → are_readable ws ≡ false → run_after z form g ws ≡ None)
+        → run_after z form g (w ∷ ws) ≡ None
     go false e h more = let no = unreadable-IsNothing w e in rw (no.share, no.fast, and_false z, no.file) refl
     go true e h more =
         neither (bytes_eq w (codes "--share")) _ _ (neither g.share None _ refl (more (record g { share = true }) h))
@@ -212,7 +227,8 @@ are_files-unreadable : (words : List (List ℕ)) → are_readable words ≡ fals
 are_files-unreadable [] h = h
 are_files-unreadable (word ∷ words) h = go (is_readable word) refl h (are_files-unreadable words)
   where
-    go : (x : Bool) → is_readable word ≡ x → (x && are_readable words) ≡ false → (are_readable words ≡ false → list_all is_file words ≡ false) → list_all is_file (word ∷ words) ≡ false
+    go : (x : Bool) → is_readable word ≡ x → (x && are_readable words) ≡ false → (are_readable words ≡ false → list_all is_file words ≡ false)
+        → list_all is_file (word ∷ words) ≡ false
     go false e h more = rw (unreadable-IsNothing word e).file refl
     go true e h more = rw (more h) (and_false (is_file word))
 
@@ -231,8 +247,10 @@ trial_form-unreadable (a ∷ []) h = ap (option_map trial) ((unreadable-IsNothin
 trial_form-unreadable (a ∷ b ∷ words) h = refl
 
 -- whichever name the first word is, there is no form
-none_of : (v t c s d r a : Bool) (verifies translates checks shows decodes tries writes : Option Form) → verifies ≡ None → translates ≡ None → checks ≡ None → shows ≡ None → decodes ≡ None → tries ≡ None → writes ≡ None
-    → (if v then verifies else if t then translates else if c then checks else if s then shows else if d then decodes else if r then tries else if a then writes else None) ≡ None
+none_of : (v t c s d r a : Bool) (verifies translates checks shows decodes tries writes : Option Form) → verifies ≡ None → translates ≡ None → checks ≡ None
+    → shows ≡ None → decodes ≡ None → tries ≡ None → writes ≡ None
+    → (if v then verifies else if t then translates else if c then checks else if s then shows else if d then decodes else if r then tries else if a then writes
+    else None) ≡ None
 none_of true t c s d r a f1 f2 f3 f4 f5 f6 f7 h1 h2 h3 h4 h5 h6 h7 = h1
 none_of false true c s d r a f1 f2 f3 f4 f5 f6 f7 h1 h2 h3 h4 h5 h6 h7 = h2
 none_of false false true s d r a f1 f2 f3 f4 f5 f6 f7 h1 h2 h3 h4 h5 h6 h7 = h3
@@ -250,6 +268,9 @@ form_after-unreadable (word ∷ words) h = go (is_readable word) refl h
     go : (x : Bool) → is_readable word ≡ x → (x && are_readable words) ≡ false → form_by word words ≡ None
     go false e h = (unreadable-IsNothing word e).asks words
     go true e h =
-        none_of (bytes_eq word (codes "verify")) (bytes_eq word (codes "translate")) (bytes_eq word (codes "check")) (bytes_eq word (codes "show")) (bytes_eq word (codes "decode")) (bytes_eq word (codes "trial")) (bytes_eq word (codes "article"))
-        (verify_form words) (translate_form words) (check_form words) (files_form show words) (decode_form words) (trial_form words) (files_form Form.article words)
-        (verify_form-unreadable words h) (translate_form-unreadable words h) (check_form-unreadable words h) (files_form-unreadable show words h) (decode_form-unreadable words h) (trial_form-unreadable words h) (files_form-unreadable Form.article words h)
+        none_of (bytes_eq word (codes "verify")) (bytes_eq word (codes "translate")) (bytes_eq word (codes "check")) (bytes_eq word (codes "show"))
+        (bytes_eq word (codes "decode")) (bytes_eq word (codes "trial")) (bytes_eq word (codes "article"))
+        (verify_form words) (translate_form words) (check_form words) (files_form show words) (decode_form words) (trial_form words)
+        (files_form Form.article words)
+        (verify_form-unreadable words h) (translate_form-unreadable words h) (check_form-unreadable words h) (files_form-unreadable show words h)
+        (decode_form-unreadable words h) (trial_form-unreadable words h) (files_form-unreadable Form.article words h)

@@ -63,7 +63,8 @@ record Shows (g : Running) (rows : List Row) : Type 0 where
   fast : row_at (codes "fast") rows ≡ row_if g.fast fast_row
 
 -- one more file
-Shows-file : (fs : List Text) (s x : Bool) (rows : List Row) (w : Text) → Shows (running fs s x) rows → Shows (running (fs ++ w ∷ []) s x) (used files_arg (w ∷ []) rows)
+Shows-file : (fs : List Text) (s x : Bool) (rows : List Row) (w : Text) → Shows (running fs s x) rows
+    → Shows (running (fs ++ w ∷ []) s x) (used files_arg (w ∷ []) rows)
 Shows-file [] s x rows w h =
     let last = with_values-None (codes "file") (reading_by files_arg) CommandLine (w ∷ []) rows h.files in
     record {
@@ -72,9 +73,12 @@ Shows-file [] s x rows w h =
       fast = ap (row_at (codes "fast")) last ∙ row_at-other (codes "fast") (row_of_use files_arg (w ∷ [])) rows refl ∙ h.fast;
     }
 Shows-file (f ∷ fs) s x rows w h = record {
-  files = row_at-changed (codes "file") (more_values CommandLine (w ∷ [])) (row_of_use files_arg (w ∷ []) ∷ []) rows (row_of_use files_arg (f ∷ fs)) (row_of_use files_arg (f ∷ fs ++ w ∷ [])) h.files refl refl;
-  share = row_at-kept (codes "file") (codes "share") (more_values CommandLine (w ∷ [])) (row_of_use files_arg (w ∷ []) ∷ []) rows (row_of_use files_arg (f ∷ fs)) (row_of_use files_arg (f ∷ fs ++ w ∷ [])) h.files refl refl refl ∙ h.share;
-  fast = row_at-kept (codes "file") (codes "fast") (more_values CommandLine (w ∷ [])) (row_of_use files_arg (w ∷ []) ∷ []) rows (row_of_use files_arg (f ∷ fs)) (row_of_use files_arg (f ∷ fs ++ w ∷ [])) h.files refl refl refl ∙ h.fast;
+  files = row_at-changed (codes "file") (more_values CommandLine (w ∷ [])) (row_of_use files_arg (w ∷ []) ∷ []) rows (row_of_use files_arg (f ∷ fs))
+      (row_of_use files_arg (f ∷ fs ++ w ∷ [])) h.files refl refl;
+  share = row_at-kept (codes "file") (codes "share") (more_values CommandLine (w ∷ [])) (row_of_use files_arg (w ∷ []) ∷ []) rows
+      (row_of_use files_arg (f ∷ fs)) (row_of_use files_arg (f ∷ fs ++ w ∷ [])) h.files refl refl refl ∙ h.share;
+  fast = row_at-kept (codes "file") (codes "fast") (more_values CommandLine (w ∷ [])) (row_of_use files_arg (w ∷ []) ∷ []) rows (row_of_use files_arg (f ∷ fs))
+      (row_of_use files_arg (f ∷ fs ++ w ∷ [])) h.files refl refl refl ∙ h.fast;
 }
 
 -- a flag
@@ -110,7 +114,8 @@ record Holds (z : Bool) (g : Running) (rs : List Row) (p : Pending) : Type 0 whe
 Holds-settled : (z : Bool) (g : Running) (rows : List Row) → Shows g rows → Holds z g rows None
 Holds-settled z g rows h = record { rows = rows; settles = refl; are = refl; shows = h }
 
-Holds-file : (z : Bool) (fs : List Text) (s x : Bool) (rows : List Row) (w : Text) → Shows (running fs s x) rows → Holds z (running (fs ++ w ∷ []) s x) rows (Some (codes "file", w ∷ []))
+Holds-file : (z : Bool) (fs : List Text) (s x : Bool) (rows : List Row) (w : Text) → Shows (running fs s x) rows
+    → Holds z (running (fs ++ w ∷ []) s x) rows (Some (codes "file", w ∷ []))
 Holds-file true fs s x rows w h = record { rows = used files_arg (w ∷ []) rows; settles = refl; are = refl; shows = Shows-file fs s x rows w h }
 Holds-file false fs s x rows w h = record { rows = used files_arg (w ∷ []) rows; settles = refl; are = refl; shows = Shows-file fs s x rows w h }
 
@@ -136,7 +141,8 @@ settles_to z rs p rows = (settle_fault (rules z) false (held rs p) ≡ []) × (s
 
 module _ (rs : List Row) (p : Pending) (rows : List Row) where
   -- a file
-  file-walks : (z y : Bool) (b : ℕ) (bs : Text) → settles_to z rs p rows → (b == 45) ≡ false → walked (rules z) [] (state y rs p) (b ∷ bs) ≡ state true rows (Some (codes "file", (b ∷ bs) ∷ []))
+  file-walks : (z y : Bool) (b : ℕ) (bs : Text) → settles_to z rs p rows → (b == 45) ≡ false → walked (rules z) [] (state y rs p) (b ∷ bs)
+      ≡ state true rows (Some (codes "file", (b ∷ bs) ∷ []))
   unfolding walked
   file-walks true true b bs h e = simp (e, and_false (is_pending files_arg p), h.1) refl
   file-walks true false b bs h e = simp (e, and_false (is_pending files_arg p), h.1) refl
@@ -150,7 +156,8 @@ module _ (rs : List Row) (p : Pending) (rows : List Row) where
   file-turns false false b bs h e = simp (e, and_false (is_pending files_arg p), h.0) refl
 
   -- `--share`, for the first time and again
-  share-walks : (z y : Bool) → settles_to z rs p rows → row_at (codes "share") rows ≡ None → walked (rules z) [] (state y rs p) (codes "--share") ≡ state false (rows ++ share_row ∷ []) None
+  share-walks : (z y : Bool) → settles_to z rs p rows → row_at (codes "share") rows ≡ None → walked (rules z) [] (state y rs p) (codes "--share")
+      ≡ state false (rows ++ share_row ∷ []) None
   unfolding walked
   share-walks true true h none = ap (λ (rows : List Row). state false rows None) (ap (used share_arg []) h.1 ∙ used-flag (codes "share") rows none)
   share-walks true false h none = ap (λ (rows : List Row). state false rows None) (ap (used share_arg []) h.1 ∙ used-flag (codes "share") rows none)
@@ -170,7 +177,8 @@ module _ (rs : List Row) (p : Pending) (rows : List Row) where
   share-again false false h there = simp (h.0, h.1, there) refl
 
   -- `--fast` after `verify`, for the first time and again
-  fast-walks : (y : Bool) → settles_to true rs p rows → row_at (codes "fast") rows ≡ None → walked (rules true) [] (state y rs p) (codes "--fast") ≡ state false (rows ++ fast_row ∷ []) None
+  fast-walks : (y : Bool) → settles_to true rs p rows → row_at (codes "fast") rows ≡ None → walked (rules true) [] (state y rs p) (codes "--fast")
+      ≡ state false (rows ++ fast_row ∷ []) None
   unfolding walked
   fast-walks true h none = ap (λ (rows : List Row). state false rows None) (ap (used fast_arg []) h.1 ∙ used-flag (codes "fast") rows none)
   fast-walks false h none = ap (λ (rows : List Row). state false rows None) (ap (used fast_arg []) h.1 ∙ used-flag (codes "fast") rows none)
@@ -226,11 +234,13 @@ module _ (rs : List Row) (p : Pending) where
 -- ---- what is asked for from where a walk stands
 
 abbrev end_fault : Bool → Walk → Kinds
-end_fault z w = or_else (settle_fault (rules z) false w.held) (or_else (defaults_fault (settled (rules z) w.held).rows (rules z)) (check_fault (run_leaf z) (finished (rules z) w.held) false))
+end_fault z w = or_else (settle_fault (rules z) false w.held)
+    (or_else (defaults_fault (settled (rules z) w.held).rows (rules z)) (check_fault (run_leaf z) (finished (rules z) w.held) false))
 
 abbrev asked_from : Bool → Kinds → Walk → List Text → Option Form
 asked_from z step w ws =
-    taken (or_else (or_else step (walk_fault (run_leaf z) [] w ws)) (end_fault z (fold (walked (rules z) []) w ws))) (read_run (made z) (finished (rules z) (fold (walked (rules z) []) w ws).held))
+    taken (or_else (or_else step (walk_fault (run_leaf z) [] w ws)) (end_fault z (fold (walked (rules z) []) w ws)))
+    (read_run (made z) (finished (rules z) (fold (walked (rules z) []) w ws).held))
 
 -- ---- the end of the words
 
@@ -252,7 +262,8 @@ finishes false g rows h = ap (λ rs. with_default rs share_arg) (no-default rows
 
 defaults-pass : (z : Bool) (rows : List Row) → defaults_fault rows (rules z) ≡ []
 unfolding defaults_fault
-defaults-pass true rows = simp (or_true (has_row (codes "file") rows), no-default rows files_arg refl) (go (has_row (codes "share") rows) (has_row (codes "fast") (with_default rows share_arg)))
+defaults-pass true rows = simp (or_true (has_row (codes "file") rows), no-default rows files_arg refl)
+    (go (has_row (codes "share") rows) (has_row (codes "fast") (with_default rows share_arg)))
   where
     go : (b c : Bool) → or_else (if b || false then [] else []) (or_else (if c || false then [] else []) []) ≡ []
     go true true = refl
@@ -268,7 +279,8 @@ defaults-pass false rows = simp (or_true (has_row (codes "file") rows), no-defau
 -- what is found at the end
 files-final : (z : Bool) (g : Running) (rows : List Row) → Shows g rows → row_at (codes "file") (final z g rows) ≡ files_row g.files
 files-final true g rows h =
-    row_at-with_flag (codes "fast") (codes "file") g.fast (with_flag (codes "share") g.share rows) refl ∙ row_at-with_flag (codes "share") (codes "file") g.share rows refl ∙ h.files
+    row_at-with_flag (codes "fast") (codes "file") g.fast (with_flag (codes "share") g.share rows) refl
+    ∙ row_at-with_flag (codes "share") (codes "file") g.share rows refl ∙ h.files
 files-final false g rows h = row_at-with_flag (codes "share") (codes "file") g.share rows refl ∙ h.files
 
 all-files : (fs : List Text) (row : Option Row) → row ≡ files_row fs → unwrap_or (option_map (λ r. r.values) row) [] ≡ fs
@@ -279,7 +291,8 @@ reads : (z : Bool) (g : Running) (rows : List Row) → Shows g rows → read_run
 reads true g rows h =
     let files = all-files g.files (row_at (codes "file") (final true g rows)) (files-final true g rows h) in
     let share : flag_in (codes "share") (final true g rows) ≡ g.share =
-    ap says (row_at-with_flag (codes "fast") (codes "share") g.fast (with_flag (codes "share") g.share rows) refl) ∙ flag_in-with_flag (codes "share") g.share rows refl h.share in
+    ap says (row_at-with_flag (codes "fast") (codes "share") g.fast (with_flag (codes "share") g.share rows) refl)
+    ∙ flag_in-with_flag (codes "share") g.share rows refl h.share in
     let fast = flag_in-with_flag (codes "fast") g.fast (with_flag (codes "share") g.share rows) refl (fast-past g rows h) in
     λ i. Some (forms.verify (share i) (fast i) (files i))
 reads false g rows h =
@@ -288,7 +301,8 @@ reads false g rows h =
     λ i. Some (forms.translate (share i) (files i))
 
 -- a file is required
-required : (z : Bool) (fs : List Text) (rows : List Row) (g : Running) → row_at (codes "file") rows ≡ files_row fs → taken (check_fault (run_leaf z) rows false) (Some (made z g)) ≡ run_in (made z) g fs
+required : (z : Bool) (fs : List Text) (rows : List Row) (g : Running) → row_at (codes "file") rows ≡ files_row fs
+    → taken (check_fault (run_leaf z) rows false) (Some (made z g)) ≡ run_in (made z) g fs
 required true [] rows g e = rw e refl
 required true (f ∷ fs) rows g e = rw e refl
 required false [] rows g e = rw e refl
@@ -297,7 +311,8 @@ required false (f ∷ fs) rows g e = rw e refl
 ends : (z : Bool) (g : Running) (y : Bool) (rs : List Row) (p : Pending) → Holds z g rs p → asked_from z [] (state y rs p) [] ≡ run_in (made z) g g.files
 unfolding walk_fault
 ends z g y rs p h =
-    ap₂ (λ k r. taken (or_else k (or_else (defaults_fault r (rules z)) (check_fault (run_leaf z) (fold with_default r (rules z)) false))) (read_run (made z) (fold with_default r (rules z)))) h.settles h.are
+    ap₂ (λ k r. taken (or_else k (or_else (defaults_fault r (rules z)) (check_fault (run_leaf z) (fold with_default r (rules z)) false)))
+    (read_run (made z) (fold with_default r (rules z)))) h.settles h.are
     ∙ ap₂ (λ k r. taken (or_else k (check_fault (run_leaf z) r false)) (read_run (made z) r)) (defaults-pass z h.rows) (finishes z g h.rows h.shows)
     ∙ ap (taken (check_fault (run_leaf z) (final z g h.rows) false)) (reads z g h.rows h.shows)
     ∙ required z g.files (final z g h.rows) g (files-final z g h.rows h.shows)
@@ -305,7 +320,8 @@ ends z g y rs p h =
 -- ---- all words
 
 -- a step at which nothing is at fault
-steps : (z : Bool) (w after : Walk) (x : Text) (ws : List Text) → turn z w x ≡ [] → walked (rules z) [] w x ≡ after → asked_from z [] w (x ∷ ws) ≡ asked_from z [] after ws
+steps : (z : Bool) (w after : Walk) (x : Text) (ws : List Text) → turn z w x ≡ [] → walked (rules z) [] w x ≡ after → asked_from z [] w (x ∷ ws)
+    ≡ asked_from z [] after ws
 unfolding walk_fault
 steps z w after x ws e f = ap₂ (λ k v. asked_from z k v ws) e f
 
@@ -316,22 +332,29 @@ fails z w x ws e = ap (λ k. asked_from z k (walked (rules z) [] w x) ws) e.1
 
 -- what the walk asks for from where it stands is what the definition reads
 abbrev Goes : Bool → List Text → Type 0
-Goes z ws = (fs : List Text) (s x y : Bool) (rs : List Row) (p : Pending) → Holds z (running fs s x) rs p → asked_from z [] (state y rs p) ws ≡ run_after z (made z) (running fs s x) ws
+Goes z ws = (fs : List Text) (s x y : Bool) (rs : List Row) (p : Pending) → Holds z (running fs s x) rs p → asked_from z [] (state y rs p) ws
+    ≡ run_after z (made z) (running fs s x) ws
 
 -- .. and so it is past each word
 file-on : (z : Bool) (c : ℕ) (cs : Text) → (c == 45) ≡ false → (ws : List Text) → Goes z ws → Goes z ((c ∷ cs) ∷ ws)
 file-on z c cs e ws goes fs s x y rs p h =
-    let right : run_after z (made z) (running fs s x) ((c ∷ cs) ∷ ws) ≡ run_after z (made z) (running (fs ++ (c ∷ cs) ∷ []) s x) ws = simp (e, and_false z) refl in
-    steps z (state y rs p) (state true h.rows (Some (codes "file", (c ∷ cs) ∷ []))) (c ∷ cs) ws (file-turns rs p h.rows z y c cs (h.settles, h.are) e) (file-walks rs p h.rows z y c cs (h.settles, h.are) e)
+    let right : run_after z (made z) (running fs s x) ((c ∷ cs) ∷ ws) ≡ run_after z (made z) (running (fs ++ (c ∷ cs) ∷ []) s x) ws =
+    simp (e, and_false z) refl in
+    steps z (state y rs p) (state true h.rows (Some (codes "file", (c ∷ cs) ∷ []))) (c ∷ cs) ws (file-turns rs p h.rows z y c cs (h.settles, h.are) e)
+    (file-walks rs p h.rows z y c cs (h.settles, h.are) e)
     ∙ goes (fs ++ (c ∷ cs) ∷ []) s x true h.rows (Some (codes "file", (c ∷ cs) ∷ [])) (Holds-file z fs s x h.rows (c ∷ cs) h.shows) ∙ sym right
 
 share-on : (z : Bool) (ws : List Text) → Goes z ws → Goes z (codes "--share" ∷ ws)
 share-on z ws goes fs false x y rs p h =
     steps z (state y rs p) (state false (h.rows ++ share_row ∷ []) None) (codes "--share") ws
-    (share-turns rs p h.rows z y (h.settles, h.are) (has_flag (codes "share") false h.rows h.shows.share)) (share-walks rs p h.rows z y (h.settles, h.are) h.shows.share)
+    (share-turns rs p h.rows z y (h.settles, h.are) (has_flag (codes "share") false h.rows h.shows.share))
+    (share-walks rs p h.rows z y (h.settles, h.are) h.shows.share)
     ∙ goes fs true x false (h.rows ++ share_row ∷ []) None (Holds-settled z (running fs true x) (h.rows ++ share_row ∷ []) (Shows-share fs x h.rows h.shows))
 share-on z ws goes fs true x y rs p h =
-    fails z (state y rs p) (codes "--share") ws (ArgumentConflict, share-again rs p h.rows z y (h.settles, h.are) (has_flag (codes "share") true h.rows h.shows.share))
+    fails z (state y rs p) (codes "--share") ws (
+      ArgumentConflict,
+      share-again rs p h.rows z y (h.settles, h.are) (has_flag (codes "share") true h.rows h.shows.share),
+    )
 
 fast-on : (z : Bool) (ws : List Text) → Goes z ws → Goes z (codes "--fast" ∷ ws)
 fast-on true ws goes fs s false y rs p h =
@@ -339,7 +362,10 @@ fast-on true ws goes fs s false y rs p h =
     (fast-turns rs p h.rows y (h.settles, h.are) (has_flag (codes "fast") false h.rows h.shows.fast)) (fast-walks rs p h.rows y (h.settles, h.are) h.shows.fast)
     ∙ goes fs s true false (h.rows ++ fast_row ∷ []) None (Holds-settled true (running fs s true) (h.rows ++ fast_row ∷ []) (Shows-fast fs s h.rows h.shows))
 fast-on true ws goes fs s true y rs p h =
-    fails true (state y rs p) (codes "--fast") ws (ArgumentConflict, fast-again rs p h.rows y (h.settles, h.are) (has_flag (codes "fast") true h.rows h.shows.fast))
+    fails true (state y rs p) (codes "--fast") ws (
+      ArgumentConflict,
+      fast-again rs p h.rows y (h.settles, h.are) (has_flag (codes "fast") true h.rows h.shows.fast),
+    )
 fast-on false ws goes fs s x y rs p h = fails false (state y rs p) (codes "--fast") ws (fast-turns-translate rs p y)
 
 goes-on : (z : Bool) (w : Text) → Kind w → (ws : List Text) → Goes z ws → Goes z (w ∷ ws)
@@ -351,17 +377,20 @@ goes-on z w budget ws goes = λ fs s x y rs p h. fails z (state y rs p) (codes "
     odd : (z : Bool) (fs : List Text) (s x : Bool) → run_after z (made z) (running fs s x) (codes "--budget" ∷ ws) ≡ None
     odd true fs s x = refl
     odd false fs s x = refl
-goes-on z w (named number) ws goes = λ fs s x y rs p h. fails z (state y rs p) (codes "--budget=" ++ number) ws (named-turns rs p z y number) ∙ sym (odd z fs s x)
+goes-on z w (named number) ws goes = λ fs s x y rs p h. fails z (state y rs p) (codes "--budget=" ++ number) ws (named-turns rs p z y number) ∙ sym
+    (odd z fs s x)
   where
     odd : (z : Bool) (fs : List Text) (s x : Bool) → run_after z (made z) (running fs s x) ((codes "--budget=" ++ number) ∷ ws) ≡ None
     odd true fs s x = refl
     odd false fs s x = refl
-goes-on z w (fast_valued value) ws goes = λ fs s x y rs p h. fails z (state y rs p) (codes "--fast=" ++ value) ws (fast_valued-turns rs p z y value) ∙ sym (odd z fs s x)
+goes-on z w (fast_valued value) ws goes = λ fs s x y rs p h. fails z (state y rs p) (codes "--fast=" ++ value) ws (fast_valued-turns rs p z y value) ∙ sym
+    (odd z fs s x)
   where
     odd : (z : Bool) (fs : List Text) (s x : Bool) → run_after z (made z) (running fs s x) ((codes "--fast=" ++ value) ∷ ws) ≡ None
     odd true fs s x = refl
     odd false fs s x = refl
-goes-on z w (share_valued value) ws goes = λ fs s x y rs p h. fails z (state y rs p) (codes "--share=" ++ value) ws (share_valued-turns rs p z y value) ∙ sym (odd z fs s x)
+goes-on z w (share_valued value) ws goes = λ fs s x y rs p h. fails z (state y rs p) (codes "--share=" ++ value) ws (share_valued-turns rs p z y value) ∙ sym
+    (odd z fs s x)
   where
     odd : (z : Bool) (fs : List Text) (s x : Bool) → run_after z (made z) (running fs s x) ((codes "--share=" ++ value) ∷ ws) ≡ None
     odd true fs s x = refl
@@ -376,13 +405,16 @@ all-words : (z : Bool) (ws : List Text) → AllByRecursion Kind ws → Goes z ws
 all-words z [] h = λ fs s x y rs p holds. ends z (running fs s x) y rs p holds
 all-words z (w ∷ ws) h = goes-on z w h.0 ws (all-words z ws h.1)
 
-from-nothing : (z : Bool) (ws : List Text) → AllByRecursion Kind ws → asked_from z [] (state false [] None) ws ≡ run_after z (made z) (running [] false false) ws
-from-nothing z ws h = all-words z ws h [] false false false [] None (Holds-settled z (running [] false false) [] (record { files = refl; share = refl; fast = refl }))
+from-nothing : (z : Bool) (ws : List Text) → AllByRecursion Kind ws → asked_from z [] (state false [] None) ws
+    ≡ run_after z (made z) (running [] false false) ws
+from-nothing z ws h = all-words z ws h [] false false false [] None
+    (Holds-settled z (running [] false false) [] (record { files = refl; share = refl; fast = refl }))
 
 -- the words after `verify` ask for their form
 pub verify-words : (ws : List Text) → AllByRecursion Kind ws → taken (fault verify_leaf ws) (read_verify (rows_after verify_leaf.rules [] ws)) ≡ verify_form ws
 verify-words ws h = from-nothing true ws h
 
 -- and so do those after `translate`
-pub translate-words : (ws : List Text) → AllByRecursion Kind ws → taken (fault translate_leaf ws) (read_translate (rows_after translate_leaf.rules [] ws)) ≡ translate_form ws
+pub translate-words : (ws : List Text) → AllByRecursion Kind ws → taken (fault translate_leaf ws) (read_translate (rows_after translate_leaf.rules [] ws))
+    ≡ translate_form ws
 translate-words ws h = from-nothing false ws h

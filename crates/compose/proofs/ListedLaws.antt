@@ -14,7 +14,8 @@ use Rattle.compose.proofs.IdLaws.{same_id-true, same_id-itself}
 use Rattle.compose.proofs.OrderLaws.{nat_cases, before-not_same, before-trans}
 
 -- an item of a list with one more at the end is one of the list, or the one at the end
-pub slice_get-push : {A : Type 0} (xs : List A) (x : A) (i : ℕ) (y : A) → slice_get (xs ++ x ∷ []) i ≡ Some y → (slice_get xs i ≡ Some y) ⊎ ((i ≡ length xs) × (x ≡ y))
+pub slice_get-push : {A : Type 0} (xs : List A) (x : A) (i : ℕ) (y : A) → slice_get (xs ++ x ∷ []) i ≡ Some y → (slice_get xs i ≡ Some y)
+    ⊎ ((i ≡ length xs) × (x ≡ y))
 slice_get-push [] x zero y e = inr (refl, same_Some _ _ e)
 slice_get-push [] x (suc i) y e = absurd (cc)
 slice_get-push (z ∷ xs) x zero y e = inl e
@@ -35,7 +36,8 @@ pub set_at-push : (held : List Said) (s : Said) (p : ℕ) → p < length held �
 set_at-push held s p l = let w = held_at held p l in ap hyps_in (slice_get-append held (s ∷ []) p w.0 w.1) ∙ sym (ap hyps_in w.1)
 
 -- what comes first, by places that are the same
-before_at : (old new : List Said) (x y p q : ℕ) → set_at new x ≡ set_at old p → set_at new y ≡ set_at old q → IsBefore (set_at old p) (set_at old q) → IsBefore (set_at new x) (set_at new y)
+before_at : (old new : List Said) (x y p q : ℕ) → set_at new x ≡ set_at old p → set_at new y ≡ set_at old q → IsBefore (set_at old p) (set_at old q)
+    → IsBefore (set_at new x) (set_at new y)
 before_at old new x y p q e f h = subst (λ a. IsBefore a (set_at new y)) (sym e) (subst (λ b. IsBefore (set_at old p) b) (sym f) h)
 
 module _ (held : List Said) (s : Said) (list : List ℕ) (within : AreWithin held list) where
@@ -56,7 +58,8 @@ pub within-push : (held : List Said) (s : Said) (list : List ℕ) → AreWithin 
 within-push held s list h i l = let w = h i l in let long = length-append held (s ∷ []) in omega (arith, w, long)
 
 -- two places of a list with one set are one
-pub one_of_each : (held : List Said) (list : List ℕ) (i j : ℕ) → AreOrdered held list → i < length list → j < length list → AreSame (set_at held (place_at list i)) (set_at held (place_at list j)) → i ≡ j
+pub one_of_each : (held : List Said) (list : List ℕ) (i j : ℕ) → AreOrdered held list → i < length list → j < length list
+    → AreSame (set_at held (place_at list i)) (set_at held (place_at list j)) → i ≡ j
 one_of_each held list i j h v w e = go (nat_cases i j)
   where
     go : (i < j) ⊎ ((i ≡ j) ⊎ (j < i)) → i ≡ j
@@ -65,7 +68,8 @@ one_of_each held list i j h v w e = go (nat_cases i j)
     go (inr (inr l)) = absurd (before-not_same _ _ (h j i l v) (λ n. sym (e n)))
 
 -- the middle of what is left is looked at
-module _ (held : List Said) (list : List ℕ) (set : List TermId) (low high middle : ℕ) (ordered : AreOrdered held list) (h : IsBetween held list set low high) (w : middle < high) where
+module _ (held : List Said) (list : List ℕ) (set : List TermId) (low high middle : ℕ) (ordered : AreOrdered held list) (h : IsBetween held list set low high)
+    (w : middle < high) where
   pub between-above : low ≤ middle → IsBefore (set_at held (place_at list middle)) set → IsBetween held list set (middle + 1) high
   between-above m b = record { order = omega (arith, w); within = h.within; below = below; above = h.above }
     where
@@ -90,10 +94,12 @@ module _ (held : List Said) (list : List ℕ) (set : List TermId) (low high midd
 
 -- at the beginning all is left
 pub between-begins : (held : List Said) (list : List ℕ) (set : List TermId) → IsBetween held list set 0 (length list)
-between-begins held list set = record { order = omega arith; within = omega arith; below = λ i l. absurd (omega (arith, l)); above = λ i l v. absurd (omega (arith, l, v)) }
+between-begins held list set = record
+    { order = omega arith; within = omega arith; below = λ i l. absurd (omega (arith, l)); above = λ i l v. absurd (omega (arith, l, v)) }
 
 -- an earlier place has the set already
-pub noted-known : (held : List Said) (list : List ℕ) (place i : ℕ) → AreWithin held list → AreOrdered held list → length held ≡ place + 1 → IsFound held list (set_at held place) i → IsNoted held place list list
+pub noted-known : (held : List Said) (list : List ℕ) (place i : ℕ) → AreWithin held list → AreOrdered held list → length held ≡ place + 1
+    → IsFound held list (set_at held place) i → IsNoted held place list list
 noted-known held list place i within ordered last f = record {
   ordered = ordered;
   only = λ j l. inl (j, l, refl);
@@ -104,7 +110,8 @@ noted-known held list place i within ordered last f = record {
 module _ (list : List ℕ) (k place : ℕ) (w : k ≤ length list) where
   abbrev StandsAt : ℕ → Type 0
   StandsAt i = ((i < k) × (place_at (insert list k place) i ≡ place_at list i))
-      ⊎ (((i ≡ k) × (place_at (insert list k place) i ≡ place)) ⊎ ((j : ℕ) × (i ≡ j + 1) × (k ≤ j) × (j < length list) × (place_at (insert list k place) i ≡ place_at list j)))
+      ⊎ (((i ≡ k) × (place_at (insert list k place) i ≡ place))
+      ⊎ ((j : ℕ) × (i ≡ j + 1) × (k ≤ j) × (j < length list) × (place_at (insert list k place) i ≡ place_at list j)))
 
   -- what stands where once a place is put in
   stands_at : (i : ℕ) → i < length (insert list k place) → StandsAt i
@@ -116,23 +123,49 @@ module _ (list : List ℕ) (k place : ℕ) (w : k ≤ length list) where
       go (inr (inr more)) =
           let back : i ≡ (i - 1) + 1 = omega (arith, more) in
           let long = length-insert list k place w in
-          inr (inr (i - 1, back, omega (arith, more), omega (arith, more, l, long), ap (place_at (insert list k place)) back ∙ get_or-insert_above list k place 0 (i - 1) (omega (arith, more)) w))
+          inr (inr (
+            i - 1,
+            back,
+            omega (arith, more),
+            omega (arith, more, l, long),
+            ap (place_at (insert list k place)) back
+                ∙ get_or-insert_above list k place 0 (i - 1) (omega (arith, more)) w,
+          ))
 
   still_among : (q : ℕ) → IsAmong list q → IsAmong (insert list k place) q
   still_among q a = go (nat_cases a.0 k)
     where
       go : (a.0 < k) ⊎ ((a.0 ≡ k) ⊎ (k < a.0)) → IsAmong (insert list k place) q
-      go (inl less) = (a.0, (let long = length-insert list k place w in let l = a.1 in omega (arith, l, long)), get_or-insert_below list k place 0 a.0 less w ∙ a.2)
-      go (inr (inl e)) = (a.0 + 1, (let long = length-insert list k place w in let l = a.1 in omega (arith, l, long)), get_or-insert_above list k place 0 a.0 (omega (arith, e)) w ∙ a.2)
-      go (inr (inr more)) = (a.0 + 1, (let long = length-insert list k place w in let l = a.1 in omega (arith, l, long)), get_or-insert_above list k place 0 a.0 (omega (arith, more)) w ∙ a.2)
+      go (inl less) =
+          (a.0, (let long = length-insert list k place w in let l = a.1 in omega (arith, l, long)), get_or-insert_below list k place 0 a.0 less w ∙ a.2)
+      go (inr (inl e)) = (
+        a.0 + 1,
+        (let long = length-insert list k place w in let l = a.1 in omega (arith, l, long)),
+        get_or-insert_above list k place 0 a.0 (omega (arith, e)) w ∙ a.2,
+      )
+      go (inr (inr more)) = (
+        a.0 + 1,
+        (let long = length-insert list k place w in let l = a.1 in omega (arith, l, long)),
+        get_or-insert_above list k place 0 a.0 (omega (arith, more)) w ∙ a.2,
+      )
 
 -- a place is put in where its set belongs
-pub noted-new : (held : List Said) (list : List ℕ) (place k : ℕ) → AreOrdered held list → IsBetween held list (set_at held place) k k → IsNoted held place list (insert list k place)
+pub noted-new : (held : List Said) (list : List ℕ) (place k : ℕ) → AreOrdered held list → IsBetween held list (set_at held place) k k
+    → IsNoted held place list (insert list k place)
 noted-new held list place k ordered h = record {
   ordered = λ i j l v. in_order i j l (at i (omega (arith, l, v))) (at j v);
   only = λ i l. from i (at i l);
   kept = still_among list k place h.within;
-  stands = (place, (k, (let long = length-insert list k place h.within in let w = h.within in omega (arith, long, w)), get_or-insert_at list k place 0 h.within), omega arith, λ n. refl);
+  stands = (
+    place,
+    (
+      k,
+      (let long = length-insert list k place h.within in let w = h.within in omega (arith, long, w)),
+      get_or-insert_at list k place 0 h.within,
+    ),
+    omega arith,
+    λ n. refl,
+  );
 }
   where
     at : (i : ℕ) → i < length (insert list k place) → StandsAt list k place h.within i
@@ -146,16 +179,19 @@ noted-new held list place k ordered h = record {
     set : {x p : ℕ} → x ≡ p → set_at held x ≡ set_at held p
     set e = ap (set_at held) e
 
-    in_order : (i j : ℕ) → i < j → StandsAt list k place h.within i → StandsAt list k place h.within j → IsBefore (set_at held (place_at (insert list k place) i)) (set_at held (place_at (insert list k place) j))
+    in_order : (i j : ℕ) → i < j → StandsAt list k place h.within i → StandsAt list k place h.within j
+        → IsBefore (set_at held (place_at (insert list k place) i)) (set_at held (place_at (insert list k place) j))
     in_order i j l (inl a) (inl b) = before_at held held _ _ _ _ (set a.1) (set b.1) (ordered i j l (let m = b.0 in let w = h.within in omega (arith, m, w)))
     in_order i j l (inl a) (inr (inl b)) = before_at held held _ _ (place_at list i) place (set a.1) (set b.1) (h.below i a.0)
-    in_order i j l (inl a) (inr (inr b)) = before_at held held _ _ _ _ (set a.1) (set b.4) (ordered i b.0 (let m = a.0 in let n = b.2 in omega (arith, m, n)) b.3)
+    in_order i j l (inl a) (inr (inr b)) = before_at held held _ _ _ _ (set a.1) (set b.4)
+        (ordered i b.0 (let m = a.0 in let n = b.2 in omega (arith, m, n)) b.3)
     in_order i j l (inr (inl a)) (inl b) = absurd (let m = a.0 in let n = b.0 in omega (arith, l, m, n))
     in_order i j l (inr (inl a)) (inr (inl b)) = absurd (let m = a.0 in let n = b.0 in omega (arith, l, m, n))
     in_order i j l (inr (inl a)) (inr (inr b)) = before_at held held _ _ place (place_at list b.0) (set a.1) (set b.4) (h.above b.0 b.2 b.3)
     in_order i j l (inr (inr a)) (inl b) = absurd (let m = a.1 in let n = a.2 in let o = b.0 in omega (arith, l, m, n, o))
     in_order i j l (inr (inr a)) (inr (inl b)) = absurd (let m = a.1 in let n = a.2 in let o = b.0 in omega (arith, l, m, n, o))
-    in_order i j l (inr (inr a)) (inr (inr b)) = before_at held held _ _ _ _ (set a.4) (set b.4) (ordered a.0 b.0 (let m = a.1 in let n = b.1 in omega (arith, l, m, n)) b.3)
+    in_order i j l (inr (inr a)) (inr (inr b)) = before_at held held _ _ _ _ (set a.4) (set b.4)
+        (ordered a.0 b.0 (let m = a.1 in let n = b.1 in omega (arith, l, m, n)) b.3)
 
 -- a list of one place
 pub noted-alone : (held : List Said) (place : ℕ) → IsNoted held place [] (place ∷ [])
@@ -183,11 +219,19 @@ module _ (list : List ℕ) (k : ℕ) (w : k < length list) where
 
       go : (i < k) ⊎ ((i ≡ k) ⊎ (k < i)) → StoodAt i
       go (inl less) = (i, omega (arith, l, long), (λ e. omega (arith, e, less)), get_or-remove_below list k 0 i less w, inl (less, refl))
-      go (inr (inl e)) = (i + 1, omega (arith, l, long), (λ f. omega (arith, e, f)), get_or-remove_above list k 0 i (omega (arith, e)) w, inr (omega (arith, e), refl))
-      go (inr (inr more)) = (i + 1, omega (arith, l, long), (λ f. omega (arith, more, f)), get_or-remove_above list k 0 i (omega (arith, more)) w, inr (omega (arith, more), refl))
+      go (inr (inl e)) =
+          (i + 1, omega (arith, l, long), (λ f. omega (arith, e, f)), get_or-remove_above list k 0 i (omega (arith, e)) w, inr (omega (arith, e), refl))
+      go (inr (inr more)) = (
+        i + 1,
+        omega (arith, l, long),
+        (λ f. omega (arith, more, f)),
+        get_or-remove_above list k 0 i (omega (arith, more)) w,
+        inr (omega (arith, more), refl),
+      )
 
 -- a place is struck off
-pub struck : (held : List Said) (list : List ℕ) (place k : ℕ) → k < length list → place_at list k ≡ place → AreOrdered held list → IsStruck held place list (remove list k)
+pub struck : (held : List Said) (list : List ℕ) (place k : ℕ) → k < length list → place_at list k ≡ place → AreOrdered held list
+    → IsStruck held place list (remove list k)
 struck held list place k w e ordered = record {
   ordered = λ i j l v. in_order i j l (at i (omega (arith, l, v))) (at j v);
   only = λ i l. (let a = at i l in ((a.0, a.1, sym a.3), λ f. a.2 (one_of_each held list a.0 k ordered a.1 w (same a.0 (sym a.3 ∙ f)))));
@@ -200,8 +244,10 @@ struck held list place k w e ordered = record {
     same : (j : ℕ) → place_at list j ≡ place → AreSame (set_at held (place_at list j)) (set_at held (place_at list k))
     same j f n = ap (λ p. has (set_at held p) n) (f ∙ sym e)
 
-    in_order : (i j : ℕ) → i < j → StoodAt list k w i → StoodAt list k w j → IsBefore (set_at held (place_at (remove list k) i)) (set_at held (place_at (remove list k) j))
-    in_order i j l a b = before_at held held _ _ (place_at list a.0) (place_at list b.0) (ap (set_at held) a.3) (ap (set_at held) b.3) (ordered a.0 b.0 (go a.4 b.4) b.1)
+    in_order : (i j : ℕ) → i < j → StoodAt list k w i → StoodAt list k w j
+        → IsBefore (set_at held (place_at (remove list k) i)) (set_at held (place_at (remove list k) j))
+    in_order i j l a b = before_at held held _ _ (place_at list a.0) (place_at list b.0) (ap (set_at held) a.3) (ap (set_at held) b.3)
+        (ordered a.0 b.0 (go a.4 b.4) b.1)
       where
         go : ((i < k) × (a.0 ≡ i)) ⊎ ((k ≤ i) × (a.0 ≡ i + 1)) → ((j < k) × (b.0 ≡ j)) ⊎ ((k ≤ j) × (b.0 ≡ j + 1)) → a.0 < b.0
         go (inl x) (inl y) = let m = x.1 in let n = y.1 in omega (arith, l, m, n)
@@ -213,11 +259,16 @@ struck held list place k w e ordered = record {
     still i q l f n (inl less) = (i, (let long = length-remove list k w in omega (arith, less, w, long)), get_or-remove_below list k 0 i less w ∙ f)
     still i q l f n (inr (inl g)) = absurd (n (sym f ∙ ap (place_at list) g ∙ e))
     still i q l f n (inr (inr more)) =
-        let back : i ≡ (i - 1) + 1 = omega (arith, more) in
-        (i - 1, (let long = length-remove list k w in omega (arith, more, l, long)), get_or-remove_above list k 0 (i - 1) (omega (arith, more)) w ∙ sym (ap (place_at list) back) ∙ f)
+        let back : i ≡ (i - 1) + 1 = omega (arith, more) in (
+          i - 1,
+          (let long = length-remove list k w in omega (arith, more, l, long)),
+          get_or-remove_above list k 0 (i - 1) (omega (arith, more)) w
+              ∙ sym (ap (place_at list) back) ∙ f,
+        )
 
 -- there was no such place
-pub struck-none : (held : List Said) (list : List ℕ) (place : ℕ) → ((i : ℕ) → i < length list → place_at list i ≡ place → ⊥) → AreOrdered held list → IsStruck held place list list
+pub struck-none : (held : List Said) (list : List ℕ) (place : ℕ) → ((i : ℕ) → i < length list → place_at list i ≡ place → ⊥) → AreOrdered held list
+    → IsStruck held place list list
 struck-none held list place none ordered = record { ordered = ordered; only = λ i l. ((i, l, refl), none i l); kept = λ q a n. a }
 
 -- a list of places of one conclusion, as sequents are added and taken back
@@ -246,19 +297,25 @@ module _ (held : List Said) (id : TermId) (list : List ℕ) where
       first = λ p t e c. first p t c (slice_get-push held s p t e);
     }
       where
-        first : (p : ℕ) (t : Said) → t.sequent.concl ≡ id → (slice_get held p ≡ Some t) ⊎ ((p ≡ length held) × (s ≡ t)) → (q : ℕ) × IsAmong list q × (q ≤ p) × AreSame (set_at (held ++ s ∷ []) q) t.sequent.hyps
+        first : (p : ℕ) (t : Said) → t.sequent.concl ≡ id → (slice_get held p ≡ Some t) ⊎ ((p ≡ length held) × (s ≡ t)) → (q : ℕ) × IsAmong list q × (q ≤ p)
+            × AreSame (set_at (held ++ s ∷ []) q) t.sequent.hyps
         first p t c (inl e) = let w = h.first p t e c in (w.0, w.1, w.2, same_pushed w.0 t.sequent.hyps (within_among w.0 (within-all h) w.1) w.3)
         first p t c (inr e) = absurd (other_conclusion t apart e.1 c)
 
     -- one of this conclusion, which is noted
-    pub listed-noted : (new : List ℕ) → s.sequent.concl ≡ id → IsListed held id list → IsNoted (held ++ s ∷ []) (length held) list new → IsListed (held ++ s ∷ []) id new
-    listed-noted new own h n = record { within = λ i l. within i (n.only i l); ordered = n.ordered; first = λ p t e c. first p t c (slice_get-push held s p t e) }
+    pub listed-noted : (new : List ℕ) → s.sequent.concl ≡ id → IsListed held id list → IsNoted (held ++ s ∷ []) (length held) list new
+        → IsListed (held ++ s ∷ []) id new
+    listed-noted new own h n = record
+        { within = λ i l. within i (n.only i l); ordered = n.ordered; first = λ p t e c. first p t c (slice_get-push held s p t e) }
       where
-        within : (i : ℕ) → IsAmong list (place_at new i) ⊎ (place_at new i ≡ length held) → (t : Said) × (slice_get (held ++ s ∷ []) (place_at new i) ≡ Some t) × (t.sequent.concl ≡ id)
-        within i (inl a) = let w = h.within a.0 a.1 in (w.0, ap (slice_get (held ++ s ∷ [])) (sym a.2) ∙ slice_get-append held (s ∷ []) (place_at list a.0) w.0 w.1, w.2)
+        within : (i : ℕ) → IsAmong list (place_at new i) ⊎ (place_at new i ≡ length held) → (t : Said) × (slice_get (held ++ s ∷ []) (place_at new i) ≡ Some t)
+            × (t.sequent.concl ≡ id)
+        within i (inl a) = let w = h.within a.0 a.1 in
+            (w.0, ap (slice_get (held ++ s ∷ [])) (sym a.2) ∙ slice_get-append held (s ∷ []) (place_at list a.0) w.0 w.1, w.2)
         within i (inr e) = (s, ap (slice_get (held ++ s ∷ [])) e ∙ slice_get-last held s, own)
 
-        first : (p : ℕ) (t : Said) → t.sequent.concl ≡ id → (slice_get held p ≡ Some t) ⊎ ((p ≡ length held) × (s ≡ t)) → (q : ℕ) × IsAmong new q × (q ≤ p) × AreSame (set_at (held ++ s ∷ []) q) t.sequent.hyps
+        first : (p : ℕ) (t : Said) → t.sequent.concl ≡ id → (slice_get held p ≡ Some t) ⊎ ((p ≡ length held) × (s ≡ t)) → (q : ℕ) × IsAmong new q × (q ≤ p)
+            × AreSame (set_at (held ++ s ∷ []) q) t.sequent.hyps
         first p t c (inl e) = let w = h.first p t e c in (w.0, n.kept w.0 w.1, w.2, same_pushed w.0 t.sequent.hyps (within_among w.0 (within-all h) w.1) w.3)
         first p t c (inr e) =
             let w = n.stands in
@@ -269,7 +326,8 @@ module _ (held : List Said) (id : TermId) (list : List ℕ) where
     pub listed-other-back : same_id s.sequent.concl id ≡ false → IsListed (held ++ s ∷ []) id list → IsListed held id list
     listed-other-back apart h = record { within = within; ordered = AreOrdered-pop held s list inside h.ordered; first = first }
       where
-        go : (i : ℕ) (t : Said) → t.sequent.concl ≡ id → (slice_get held (place_at list i) ≡ Some t) ⊎ ((place_at list i ≡ length held) × (s ≡ t)) → slice_get held (place_at list i) ≡ Some t
+        go : (i : ℕ) (t : Said) → t.sequent.concl ≡ id → (slice_get held (place_at list i) ≡ Some t) ⊎ ((place_at list i ≡ length held) × (s ≡ t))
+            → slice_get held (place_at list i) ≡ Some t
         go i t c (inl e) = e
         go i t c (inr e) = absurd (other_conclusion t apart e.1 c)
 
@@ -279,8 +337,10 @@ module _ (held : List Said) (id : TermId) (list : List ℕ) where
         inside : AreWithin held list
         inside i l = let w = within i l in slice_get_within held (place_at list i) w.0 w.1
 
-        first : (p : ℕ) (t : Said) → slice_get held p ≡ Some t → t.sequent.concl ≡ id → (q : ℕ) × IsAmong list q × (q ≤ p) × AreSame (set_at held q) t.sequent.hyps
-        first p t e c = let w = h.first p t (slice_get-append held (s ∷ []) p t e) c in (w.0, w.1, w.2, same_popped w.0 t.sequent.hyps (within_among w.0 inside w.1) w.3)
+        first : (p : ℕ) (t : Said) → slice_get held p ≡ Some t → t.sequent.concl ≡ id → (q : ℕ) × IsAmong list q × (q ≤ p)
+            × AreSame (set_at held q) t.sequent.hyps
+        first p t e c = let w = h.first p t (slice_get-append held (s ∷ []) p t e) c in
+            (w.0, w.1, w.2, same_popped w.0 t.sequent.hyps (within_among w.0 inside w.1) w.3)
 
     -- one of this conclusion is taken back, and struck off
     pub listed-struck : (new : List ℕ) → IsListed (held ++ s ∷ []) id list → IsStruck (held ++ s ∷ []) (length held) list new → IsListed held id new
@@ -299,34 +359,41 @@ module _ (held : List Said) (id : TermId) (list : List ℕ) where
         inside : AreWithin held new
         inside i l = let w = within i l in slice_get_within held (place_at new i) w.0 w.1
 
-        first : (p : ℕ) (t : Said) → slice_get held p ≡ Some t → t.sequent.concl ≡ id → (q : ℕ) × IsAmong new q × (q ≤ p) × AreSame (set_at held q) t.sequent.hyps
+        first : (p : ℕ) (t : Said) → slice_get held p ≡ Some t → t.sequent.concl ≡ id → (q : ℕ) × IsAmong new q × (q ≤ p)
+            × AreSame (set_at held q) t.sequent.hyps
         first p t e c =
             let w = h.first p t (slice_get-append held (s ∷ []) p t e) c in
             let l : w.0 < length held = let m = slice_get_within held p t e in let o = w.2 in omega (arith, m, o) in
             (w.0, n.kept w.0 w.1 (λ f. omega (arith, f, l)), w.2, same_popped w.0 t.sequent.hyps l w.3)
 
 -- the lists of all conclusions, where that of one changes
-module _ {Z : Type 0} (held : List Said) (s : Said) (old new : List (TermId × Vec ℕ Z)) (others : (id : TermId) → same_id s.sequent.concl id ≡ false → list_of new id ≡ list_of old id) where
-  pub AreListed-add : AreListed held old → IsNoted (held ++ s ∷ []) (length held) (list_of old s.sequent.concl) (list_of new s.sequent.concl) → AreListed (held ++ s ∷ []) new
+module _ {Z : Type 0} (held : List Said) (s : Said) (old new : List (TermId × Vec ℕ Z))
+    (others : (id : TermId) → same_id s.sequent.concl id ≡ false → list_of new id ≡ list_of old id) where
+  pub AreListed-add : AreListed held old → IsNoted (held ++ s ∷ []) (length held) (list_of old s.sequent.concl) (list_of new s.sequent.concl)
+      → AreListed (held ++ s ∷ []) new
   AreListed-add h n id = go (same_id s.sequent.concl id) refl
     where
       go : (b : Bool) → same_id s.sequent.concl id ≡ b → IsListed (held ++ s ∷ []) id (list_of new id)
       go true e =
           let own = same_id-true s.sequent.concl id e in
-          subst (λ x. IsListed (held ++ s ∷ []) x (list_of new x)) own (listed-noted held s.sequent.concl (list_of old s.sequent.concl) s (list_of new s.sequent.concl) refl (h s.sequent.concl) n)
+          subst (λ x. IsListed (held ++ s ∷ []) x (list_of new x)) own
+          (listed-noted held s.sequent.concl (list_of old s.sequent.concl) s (list_of new s.sequent.concl) refl (h s.sequent.concl) n)
       go false e = subst (IsListed (held ++ s ∷ []) id) (sym (others id e)) (listed-other held id (list_of old id) s e (h id))
 
-  pub AreListed-back : AreListed (held ++ s ∷ []) old → IsStruck (held ++ s ∷ []) (length held) (list_of old s.sequent.concl) (list_of new s.sequent.concl) → AreListed held new
+  pub AreListed-back : AreListed (held ++ s ∷ []) old → IsStruck (held ++ s ∷ []) (length held) (list_of old s.sequent.concl) (list_of new s.sequent.concl)
+      → AreListed held new
   AreListed-back h n id = go (same_id s.sequent.concl id) refl
     where
       go : (b : Bool) → same_id s.sequent.concl id ≡ b → IsListed held id (list_of new id)
       go true e =
           let own = same_id-true s.sequent.concl id e in
-          subst (λ x. IsListed held x (list_of new x)) own (listed-struck held s.sequent.concl (list_of old s.sequent.concl) s (list_of new s.sequent.concl) (h s.sequent.concl) n)
+          subst (λ x. IsListed held x (list_of new x)) own
+          (listed-struck held s.sequent.concl (list_of old s.sequent.concl) s (list_of new s.sequent.concl) (h s.sequent.concl) n)
       go false e = subst (IsListed held id) (sym (others id e)) (listed-other-back held id (list_of old id) s e (h id))
 
 -- a list was lent, and has the same places
-pub list_of-kept : {Z : Type 0} (old new : List (TermId × Vec ℕ Z)) (concl : TermId) (was now : Vec ℕ Z) → Some was ≡ lookup (same_id concl) old → ((id : TermId) → lookup (same_id id) new ≡ cond (same_id concl id) (Some now) (lookup (same_id id) old))
+pub list_of-kept : {Z : Type 0} (old new : List (TermId × Vec ℕ Z)) (concl : TermId) (was now : Vec ℕ Z) → Some was ≡ lookup (same_id concl) old
+    → ((id : TermId) → lookup (same_id id) new ≡ cond (same_id concl id) (Some now) (lookup (same_id id) old))
     → now.items ≡ was.items → (id : TermId) → list_of new id ≡ list_of old id
 list_of-kept old new concl was now there update same id = ap items_of (update id) ∙ go (same_id concl id) refl
   where
@@ -335,11 +402,13 @@ list_of-kept old new concl was now there update same id = ap items_of (update id
     go false e = refl
 
 -- the lists say the same where each list is the same
-pub AreListed-same : {Y Z : Type 0} (held : List Said) (old : List (TermId × Vec ℕ Y)) (new : List (TermId × Vec ℕ Z)) → ((id : TermId) → list_of new id ≡ list_of old id) → AreListed held old → AreListed held new
+pub AreListed-same : {Y Z : Type 0} (held : List Said) (old : List (TermId × Vec ℕ Y)) (new : List (TermId × Vec ℕ Z))
+    → ((id : TermId) → list_of new id ≡ list_of old id) → AreListed held old → AreListed held new
 AreListed-same held old new e h id = subst (IsListed held id) (sym (e id)) (h id)
 
 -- the list of a conclusion that was read
-pub listed_now : {Z : Type 0} (held pool : List Said) (lists : List (TermId × Vec ℕ Z)) (id : TermId) (list : List ℕ) → held ≡ pool → AreListed held lists → list ≡ list_of lists id → IsListed pool id list
+pub listed_now : {Z : Type 0} (held pool : List Said) (lists : List (TermId × Vec ℕ Z)) (id : TermId) (list : List ℕ) → held ≡ pool → AreListed held lists
+    → list ≡ list_of lists id → IsListed pool id list
 listed_now held pool lists id list e h f = subst (λ l. IsListed pool id l) (sym f) (subst (λ p. IsListed p id (list_of lists id)) e (h id))
 
 -- a place of a list is one of the pool

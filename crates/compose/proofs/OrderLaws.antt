@@ -39,7 +39,8 @@ module _ (a b : List TermId) where
 
   -- each has one, and that of the first is the lesser
   pub compares-less : (id other : TermId) → id.0 < other.0 → IsLeastBeyond a b (Some id) → IsLeastBeyond b a (Some other) → IsBefore a b
-  compares-less id other l p q = record { at = id.0; own = p.own; lacks = p.lacks; same = λ n m. both_ways (has a n) (has b n) (p.below n m) (q.below n (omega (arith, l, m))) }
+  compares-less id other l p q = record
+      { at = id.0; own = p.own; lacks = p.lacks; same = λ n m. both_ways (has a n) (has b n) (p.below n m) (q.below n (omega (arith, l, m))) }
 
 -- or that of the second
 pub compares-greater : (a b : List TermId) (id other : TermId) → other.0 ≤ id.0 → IsLeastBeyond a b (Some id) → IsLeastBeyond b a (Some other) → IsBefore b a
@@ -63,7 +64,8 @@ has-push [] id n e = go (n == id.0) refl e
     go false p h = absurd (true≢false (sym h))
 has-push (x ∷ ids) id n e = go (n == x.0) refl e (has-push ids id n)
   where
-    go : (b : Bool) → (n == x.0) ≡ b → (b || has (ids ++ id ∷ []) n) ≡ true → (has (ids ++ id ∷ []) n ≡ true → (has ids n ≡ true) ⊎ (n ≡ id.0)) → (has (x ∷ ids) n ≡ true) ⊎ (n ≡ id.0)
+    go : (b : Bool) → (n == x.0) ≡ b → (b || has (ids ++ id ∷ []) n) ≡ true → (has (ids ++ id ∷ []) n ≡ true → (has ids n ≡ true) ⊎ (n ≡ id.0))
+        → (has (x ∷ ids) n ≡ true) ⊎ (n ≡ id.0)
     go true p h on = inl (ap (λ b. b || has ids n) p)
     go false p h on = later (on h)
       where

@@ -47,7 +47,8 @@ pub take-push : {A : Type 0} (xs ys : List A) (x : A) → ys ≡ xs ++ x ∷ [] 
 take-push xs ys x e = rw e (ap (λ n. take n (xs ++ x ∷ [])) (let l = length-append xs (x ∷ []) in omega (arith, l)) ∙ take-append_seam xs (x ∷ []))
 
 -- and from the steps
-pub steps-push : (held : List Said) (s : Said) (steps : List ℕ) (step : ℕ) → steps ≡ steps_in held → s.step ≡ step → steps ++ step ∷ [] ≡ steps_in (held ++ s ∷ [])
+pub steps-push : (held : List Said) (s : Said) (steps : List ℕ) (step : ℕ) → steps ≡ steps_in held → s.step ≡ step → steps ++ step ∷ []
+    ≡ steps_in (held ++ s ∷ [])
 steps-push held s steps step e f = ap₂ (λ l n. l ++ n ∷ []) e (sym f) ∙ sym (map-append (λ (u : Said). u.step) held (s ∷ []))
 
 pub steps-pop : (held : List Said) (s : Said) (steps : List ℕ) → steps ≡ steps_in (held ++ s ∷ []) → take (length steps - 1) steps ≡ steps_in held
@@ -94,23 +95,29 @@ module _ (trees : Trees) (d : IsDistinct trees.terms) where
       same_from_decides (term_eq (term_at trees p.0) (term_at trees q.0)) (same_id p q) (term_eq-Decides (term_at trees p.0) (term_at trees q.0))
       (Decides-like (same_id p q) (ap (λ (id : TermId). term_at trees id.0)) (term_in-same d p q h k) (same_id-Decides p q))
 
-  all_in-at : (xs ys : List TermId) → AreKnown trees xs → AreKnown trees ys → list_all (λ t. is_in term_eq t (terms_at trees ys)) (terms_at trees xs) ≡ list_all (λ id. is_in same_id id ys) xs
+  all_in-at : (xs ys : List TermId) → AreKnown trees xs → AreKnown trees ys → list_all (λ t. is_in term_eq t (terms_at trees ys)) (terms_at trees xs)
+      ≡ list_all (λ id. is_in same_id id ys) xs
   all_in-at [] ys k l = refl
-  all_in-at (x ∷ xs) ys k l = ap₂ (λ a b. a && b) (is_in-map (λ id. term_at trees id.0) same_id term_eq (IsOf trees) term_eq-at x ys k.0 (each_known trees ys l)) (all_in-at xs ys k.1 l)
+  all_in-at (x ∷ xs) ys k l = ap₂ (λ a b. a && b)
+      (is_in-map (λ id. term_at trees id.0) same_id term_eq (IsOf trees) term_eq-at x ys k.0 (each_known trees ys l)) (all_in-at xs ys k.1 l)
 
   -- a sequent is within another where its hypotheses and its conclusion are
-  within-at : (a b : Sequent) → IsKnown trees a → IsKnown trees b → within (sequent_at trees a) (sequent_at trees b) ≡ (list_all (λ id. is_in same_id id b.hyps) a.hyps && same_id a.concl b.concl)
+  within-at : (a b : Sequent) → IsKnown trees a → IsKnown trees b → within (sequent_at trees a) (sequent_at trees b)
+      ≡ (list_all (λ id. is_in same_id id b.hyps) a.hyps && same_id a.concl b.concl)
   within-at a b k l = ap₂ (λ x y. x && y) (all_in-at a.hyps b.hyps k.0 l.0) (term_eq-at a.concl b.concl k.1 l.1)
 
   module _ (sequent : Sequent) (k : IsKnown trees sequent) (s : Said) (l : IsKnown trees s.sequent) where
     -- what is the same has the same conclusion and the same set of hypotheses
     same-parts : is_same_at trees sequent s ≡ true → (s.sequent.concl ≡ sequent.concl) × AreSame s.sequent.hyps sequent.hyps
     same-parts e =
-        let one = sym (within-at s.sequent sequent l k) ∙ first_half (within (sequent_at trees s.sequent) (sequent_at trees sequent)) (within (sequent_at trees sequent) (sequent_at trees s.sequent)) e in
-        let two = sym (within-at sequent s.sequent k l) ∙ second_half (within (sequent_at trees s.sequent) (sequent_at trees sequent)) (within (sequent_at trees sequent) (sequent_at trees s.sequent)) e in
+        let one = sym (within-at s.sequent sequent l k)
+        ∙ first_half (within (sequent_at trees s.sequent) (sequent_at trees sequent)) (within (sequent_at trees sequent) (sequent_at trees s.sequent)) e in
+        let two = sym (within-at sequent s.sequent k l)
+        ∙ second_half (within (sequent_at trees s.sequent) (sequent_at trees sequent)) (within (sequent_at trees sequent) (sequent_at trees s.sequent)) e in
         let there = list_all-has s.sequent.hyps sequent.hyps (first_half _ _ one) in
         let back = list_all-has sequent.hyps s.sequent.hyps (first_half _ _ two) in (
-          same_id-true s.sequent.concl sequent.concl (second_half (list_all (λ id. is_in same_id id sequent.hyps) s.sequent.hyps) (same_id s.sequent.concl sequent.concl) one),
+          same_id-true s.sequent.concl sequent.concl
+              (second_half (list_all (λ id. is_in same_id id sequent.hyps) s.sequent.hyps) (same_id s.sequent.concl sequent.concl) one),
           λ n. both_ways (has s.sequent.hyps n) (has sequent.hyps n) (there n) (back n),
         )
 
@@ -120,17 +127,21 @@ module _ (trees : Trees) (d : IsDistinct trees.terms) where
         let one : same_id s.sequent.concl sequent.concl ≡ true = ap (λ p. same_id s.sequent.concl p) (sym e) ∙ same_id-itself s.sequent.concl in
         let two : same_id sequent.concl s.sequent.concl ≡ true = ap (λ p. same_id p s.sequent.concl) (sym e) ∙ same_id-itself s.sequent.concl in
         both_halves (within (sequent_at trees s.sequent) (sequent_at trees sequent)) (within (sequent_at trees sequent) (sequent_at trees s.sequent))
-        (within-at s.sequent sequent l k ∙ both_halves (list_all (λ id. is_in same_id id sequent.hyps) s.sequent.hyps) (same_id s.sequent.concl sequent.concl) (has-list_all s.sequent.hyps sequent.hyps (λ n m. sym (h n) ∙ m)) one)
-        (within-at sequent s.sequent k l ∙ both_halves (list_all (λ id. is_in same_id id s.sequent.hyps) sequent.hyps) (same_id sequent.concl s.sequent.concl) (has-list_all sequent.hyps s.sequent.hyps (λ n m. h n ∙ m)) two)
+        (within-at s.sequent sequent l k ∙ both_halves (list_all (λ id. is_in same_id id sequent.hyps) s.sequent.hyps) (same_id s.sequent.concl sequent.concl)
+        (has-list_all s.sequent.hyps sequent.hyps (λ n m. sym (h n) ∙ m)) one)
+        (within-at sequent s.sequent k l ∙ both_halves (list_all (λ id. is_in same_id id s.sequent.hyps) sequent.hyps) (same_id sequent.concl s.sequent.concl)
+        (has-list_all sequent.hyps s.sequent.hyps (λ n m. h n ∙ m)) two)
 
   known_at : (pool : List Said) (i : ℕ) (s : Said) → AreSequentsKnown trees pool → slice_get pool i ≡ Some s → IsKnown trees s.sequent
   known_at [] i s h e = absurd (cc)
   known_at (t ∷ pool) zero s h e = subst (λ (u : Said). IsKnown trees u.sequent) (same_Some _ _ e) h.0
   known_at (t ∷ pool) (suc i) s h e = known_at pool i s h.1 e
 
-  module _ (sequent : Sequent) (k : IsKnown trees sequent) (pool : List Said) (known : AreSequentsKnown trees pool) (list : List ℕ) (h : IsListed pool sequent.concl list) where
+  module _ (sequent : Sequent) (k : IsKnown trees sequent) (pool : List Said) (known : AreSequentsKnown trees pool) (list : List ℕ)
+      (h : IsListed pool sequent.concl list) where
     -- of what is the same as the sequent, the list has the first that is the same
-    listed : (j : ℕ) (s : Said) → slice_get pool j ≡ Some s → is_same_at trees sequent s ≡ true → (i : ℕ) × (i < length list) × (place_at list i ≤ j) × AreSame (set_at pool (place_at list i)) sequent.hyps
+    listed : (j : ℕ) (s : Said) → slice_get pool j ≡ Some s → is_same_at trees sequent s ≡ true → (i : ℕ) × (i < length list) × (place_at list i ≤ j)
+        × AreSame (set_at pool (place_at list i)) sequent.hyps
     listed j s e same =
         let parts = same-parts sequent k s (known_at pool j s known e) same in
         let w = h.first j s e parts.0 in
@@ -145,7 +156,8 @@ module _ (trees : Trees) (d : IsDistinct trees.terms) where
         (parts-same sequent k w.0 (known_at pool (place_at list i) w.0 known w.1) w.2 (λ n. sym (ap (λ x. has x n) set) ∙ f.same n))
         (λ j s l g same. before j s l (listed j s g same)))
       where
-        before : (j : ℕ) (s : Said) → j < place_at list i → (m : ℕ) × (m < length list) × (place_at list m ≤ j) × AreSame (set_at pool (place_at list m)) sequent.hyps → ⊥
+        before : (j : ℕ) (s : Said) → j < place_at list i → (m : ℕ) × (m < length list) × (place_at list m ≤ j)
+            × AreSame (set_at pool (place_at list m)) sequent.hyps → ⊥
         before j s l w =
             let one : w.0 ≡ i = one_of_each pool list w.0 i h.ordered w.1 f.within (λ n. w.3 n ∙ sym (f.same n)) in
             let same : place_at list w.0 ≡ place_at list i = ap (place_at list) one in
@@ -166,17 +178,20 @@ module _ (trees : Trees) (d : IsDistinct trees.terms) where
             go (inr l) = before-not_same sequent.hyps (set_at pool (place_at list w.0)) (b.above w.0 l w.1) (λ n. sym (w.3 n))
 
 -- the step that was read at a place
-pub read-step : (pool held : List Said) (steps : List ℕ) (i step : ℕ) → steps ≡ steps_in held → held ≡ pool → i < length pool → step ≡ get_or steps i step → slice_get (steps_in pool) i ≡ Some step
+pub read-step : (pool held : List Said) (steps : List ℕ) (i step : ℕ) → steps ≡ steps_in held → held ≡ pool → i < length pool → step ≡ get_or steps i step
+    → slice_get (steps_in pool) i ≡ Some step
 read-step pool held steps i step e f l g =
     let same : steps ≡ steps_in pool = e ∙ ap steps_in f in
     slice_get_read (steps_in pool) (length pool) i step (sym (length_map (λ (s : Said). s.step) pool)) l (g ∙ ap (λ xs. get_or xs i step) same)
 
 module _ (test : Said → Bool) (pool : List Said) where
   -- the step at the first place is that of the first
-  pub found-step : (n i step : ℕ) → Some i ≡ first_place test pool → i < n → slice_get (steps_in pool) i ≡ Some step → Some step ≡ step_of (find test (take n pool))
+  pub found-step : (n i step : ℕ) → Some i ≡ first_place test pool → i < n → slice_get (steps_in pool) i ≡ Some step → Some step
+      ≡ step_of (find test (take n pool))
   found-step n i step e l f = sym (ap step_of (find-below test pool n i (sym e) l) ∙ sym (slice_get-map (λ (s : Said). s.step) pool i) ∙ f)
 
-  pub found-step_of_all : (i step : ℕ) → Some i ≡ first_place test pool → i < length pool → slice_get (steps_in pool) i ≡ Some step → Some step ≡ step_of (find test pool)
+  pub found-step_of_all : (i step : ℕ) → Some i ≡ first_place test pool → i < length pool → slice_get (steps_in pool) i ≡ Some step → Some step
+      ≡ step_of (find test pool)
   found-step_of_all i step e l f = found-step (length pool) i step e l f ∙ ap (λ xs. step_of (find test xs)) (take-length pool)
 
   pub found-none_of_all : None ≡ first_place test pool → None ≡ step_of (find test pool)

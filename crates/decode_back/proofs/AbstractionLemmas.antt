@@ -76,7 +76,8 @@ module _ (t : HolType) where
   close-put_at d (term.Term.free n u) h = ap (λ c. cond c (term.Term.bound d) (term.Term.free n u)) (other n u h.0)
   close-put_at d (term.Term.bound n) h = close-put_bound d n
   close-put_at d (term.Term.constant n u) h = refl
-  close-put_at d (term.Term.app f x) h = ap₂ term.Term.app (close-put_at d f (All-left _ (free_places f) (free_places x) h)) (close-put_at d x (All-right _ (free_places f) (free_places x) h))
+  close-put_at d (term.Term.app f x) h = ap₂ term.Term.app (close-put_at d f (All-left _ (free_places f) (free_places x) h))
+      (close-put_at d x (All-right _ (free_places f) (free_places x) h))
   close-put_at d (term.Term.lam u b) h = ap (term.Term.lam u) (close-put_at (suc d) b h)
 
   pub close-put : (b : Term) → IsFresh b → close own (put (term.Term.free outside_name t) b) ≡ b
@@ -87,19 +88,22 @@ pub open-IsFresh : (types : List ClosedType) (c : ClosedTerm) → IsFresh (open_
 open-IsFresh types (ClosedTerm.parameter j) = ((λ e. cc), tt {0})
 open-IsFresh types (ClosedTerm.bound k) = tt
 open-IsFresh types (ClosedTerm.constant n t) = tt
-open-IsFresh types (ClosedTerm.app f x) = All-append _ (free_places (open_term parameter_name types f)) (free_places (open_term parameter_name types x)) (open-IsFresh types f) (open-IsFresh types x)
+open-IsFresh types (ClosedTerm.app f x) = All-append _ (free_places (open_term parameter_name types f)) (free_places (open_term parameter_name types x))
+    (open-IsFresh types f) (open-IsFresh types x)
 open-IsFresh types (ClosedTerm.lam t b) = open-IsFresh types b
 
 -- the abstraction that is made
 module _ (t : HolType) (b : Term) (there : ℕ) where
-  pub lam-made : (left : ℕ) (trees : Trees) (id : TermId) → IsFresh b → Holds trees id.0 (term.Term.lam t (close (outside_name, t) (put (term.Term.free outside_name t) b))) → left + (1 + type_size t) ≡ there
+  pub lam-made : (left : ℕ) (trees : Trees) (id : TermId) → IsFresh b
+      → Holds trees id.0 (term.Term.lam t (close (outside_name, t) (put (term.Term.free outside_name t) b))) → left + (1 + type_size t) ≡ there
       → IsLamFound t b there left trees (Some id)
   lam-made left trees id h made paid = (subst (λ c. Holds trees id.0 (term.Term.lam t c)) (close-put t b h) made, paid)
 
   pub lam-short : (left : ℕ) (trees : Trees) → there < 1 + type_size t → IsLamFound t b there left trees None
   lam-short left trees l whole level e m n size depth = omega (arith, l, e, size)
 
-  pub lam-refused : (left : ℕ) (trees : Trees) (k : Kind) → PassesLimit k (term_size (term.Term.free outside_name t)) (term_depth (term.Term.free outside_name t)) → IsLamFound t b there left trees None
+  pub lam-refused : (left : ℕ) (trees : Trees) (k : Kind)
+      → PassesLimit k (term_size (term.Term.free outside_name t)) (term_depth (term.Term.free outside_name t)) → IsLamFound t b there left trees None
   lam-refused left trees k p whole level e m n size depth = passes k _ _ p (omega (arith, size, m)) (omega (arith, depth, n))
     where
       passes : (k : Kind) (size depth : ℕ) → PassesLimit k size depth → size ≤ greatest_size → depth ≤ greatest_depth → ⊥
@@ -108,14 +112,17 @@ module _ (t : HolType) (b : Term) (there : ℕ) where
       passes _ size depth p a b = p
 
 -- the abstraction of a body, opened with a variable of the name outside and closed again
-pub lam-held : (one two three four : Trees) (ty : TypeId) (name : Name) (body outside opened id : TermId) → Keeps one two → Keeps two three → ty.0 < length one.types → body.0 < length one.terms → name ≡ outside_name
+pub lam-held : (one two three four : Trees) (ty : TypeId) (name : Name) (body outside opened id : TermId) → Keeps one two → Keeps two three
+    → ty.0 < length one.types → body.0 < length one.terms → name ≡ outside_name
     → Holds two outside.0 (term.Term.free name (type_at one ty.0)) → Holds three opened.0 (put (term_at two outside.0) (term_at two body.0))
     → Holds four id.0 (term.Term.lam (type_at three ty.0) (close (name, type_at three ty.0) (term_at three opened.0)))
-    → Holds four id.0 (term.Term.lam (type_at one ty.0) (close (outside_name, type_at one ty.0) (put (term.Term.free outside_name (type_at one ty.0)) (term_at one body.0))))
+    → Holds four id.0
+    (term.Term.lam (type_at one ty.0) (close (outside_name, type_at one ty.0) (put (term.Term.free outside_name (type_at one ty.0)) (term_at one body.0))))
 lam-held one two three four ty name body outside opened id k l typed known e free_is opened_is made =
     let type_is : type_at three ty.0 ≡ type_at one ty.0 = sym (tree_at-Stays (Keeps-trans k l).types.stays ty.0 typed) in
     let body_is : term_at two body.0 ≡ term_at one body.0 = sym (term_in-Stays k.stays body.0 known) in
-    let outside_is : term_at two outside.0 ≡ term.Term.free name (type_at one ty.0) = Some-term_in two.terms outside.0 (term.Term.free name (type_at one ty.0)) free_is in
+    let outside_is : term_at two outside.0 ≡ term.Term.free name (type_at one ty.0) =
+    Some-term_in two.terms outside.0 (term.Term.free name (type_at one ty.0)) free_is in
     let whole : term_at three opened.0 ≡ put (term.Term.free outside_name (type_at one ty.0)) (term_at one body.0) =
     Some-term_in three.terms opened.0 (put (term_at two outside.0) (term_at two body.0)) opened_is
     ∙ (λ i. put (outside_is i) (body_is i)) ∙ ap (λ n. put (term.Term.free n (type_at one ty.0)) (term_at one body.0)) e in
@@ -136,20 +143,24 @@ module _ (d : List Declaration) (at : Place) (types : List ClosedType) (level th
       let m = both-is ClosedTerm.lam (bind (term_part A) (type_of_tree d at)) (term_from d B (inside at)) c e in
       record { t = m.0; b = m.1; typed = m.2; body = m.3; is = m.4 }
 
-  lam-size : (c : ClosedTerm) (h : IsLam c) → term_size (open_term parameter_name types c) ≡ 1 + type_size (open_type parameter_name h.t) + term_size (open_term parameter_name types h.b)
+  lam-size : (c : ClosedTerm) (h : IsLam c) → term_size (open_term parameter_name types c)
+      ≡ 1 + type_size (open_type parameter_name h.t) + term_size (open_term parameter_name types h.b)
   lam-size c h = ap (λ u. term_size (open_term parameter_name types u)) h.is
 
-  lam-depth : (c : ClosedTerm) (h : IsLam c) → term_depth (open_term parameter_name types c) ≡ term_depth (open_term parameter_name types (ClosedTerm.lam h.t h.b))
+  lam-depth : (c : ClosedTerm) (h : IsLam c) → term_depth (open_term parameter_name types c)
+      ≡ term_depth (open_term parameter_name types (ClosedTerm.lam h.t h.b))
   lam-depth c h = ap (λ u. term_depth (open_term parameter_name types u)) h.is
 
-  pub lam-no_type : there ≤ greatest_size → NoTypeWithin level (bind (term_part A) (type_of_tree d at)) → NoTermWithin types there level (term_from d (Lam A B) at)
+  pub lam-no_type : there ≤ greatest_size → NoTypeWithin level (bind (term_part A) (type_of_tree d at))
+      → NoTermWithin types there level (term_from d (Lam A B) at)
   lam-no_type l none c e a b =
       let h = lam-parts c e in
       let m = lam-size c h in
       let n = lam-depth c h in
       none h.t h.typed (omega (arith, a, l, m)) (omega (arith, b, n))
 
-  pub lam-no_body : (below : ℕ) → level ≤ below + 1 → NoTermWithin types there below (term_from d B (inside at)) → NoTermWithin types there level (term_from d (Lam A B) at)
+  pub lam-no_body : (below : ℕ) → level ≤ below + 1 → NoTermWithin types there below (term_from d B (inside at))
+      → NoTermWithin types there level (term_from d (Lam A B) at)
   lam-no_body below l none c e a b =
       let h = lam-parts c e in
       let m = lam-size c h in
@@ -160,9 +171,11 @@ module _ (d : List Declaration) (at : Place) (types : List ClosedType) (level th
     pub lam-is : term_from d (Lam A B) at ≡ Some (ClosedTerm.lam t b)
     lam-is = ap (λ o. both ClosedTerm.lam o (term_from d B (inside at))) typed ∙ ap (both ClosedTerm.lam (Some t)) body
 
-    pub lam-none : (after : ℕ) → there ≤ greatest_size → level ≤ greatest_depth → after + term_size (open_term parameter_name types b) ≡ there → NoLamWithin (open_type parameter_name t) (open_term parameter_name types b) after
+    pub lam-none : (after : ℕ) → there ≤ greatest_size → level ≤ greatest_depth → after + term_size (open_term parameter_name types b) ≡ there
+        → NoLamWithin (open_type parameter_name t) (open_term parameter_name types b) after
         → NoTermWithin types there level (term_from d (Lam A B) at)
     lam-none after l m e h c f x y =
         let g : ClosedTerm.lam t b ≡ c = some-injective (sym lam-is ∙ f) in
         h there level e l m
-        (subst (λ u. term_size (open_term parameter_name types u) ≤ there) (sym g) x) (subst (λ u. term_depth (open_term parameter_name types u) ≤ level) (sym g) y)
+        (subst (λ u. term_size (open_term parameter_name types u) ≤ there) (sym g) x)
+        (subst (λ u. term_depth (open_term parameter_name types u) ≤ level) (sym g) y)

@@ -23,14 +23,17 @@ pairs_at-append : (ts : List HolType) (ps qs : List (Name × TypeId)) → pairs_
 pairs_at-append ts [] qs = refl
 pairs_at-append ts (p ∷ ps) qs = ap (λ l. (p.0, tree_at ts p.1.0) ∷ l) (pairs_at-append ts ps qs)
 
-pub ArePairsKnown-append : (ts : List HolType) (ps : List (Name × TypeId)) (p : Name × TypeId) → ArePairsKnown ts ps → p.1.0 < length ts → ArePairsKnown ts (ps ++ p ∷ [])
+pub ArePairsKnown-append : (ts : List HolType) (ps : List (Name × TypeId)) (p : Name × TypeId) → ArePairsKnown ts ps → p.1.0 < length ts
+    → ArePairsKnown ts (ps ++ p ∷ [])
 ArePairsKnown-append ts [] p h l = (l, tt {0})
 ArePairsKnown-append ts (q ∷ ps) p h l = (h.0, ArePairsKnown-append ts ps p h.1 l)
 
-pub pairs-kept : (old new : List HolType) (ps : List (Name × TypeId)) (p : Name × TypeId) → Keeps old new → ArePairsKnown old ps → p.1.0 < length new → ArePairsKnown new (ps ++ p ∷ [])
+pub pairs-kept : (old new : List HolType) (ps : List (Name × TypeId)) (p : Name × TypeId) → Keeps old new → ArePairsKnown old ps → p.1.0 < length new
+    → ArePairsKnown new (ps ++ p ∷ [])
 pairs-kept old new ps p k h l = ArePairsKnown-append new ps p (ArePairsKnown-Keeps k ps h) l
 
-named-more : (i : ℕ) (ts : ClosedTypes) (t : ClosedType) → named_types i (joined ts (ClosedTypes.more t ClosedTypes.none)) ≡ named_types i ts ++ (parameter_name (i + closed_count ts), open_type parameter_name t) ∷ []
+named-more : (i : ℕ) (ts : ClosedTypes) (t : ClosedType) → named_types i (joined ts (ClosedTypes.more t ClosedTypes.none)) ≡ named_types i ts
+    ++ (parameter_name (i + closed_count ts), open_type parameter_name t) ∷ []
 named-more i ClosedTypes.none t = let z : i ≡ i + 0 = omega arith in ap (λ k. (parameter_name k, open_type parameter_name t) ∷ []) z
 named-more i (ClosedTypes.more u us) t =
     let z : suc i + closed_count us ≡ i + suc (closed_count us) = omega arith in
@@ -38,7 +41,8 @@ named-more i (ClosedTypes.more u us) t =
     (named-more (suc i) us t ∙ ap (λ k. named_types (suc i) us ++ (parameter_name k, open_type parameter_name t) ∷ []) z)
 
 module _ (d : List Declaration) (at : Place) where
-  stand-more : (ts : ClosedTypes) (As : List Tree) (t : ClosedType) (A : Tree) → StandForTypes d ts at As → StandsForType d t at A → StandForTypes d (joined ts (ClosedTypes.more t ClosedTypes.none)) at (As ++ A ∷ [])
+  stand-more : (ts : ClosedTypes) (As : List Tree) (t : ClosedType) (A : Tree) → StandForTypes d ts at As → StandsForType d t at A
+      → StandForTypes d (joined ts (ClosedTypes.more t ClosedTypes.none)) at (As ++ A ∷ [])
   stand-more ClosedTypes.none [] t A h k = (k, tt {0})
   stand-more ClosedTypes.none (B ∷ Bs) t A h k = absurd h
   stand-more (ClosedTypes.more u us) [] t A h k = absurd h
@@ -49,12 +53,15 @@ module _ (d : List Declaration) (at : Place) where
   taken-none args pairs e = record { taken = []; types = ClosedTypes.none; is = refl; many = refl; stand = tt {0}; pairs_are = e }
 
   -- and one more
-  pub taken-more : (level count next : ℕ) (args rest : List Tree) (X : Tree) (old new : List HolType) (trees : Trees) (items after : List (Name × TypeId)) (name : Name) (id : TypeId)
-      → AreTaken d at count args (X ∷ rest) (pairs_at old items) → IsTypeFound level (type_of_tree d at X) trees (Some id) → trees.types ≡ new → Keeps old new → ArePairsKnown old items
+  pub taken-more : (level count next : ℕ) (args rest : List Tree) (X : Tree) (old new : List HolType) (trees : Trees) (items after : List (Name × TypeId))
+      (name : Name) (id : TypeId)
+      → AreTaken d at count args (X ∷ rest) (pairs_at old items) → IsTypeFound level (type_of_tree d at X) trees (Some id) → trees.types ≡ new → Keeps old new
+      → ArePairsKnown old items
       → name ≡ parameter_name count → after ≡ items ++ (name, id) ∷ [] → next ≡ count + 1 → AreTaken d at next args rest (pairs_at new after)
   taken-more level count next args rest X old new trees items after name id h found e k known named f g =
       let t = found.0 in
-      let held : tree_at new id.0 ≡ open_type parameter_name t = ap (λ ts. tree_at ts id.0) (sym e) ∙ Holds-tree_at trees.types id.0 (open_type parameter_name t) found.2 in
+      let held : tree_at new id.0 ≡ open_type parameter_name t =
+      ap (λ ts. tree_at ts id.0) (sym e) ∙ Holds-tree_at trees.types id.0 (open_type parameter_name t) found.2 in
       let many : closed_count h.types ≡ count = count-stand d at h.types h.taken h.stand ∙ h.many in
       let z : 0 + closed_count h.types ≡ count = omega (arith, many) in
       let l = length-append h.taken (X ∷ []) in
@@ -72,17 +79,21 @@ module _ (d : List Declaration) (at : Place) where
       }
 
   -- no argument more
-  pub taken-few : (level count wanted : ℕ) (args rest : List Tree) (pairs : TypePairs) → AreTaken d at count args rest pairs → rest ≡ [] → count < wanted → LacksTypes level d at wanted args
+  pub taken-few : (level count wanted : ℕ) (args rest : List Tree) (pairs : TypePairs) → AreTaken d at count args rest pairs → rest ≡ [] → count < wanted
+      → LacksTypes level d at wanted args
   taken-few level count wanted args rest pairs h e l =
       let same : args ≡ h.taken = h.is ∙ ap (λ r. h.taken ++ r) e ∙ append-nil h.taken in
       let m : length args ≡ length h.taken = ap length same in
       walks.LacksTypes.too_few (omega (arith, m, h.many, l))
 
   -- an argument that is no type
-  pub taken-no_type : (level count wanted : ℕ) (args rest : List Tree) (X : Tree) (pairs : TypePairs) (trees : Trees) → AreTaken d at count args (X ∷ rest) pairs → IsTypeFound level (type_of_tree d at X) trees None → count < wanted
+  pub taken-no_type : (level count wanted : ℕ) (args rest : List Tree) (X : Tree) (pairs : TypePairs) (trees : Trees)
+      → AreTaken d at count args (X ∷ rest) pairs → IsTypeFound level (type_of_tree d at X) trees None → count < wanted
       → LacksTypes level d at wanted args
-  taken-no_type level count wanted args rest X pairs trees h none l = walks.LacksTypes.no_type (record { taken = h.taken; X = X; rest = rest; is = h.is; few = omega (arith, h.many, l); none = none })
+  taken-no_type level count wanted args rest X pairs trees h none l =
+      walks.LacksTypes.no_type (record { taken = h.taken; X = X; rest = rest; is = h.is; few = omega (arith, h.many, l); none = none })
 
   -- as many as were wanted
-  pub taken-all : (count wanted : ℕ) (args rest : List Tree) (pairs : TypePairs) → AreTaken d at count args rest pairs → count ≡ wanted → AreTaken d at wanted args rest pairs
+  pub taken-all : (count wanted : ℕ) (args rest : List Tree) (pairs : TypePairs) → AreTaken d at count args rest pairs → count ≡ wanted
+      → AreTaken d at wanted args rest pairs
   taken-all count wanted args rest pairs h e = subst (λ k. AreTaken d at k args rest pairs) e h

@@ -45,16 +45,19 @@ module _ (name : Name) (t : HolType) (there left : ℕ) (trees : Trees) where
   pub type_refused : (k : Kind) → PassesLimit k (type_size t) (type_depth t) → IsConstantMade name t there left trees None
   type_refused k p level l m a b = passes k _ _ p (omega (arith, a, l)) (omega (arith, b, m))
 
-  pub constant_refused : (k : Kind) (u : HolType) → u ≡ t → PassesLimit k (term_size (term.Term.constant name u)) (term_depth (term.Term.constant name u)) → IsConstantMade name t there left trees None
+  pub constant_refused : (k : Kind) (u : HolType) → u ≡ t → PassesLimit k (term_size (term.Term.constant name u)) (term_depth (term.Term.constant name u))
+      → IsConstantMade name t there left trees None
   constant_refused k u e p level l m a b =
-      passes k _ _ (subst (λ v. PassesLimit k (term_size (term.Term.constant name v)) (term_depth (term.Term.constant name v))) e p) (omega (arith, a, l)) (omega (arith, b, m))
+      passes k _ _ (subst (λ v. PassesLimit k (term_size (term.Term.constant name v)) (term_depth (term.Term.constant name v))) e p) (omega (arith, a, l))
+      (omega (arith, b, m))
 
   -- a constant that takes more than there is
   pub constant_short : (u : HolType) → u ≡ t → there < min (term_size (term.Term.constant name u)) (2 ^ 64 - 1) → IsConstantMade name t there left trees None
   constant_short u e short level l m a b = let z : type_size u ≡ type_size t = ap type_size e in omega (arith, a, short, z)
 
   -- and one that is made
-  pub constant-made : (u : HolType) (id : TermId) → u ≡ t → there ≤ greatest_size → Holds trees id.0 (term.Term.constant name u) → left + min (term_size (term.Term.constant name u)) (2 ^ 64 - 1) ≡ there
+  pub constant-made : (u : HolType) (id : TermId) → u ≡ t → there ≤ greatest_size → Holds trees id.0 (term.Term.constant name u)
+      → left + min (term_size (term.Term.constant name u)) (2 ^ 64 - 1) ≡ there
       → IsConstantMade name t there left trees (Some id)
   constant-made u id e l h paid =
       let z : type_size u ≡ type_size t = ap type_size e in (subst (λ v. Holds trees id.0 (term.Term.constant name v)) e h, omega (arith, paid, z, l))
@@ -74,7 +77,8 @@ module _ (d : List Declaration) (at : Place) (types : List ClosedType) (level th
       dead-applied parameter_name types d at there level (Sym s) xs
       (dead-symbol parameter_name types d at there level s (λ k f a b. let g : ◌≡◌ {A = Option Constant} None (Some k) = sym e ∙ f in absurd (cc)))
 
-  pub undeclared-head : (left : ℕ) (ys : List Tree) (trees : Trees) → length (signature ++ d) ≤ s → IsHeadFound level types there left d at (Sym s) xs ys trees None
+  pub undeclared-head : (left : ℕ) (ys : List Tree) (trees : Trees) → length (signature ++ d) ≤ s
+      → IsHeadFound level types there left d at (Sym s) xs ys trees None
   undeclared-head left ys trees l = undeclared_here (constant_at-undeclared d s l)
 
   module _ (name : Name) (variables : ℕ) (generic : ClosedType) (found : constant_at d s ≡ Some (constant_with name variables generic)) where
@@ -82,7 +86,8 @@ module _ (d : List Declaration) (at : Place) (types : List ClosedType) (level th
     pub lacks_types : there ≤ greatest_size → LacksTypes level d at variables xs → NoneHere
     lacks_types l (walks.LacksTypes.too_few m) c e a b = too_few parameter_name types d at s (constant_with name variables generic) xs found m c e
     lacks_types l (walks.LacksTypes.no_type h) c e a b =
-        let dead = dead-argument parameter_name types d at there level s (constant_with name variables generic) h.taken h.X found h.few (λ t f m n. h.none t f (omega (arith, m, l)) n) in
+        let dead = dead-argument parameter_name types d at there level s (constant_with name variables generic) h.taken h.X found h.few
+        (λ t f m n. h.none t f (omega (arith, m, l)) n) in
         dead-applied parameter_name types d at there level _ h.rest dead c
         (ap (λ A. term_from d A at) (sym (applied-append (Sym s) h.taken (h.X ∷ h.rest)) ∙ ap (applied (Sym s)) (sym h.is)) ∙ e) a b
 
@@ -97,7 +102,8 @@ module _ (d : List Declaration) (at : Place) (types : List ClosedType) (level th
       pub instance-is : substitute pairs (open_type parameter_name generic) ≡ open_type parameter_name instance
       instance-is =
           ap (λ ps. substitute ps (open_type parameter_name generic)) taken.pairs_are
-          ∙ instance-open taken.types generic variables (means-in_order parameter_name d s name variables generic (constant_at-is d s (constant_with name variables generic) found))
+          ∙ instance-open taken.types generic variables
+          (means-in_order parameter_name d s name variables generic (constant_at-is d s (constant_with name variables generic) found))
           (count ∙ sym (count-stand d at taken.types taken.taken taken.stand))
 
       whole : applied (Sym s) xs ≡ applied (applied (Sym s) taken.taken) rest
@@ -110,7 +116,8 @@ module _ (d : List Declaration) (at : Place) (types : List ClosedType) (level th
           (ap (λ A. term_from d A at) (sym whole) ∙ e) a b
 
       -- and the constant of its instance, made or refused
-      pub constant-head : (left : ℕ) (t : HolType) (trees : Trees) (o : Option TermId) → there ≤ greatest_size → level ≤ greatest_depth → t ≡ substitute pairs (open_type parameter_name generic)
+      pub constant-head : (left : ℕ) (t : HolType) (trees : Trees) (o : Option TermId) → there ≤ greatest_size → level ≤ greatest_depth → t
+          ≡ substitute pairs (open_type parameter_name generic)
           → IsConstantMade name t there left trees o → IsHeadFound level types there left d at (Sym s) xs rest trees o
       constant-head left t trees None l m e h =
           let z : t ≡ open_type parameter_name instance = e ∙ instance-is in
@@ -121,7 +128,8 @@ module _ (d : List Declaration) (at : Place) (types : List ClosedType) (level th
             taken.is,
             (
               ClosedTerm.constant name instance,
-              term_from-constant d (applied (Sym s) taken.taken) at _ (constant_from-stand parameter_name types d at s taken.taken taken.types (constant_with name variables generic) found taken.stand count),
+              term_from-constant d (applied (Sym s) taken.taken) at _
+                  (constant_from-stand parameter_name types d at s taken.taken taken.types (constant_with name variables generic) found taken.stand count),
               subst (λ u. Holds trees id.0 (term.Term.constant name u)) z h.0,
               subst (λ u. left + (1 + type_size u) ≡ there) z h.1,
             ),

@@ -45,8 +45,10 @@ module _ (d : List Declaration) (A : Tree) where
       subst (λ s. Enc d s A) (sym h.3) (parts-Enc d A h.0 h.1 (IsOpen-IsClosedForm parameter_name parameter_name-apart h.0 h.2))
 
 -- what is found of a declaration's number is found of the declaration
-pub declaration-answer : (source : Module) (i : ℕ) (x : Decl) (found : Option Closed) → slice_get source.decls i ≡ Some x → Answers (declarations_of source) (tree_at source.table x.ty.0) found
+pub declaration-answer : (source : Module) (i : ℕ) (x : Decl) (found : Option Closed) → slice_get source.decls i ≡ Some x
+    → Answers (declarations_of source) (tree_at source.table x.ty.0) found
     → (d : Declaration) → slice_get (declarations_of source) i ≡ Some d → Answers (declarations_of source) d.ty found
 declaration-answer source i x found e h d f =
-    let same : declaration_in source.table x ≡ d = some-injective (sym (slice_get-map (declaration_in source.table) source.decls i ∙ ap (option_map (declaration_in source.table)) e) ∙ f) in
+    let same : declaration_in source.table x ≡ d =
+    some-injective (sym (slice_get-map (declaration_in source.table) source.decls i ∙ ap (option_map (declaration_in source.table)) e) ∙ f) in
     subst (λ (y : Declaration). Answers (declarations_of source) y.ty found) same h

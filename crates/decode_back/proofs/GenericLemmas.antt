@@ -29,8 +29,10 @@ use Rattle.decode_back.specs.Walks.{parameter_name, greatest_number, IsGenericFo
 use Rattle.decode_back.proofs.NameLemmas.{parameter_name-apart}
 
 -- what is told of some names holds of the same names and count
-pub same-told : (told : Bool) (names vars : List Name) (k n : ℕ) → names ≡ vars → k ≡ n → Decides told (names ≡ map parameter_name (numbers 0 k)) → Decides told (vars ≡ map parameter_name (numbers 0 n))
-same-told told names vars k n e f h = subst (λ m. Decides told (vars ≡ map parameter_name (numbers 0 m))) f (subst (λ ns. Decides told (ns ≡ map parameter_name (numbers 0 k))) e h)
+pub same-told : (told : Bool) (names vars : List Name) (k n : ℕ) → names ≡ vars → k ≡ n → Decides told (names ≡ map parameter_name (numbers 0 k))
+    → Decides told (vars ≡ map parameter_name (numbers 0 n))
+same-told told names vars k n e f h = subst (λ m. Decides told (vars ≡ map parameter_name (numbers 0 m))) f
+    (subst (λ ns. Decides told (ns ≡ map parameter_name (numbers 0 k))) e h)
 
 module _ (d : List Declaration) (A : Tree) (limit : ℕ) where
   abbrev count : ℕ
@@ -49,8 +51,10 @@ module _ (d : List Declaration) (A : Tree) (limit : ℕ) where
 
   tells : (k : ℕ) (t : ClosedType) → generic_of d (Some A) ≡ Some (k, t) → Tells k t
   tells k t e =
-      let p = bind-is {A = Tree} {B = ℕ × ClosedType} (term_part (peel_types A).1) (λ T. bind (type_of_tree d (place count 0 0 0) T) (λ u. provided (in_order u) (Some (count, u)))) (k, t) e in
-      let q = bind-is {A = ClosedType} {B = ℕ × ClosedType} (type_of_tree d (place count 0 0 0) p.0) (λ u. provided (in_order u) (Some (count, u))) (k, t) p.2 in
+      let p = bind-is {A = Tree} {B = ℕ × ClosedType} (term_part (peel_types A).1)
+      (λ T. bind (type_of_tree d (place count 0 0 0) T) (λ u. provided (in_order u) (Some (count, u)))) (k, t) e in
+      let q = bind-is {A = ClosedType} {B = ℕ × ClosedType} (type_of_tree d (place count 0 0 0) p.0) (λ u. provided (in_order u) (Some (count, u))) (k, t) p.2
+      in
       let r = provided-is {A = ℕ × ClosedType} (in_order q.0) (Some (count, q.0)) (k, t) q.2 in
       let pair : ◌≡◌ {A = ℕ × ClosedType} (count, q.0) (k, t) = some-injective r.1 in
       let one : q.0 ≡ t = ap (λ (x : ℕ × ClosedType). x.1) pair in
@@ -58,12 +62,14 @@ module _ (d : List Declaration) (A : Tree) (limit : ℕ) where
         tree = p.0;
         part = p.1;
         found = q.1 ∙ ap Some one;
-        ordered = subst (λ u. distinct nat_eq (parameter_places u) ≡ numbers 0 count) one ((slice_eq-Decides Decides-eqb (distinct nat_eq (parameter_places q.0)) (numbers 0 count) (in_order q.0) refl).0 r.0);
+        ordered = subst (λ u. distinct nat_eq (parameter_places u) ≡ numbers 0 count) one
+            ((slice_eq-Decides Decides-eqb (distinct nat_eq (parameter_places q.0)) (numbers 0 count) (in_order q.0) refl).0 r.0);
         many = ap (λ (x : ℕ × ClosedType). x.0) pair;
       }
 
   abbrev pub None_told : Type 0
-  None_told = (k : ℕ) (t : ClosedType) → generic_of d (Some A) ≡ Some (k, t) → type_size (open_type parameter_name t) ≤ limit → type_depth (open_type parameter_name t) ≤ greatest_depth → ⊥
+  None_told = (k : ℕ) (t : ClosedType) → generic_of d (Some A) ≡ Some (k, t) → type_size (open_type parameter_name t) ≤ limit
+      → type_depth (open_type parameter_name t) ≤ greatest_depth → ⊥
 
   -- too many variables
   pub too_many : (n : ℕ) → count ≡ n → greatest_number < n → limit ≤ greatest_size → None_told
@@ -75,7 +81,8 @@ module _ (d : List Declaration) (A : Tree) (limit : ℕ) where
 
   module _ (T : Tree) (part : term_part (peel_types A).1 ≡ Some T) where
     one_tree : (k : ℕ) (t : ClosedType) → generic_of d (Some A) ≡ Some (k, t) → type_of_tree d (place count 0 0 0) T ≡ Some t
-    one_tree k t f = let h = tells k t f in let same : h.tree ≡ T = some-injective (sym h.part ∙ part) in ap (type_of_tree d (place count 0 0 0)) (sym same) ∙ h.found
+    one_tree k t f = let h = tells k t f in let same : h.tree ≡ T =
+        some-injective (sym h.part ∙ part) in ap (type_of_tree d (place count 0 0 0)) (sym same) ∙ h.found
 
     -- too large a tree
     pub too_large : 2 * limit < min (size T) (2 ^ 128 - 1) → None_told
@@ -98,12 +105,14 @@ module _ (d : List Declaration) (A : Tree) (limit : ℕ) where
           let yes : told ≡ true = decides.1 (ap type_variables (held ∙ ap (open_type parameter_name) same) ∙ numbered) in
           absurd (cc)
 
-      pub generic-found : told ≡ true → (new : Trees) → Holds new.types id.0 (open_type parameter_name found.0) → IsGenericFound limit (generic_of d (Some A)) new (Some (count, id))
+      pub generic-found : told ≡ true → (new : Trees) → Holds new.types id.0 (open_type parameter_name found.0)
+          → IsGenericFound limit (generic_of d (Some A)) new (Some (count, id))
       generic-found e new h =
           let ordered = numbered-in_order parameter_name parameter_name-apart found.0 count (sym (ap type_variables held) ∙ decides.0 e) in (
             found.0,
             ap (λ o. bind o (λ S. bind (type_of_tree d (place count 0 0 0) S) (λ u. provided (in_order u) (Some (count, u))))) part
                 ∙ ap (λ o. bind o (λ u. provided (in_order u) (Some (count, u)))) found.1
-                ∙ provided-true {A = ℕ × ClosedType} (in_order found.0) (Some (count, found.0)) ((slice_eq-Decides Decides-eqb (distinct nat_eq (parameter_places found.0)) (numbers 0 count) (in_order found.0) refl).1 ordered),
+                ∙ provided-true {A = ℕ × ClosedType} (in_order found.0) (Some (count, found.0))
+                ((slice_eq-Decides Decides-eqb (distinct nat_eq (parameter_places found.0)) (numbers 0 count) (in_order found.0) refl).1 ordered),
             h,
           )

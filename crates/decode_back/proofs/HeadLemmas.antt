@@ -19,10 +19,13 @@ level-none types size level o e = subst (λ l. NoTerm parameter_name types size 
 pub inside-is : (n m h b : ℕ) → place n m h (b + 1) ≡ inside (place n m h b)
 inside-is n m h b = let z : b + 1 ≡ suc b = omega arith in ap (place n m h) z
 
-module _ (d : List Declaration) (at : Place) (types : List ClosedType) (level there left : ℕ) (xs : List Tree) (trees : Trees) (found : Option TermId) (H : Tree) where
+module _ (d : List Declaration) (at : Place) (types : List ClosedType) (level there left : ℕ) (xs : List Tree) (trees : Trees) (found : Option TermId)
+    (H : Tree) where
   -- the head by another spelling
-  pub head-at : (ys : List Tree) (T : Tree) → H ≡ T → IsHeadFound level types there left d at T xs ys trees found → IsHeadFound level types there left d at H xs ys trees found
+  pub head-at : (ys : List Tree) (T : Tree) → H ≡ T → IsHeadFound level types there left d at T xs ys trees found
+      → IsHeadFound level types there left d at H xs ys trees found
   head-at ys T e h = subst (λ A. IsHeadFound level types there left d at A xs ys trees found) (sym e) h
 
-  pub variable-head : (v : ℕ) → H ≡ Var v → IsTermFound level types there left (term_from d (Var v) at) trees found → IsHeadFound level types there left d at H xs xs trees found
+  pub variable-head : (v : ℕ) → H ≡ Var v → IsTermFound level types there left (term_from d (Var v) at) trees found
+      → IsHeadFound level types there left d at H xs xs trees found
   variable-head v e h = head-at xs (Var v) e (head-found d at types level there left (Var v) xs trees (λ acc. refl) xs refl found h)

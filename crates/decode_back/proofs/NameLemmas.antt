@@ -25,11 +25,14 @@ parameter_name-apart i j e =
 numbered-Decides : (names : List Name) (i : ℕ) → Decides (numbered_from i names) (names ≡ map parameter_name (numbers i (length names)))
 numbered-Decides [] i = (λ h. refl, λ h. refl)
 numbered-Decides (n ∷ ns) i =
-    both-Decides (name_eq n (parameter_name i)) (numbered_from (suc i) ns) (name_eq-Decides n (parameter_name i)) (numbered-Decides ns (suc i)) (λ p q. λ j. p j ∷ q j) (λ h. (cc, cc))
+    both-Decides (name_eq n (parameter_name i)) (numbered_from (suc i) ns) (name_eq-Decides n (parameter_name i)) (numbered-Decides ns (suc i))
+    (λ p q. λ j. p j ∷ q j) (λ h. (cc, cc))
 
-pub numbered-told : (names : List Name) (count : ℕ) (told : Bool) → length names ≡ count → told ≡ numbered_from 0 names → Decides told (names ≡ map parameter_name (numbers 0 count))
+pub numbered-told : (names : List Name) (count : ℕ) (told : Bool) → length names ≡ count → told ≡ numbered_from 0 names
+    → Decides told (names ≡ map parameter_name (numbers 0 count))
 numbered-told names count told e f =
-    subst (λ b. Decides b (names ≡ map parameter_name (numbers 0 count))) (sym f) (subst (λ k. Decides (numbered_from 0 names) (names ≡ map parameter_name (numbers 0 k))) e (numbered-Decides names 0))
+    subst (λ b. Decides b (names ≡ map parameter_name (numbers 0 count))) (sym f)
+    (subst (λ k. Decides (numbered_from 0 names) (names ≡ map parameter_name (numbers 0 k))) e (numbered-Decides names 0))
 
 length-numbers : (i k : ℕ) → length (map parameter_name (numbers i k)) ≡ k
 length-numbers i zero = refl

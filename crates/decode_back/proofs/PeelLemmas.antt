@@ -20,7 +20,8 @@ is_types-tree_eq (Lam a b) = refl
 is_types-tree_eq (Pi a b) = refl
 
 -- what begins with no product
-pub peel_types-other : (trees : List Tree) (r : LpNode) → ((a b : LpId) → r ≡ node.Pi a b → ⊥) → ◌≡◌ {A = ℕ × Tree} (peel_types (tree_of_node trees r)) (0, tree_of_node trees r)
+pub peel_types-other : (trees : List Tree) (r : LpNode) → ((a b : LpId) → r ≡ node.Pi a b → ⊥)
+    → ◌≡◌ {A = ℕ × Tree} (peel_types (tree_of_node trees r)) (0, tree_of_node trees r)
 peel_types-other trees node.SortType h = refl
 peel_types-other trees node.SortKind h = refl
 peel_types-other trees (node.Var n) h = refl
@@ -29,7 +30,8 @@ peel_types-other trees (node.App f x) h = refl
 peel_types-other trees (node.Lam a b) h = refl
 peel_types-other trees (node.Pi a b) h = absurd (h a b refl)
 
-pub peel-other : (s : ℕ) (trees : List Tree) (r : LpNode) → ((a b : LpId) → r ≡ node.Pi a b → ⊥) → ◌≡◌ {A = List Tree × Tree} (peel s (tree_of_node trees r)) ([], tree_of_node trees r)
+pub peel-other : (s : ℕ) (trees : List Tree) (r : LpNode) → ((a b : LpId) → r ≡ node.Pi a b → ⊥)
+    → ◌≡◌ {A = List Tree × Tree} (peel s (tree_of_node trees r)) ([], tree_of_node trees r)
 peel-other s trees node.SortType h = refl
 peel-other s trees node.SortKind h = refl
 peel-other s trees (node.Var n) h = refl
@@ -42,19 +44,22 @@ peel-other s trees (node.Pi a b) h = absurd (h a b refl)
 pub peel_types-domain : (told : Bool) (a b : Tree) → told ≡ tree_eq a types → told ≡ false → ◌≡◌ {A = ℕ × Tree} (peel_types (Pi a b)) (0, Pi a b)
 peel_types-domain told a b e f = ap (λ t. peel_one t (Pi a b) (peel_types b)) (is_types-tree_eq a ∙ sym e ∙ f)
 
-pub peel_types-more : (told : Bool) (a b : Tree) → told ≡ tree_eq a types → told ≡ true → ◌≡◌ {A = ℕ × Tree} (peel_types (Pi a b)) (suc (peel_types b).0, (peel_types b).1)
+pub peel_types-more : (told : Bool) (a b : Tree) → told ≡ tree_eq a types → told ≡ true
+    → ◌≡◌ {A = ℕ × Tree} (peel_types (Pi a b)) (suc (peel_types b).0, (peel_types b).1)
 peel_types-more told a b e f = ap (λ t. peel_one t (Pi a b) (peel_types b)) (is_types-tree_eq a ∙ sym e ∙ f)
 
 -- so many products, and what is left
 abbrev pub after : ℕ → ℕ × Tree → ℕ × Tree
 after count r = (count + r.0, r.1)
 
-pub peeled-more : (count next : ℕ) (A B : Tree) → ◌≡◌ {A = ℕ × Tree} (peel_types A) (suc (peel_types B).0, (peel_types B).1) → next ≡ count + 1 → ◌≡◌ {A = ℕ × Tree} (after count (peel_types A)) (after next (peel_types B))
+pub peeled-more : (count next : ℕ) (A B : Tree) → ◌≡◌ {A = ℕ × Tree} (peel_types A) (suc (peel_types B).0, (peel_types B).1) → next ≡ count + 1
+    → ◌≡◌ {A = ℕ × Tree} (after count (peel_types A)) (after next (peel_types B))
 peeled-more count next A B e f =
     let z : count + suc (peel_types B).0 ≡ next + (peel_types B).0 = omega (arith, f) in
     ap (after count) e ∙ (λ i. (z i, (peel_types B).1))
 
-pub peeled-end : (whole : ℕ × Tree) (count : ℕ) (A : Tree) → ◌≡◌ {A = ℕ × Tree} whole (after count (peel_types A)) → ◌≡◌ {A = ℕ × Tree} (peel_types A) (0, A) → ◌≡◌ {A = ℕ × Tree} whole (count, A)
+pub peeled-end : (whole : ℕ × Tree) (count : ℕ) (A : Tree) → ◌≡◌ {A = ℕ × Tree} whole (after count (peel_types A)) → ◌≡◌ {A = ℕ × Tree} (peel_types A) (0, A)
+    → ◌≡◌ {A = ℕ × Tree} whole (count, A)
 peeled-end whole count A e f = let z : count + 0 ≡ count = omega arith in e ∙ ap (after count) f ∙ (λ i. (z i, A))
 
 -- the same for domains that are a symbol with an argument

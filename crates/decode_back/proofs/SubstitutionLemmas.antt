@@ -22,7 +22,8 @@ use Rattle.decode_back.specs.TermWalks.{named_types}
 use Rattle.decode_back.proofs.NameLemmas.{parameter_name-apart}
 
 -- the type that a number's name has among the named types
-lookup-named : (types : ClosedTypes) (i j : ℕ) → i < closed_count types → lookup (name_eq (parameter_name (j + i))) (named_types j types) ≡ Some (open_type parameter_name (argument types i))
+lookup-named : (types : ClosedTypes) (i j : ℕ) → i < closed_count types → lookup (name_eq (parameter_name (j + i))) (named_types j types)
+    ≡ Some (open_type parameter_name (argument types i))
 lookup-named ClosedTypes.none i j l = absurd (omega (arith, l))
 lookup-named (ClosedTypes.more t ts) zero j l =
     let z : parameter_name (j + 0) ≡ parameter_name j = ap parameter_name (omega arith) in
@@ -30,21 +31,29 @@ lookup-named (ClosedTypes.more t ts) zero j l =
     ap (λ b. cond b (Some (open_type parameter_name t)) (lookup (name_eq (parameter_name (j + 0))) (named_types (suc j) ts))) e
 lookup-named (ClosedTypes.more t ts) (suc i) j l =
     let z : suc j + i ≡ j + suc i = omega arith in
-    go (subst (λ k. lookup (name_eq (parameter_name k)) (named_types (suc j) ts) ≡ Some (open_type parameter_name (argument ts i))) z (lookup-named ts i (suc j) (omega (arith, l))))
+    go (subst (λ k. lookup (name_eq (parameter_name k)) (named_types (suc j) ts) ≡ Some (open_type parameter_name (argument ts i))) z
+    (lookup-named ts i (suc j) (omega (arith, l))))
     (name_eq (parameter_name (j + suc i)) (parameter_name j)) refl
   where
-    go : lookup (name_eq (parameter_name (j + suc i))) (named_types (suc j) ts) ≡ Some (open_type parameter_name (argument ts i)) → (b : Bool) → name_eq (parameter_name (j + suc i)) (parameter_name j) ≡ b
-        → cond b (Some (open_type parameter_name t)) (lookup (name_eq (parameter_name (j + suc i))) (named_types (suc j) ts)) ≡ Some (open_type parameter_name (argument ts i))
-    go later true e = let f : j + suc i ≡ j = parameter_name-apart (j + suc i) j ((name_eq-Decides (parameter_name (j + suc i)) (parameter_name j)).0 e) in absurd (omega (arith, f))
+    go : lookup (name_eq (parameter_name (j + suc i))) (named_types (suc j) ts) ≡ Some (open_type parameter_name (argument ts i)) → (b : Bool)
+        → name_eq (parameter_name (j + suc i)) (parameter_name j) ≡ b
+        → cond b (Some (open_type parameter_name t)) (lookup (name_eq (parameter_name (j + suc i))) (named_types (suc j) ts))
+        ≡ Some (open_type parameter_name (argument ts i))
+    go later true e = let f : j + suc i ≡ j = parameter_name-apart (j + suc i) j ((name_eq-Decides (parameter_name (j + suc i)) (parameter_name j)).0 e) in
+        absurd (omega (arith, f))
     go later false e = later
 
-image-named : (types : ClosedTypes) (i : ℕ) → i < closed_count types → image (named_types 0 types) (parameter_name i) ≡ open_type parameter_name (argument types i)
+image-named : (types : ClosedTypes) (i : ℕ) → i < closed_count types → image (named_types 0 types) (parameter_name i)
+    ≡ open_type parameter_name (argument types i)
 image-named types i l =
     let z : 0 + i ≡ i = omega arith in
-    ap (λ o. unwrap_or o (variable (parameter_name i))) (subst (λ k. lookup (name_eq (parameter_name k)) (named_types 0 types) ≡ Some (open_type parameter_name (argument types i))) z (lookup-named types i 0 l))
+    ap (λ o. unwrap_or o (variable (parameter_name i)))
+    (subst (λ k. lookup (name_eq (parameter_name k)) (named_types 0 types) ≡ Some (open_type parameter_name (argument types i))) z
+    (lookup-named types i 0 l))
 
 mutual
-  substitute-open : (types : ClosedTypes) (t : ClosedType) → AllByRecursion (λ i. i < closed_count types) (parameter_places t) → substitute (named_types 0 types) (open_type parameter_name t) ≡ open_type parameter_name (instance_of types t)
+  substitute-open : (types : ClosedTypes) (t : ClosedType) → AllByRecursion (λ i. i < closed_count types) (parameter_places t)
+      → substitute (named_types 0 types) (open_type parameter_name t) ≡ open_type parameter_name (instance_of types t)
   substitute-open types (ClosedType.parameter i) h = image-named types i h.0
   substitute-open types (ClosedType.operator n ts) h = ap (type.HolType.operator n) (substitute_all-open types ts h)
 

@@ -39,7 +39,8 @@ primitive-first n a p e =
     let f : name_eq n arrow_name ≡ true = same_from_decides (name_eq n arrow_name) a (name_eq-Decides n arrow_name) p ∙ e in
     rw f refl
 
-pub primitive-second : (n : Name) (a b : Bool) → Decides a (n ≡ arrow_name) → a ≡ false → Decides b (n ≡ bool_name) → b ≡ true → true ≡ not (is_lacking (primitive_arity n))
+pub primitive-second : (n : Name) (a b : Bool) → Decides a (n ≡ arrow_name) → a ≡ false → Decides b (n ≡ bool_name) → b ≡ true → true
+    ≡ not (is_lacking (primitive_arity n))
 primitive-second n a b p e q f =
     let g : name_eq n arrow_name ≡ false = same_from_decides (name_eq n arrow_name) a (name_eq-Decides n arrow_name) p ∙ e in
     let h : name_eq n bool_name ≡ true = same_from_decides (name_eq n bool_name) b (name_eq-Decides n bool_name) q ∙ f in
@@ -49,19 +50,25 @@ told : (i : Bool) → i ≡ not (is_lacking (arity_by false false i))
 told true = refl
 told false = refl
 
-pub primitive-third : (n : Name) (a b i : Bool) → Decides a (n ≡ arrow_name) → a ≡ false → Decides b (n ≡ bool_name) → b ≡ false → Decides i (n ≡ ind_name) → i ≡ not (is_lacking (primitive_arity n))
-primitive-third n a b i p e q f r = told i ∙ sym (ap (λ o. not (is_lacking o)) (arity-by n a b i p q r ∙ ap (λ x. arity_by x b i) e ∙ ap (λ x. arity_by false x i) f))
+pub primitive-third : (n : Name) (a b i : Bool) → Decides a (n ≡ arrow_name) → a ≡ false → Decides b (n ≡ bool_name) → b ≡ false → Decides i (n ≡ ind_name) → i
+    ≡ not (is_lacking (primitive_arity n))
+primitive-third n a b i p e q f r = told i ∙ sym
+    (ap (λ o. not (is_lacking o)) (arity-by n a b i p q r ∙ ap (λ x. arity_by x b i) e ∙ ap (λ x. arity_by false x i) f))
 
 -- one type of the product
-of_tree : (whole : Bool) (t d b : Tree) (k : ℕ) → t ≡ Pi d b → tree_eq d types ≡ true → whole ≡ tree_eq t (products (replicate (suc k) types) types) → whole ≡ tree_eq b (products (replicate k types) types)
+of_tree : (whole : Bool) (t d b : Tree) (k : ℕ) → t ≡ Pi d b → tree_eq d types ≡ true → whole ≡ tree_eq t (products (replicate (suc k) types) types) → whole
+    ≡ tree_eq b (products (replicate k types) types)
 of_tree whole t d b k e f g = g ∙ ap (λ x. tree_eq x (products (replicate (suc k) types) types)) e ∙ (rw f refl)
 
-pub one_type_off : (whole : Bool) (trees : List Tree) (i domain body arity counter : ℕ) → counter < arity → Holds trees i (Pi (tree_at trees domain) (tree_at trees body)) → tree_eq (tree_at trees domain) types ≡ true
-    → whole ≡ tree_eq (tree_at trees i) (products (replicate (arity - counter) types) types) → whole ≡ tree_eq (tree_at trees body) (products (replicate (arity - (counter + 1)) types) types)
+pub one_type_off : (whole : Bool) (trees : List Tree) (i domain body arity counter : ℕ) → counter < arity
+    → Holds trees i (Pi (tree_at trees domain) (tree_at trees body)) → tree_eq (tree_at trees domain) types ≡ true
+    → whole ≡ tree_eq (tree_at trees i) (products (replicate (arity - counter) types) types) → whole
+    ≡ tree_eq (tree_at trees body) (products (replicate (arity - (counter + 1)) types) types)
 one_type_off whole trees i domain body arity counter l h f g =
     let e : arity - counter ≡ suc (arity - (counter + 1)) = omega (arith, l) in
     let t : tree_at trees i ≡ Pi (tree_at trees domain) (tree_at trees body) = ap (λ o. unwrap_or o SortType) h in
-    of_tree whole (tree_at trees i) (tree_at trees domain) (tree_at trees body) (arity - (counter + 1)) t f (g ∙ ap (λ k. tree_eq (tree_at trees i) (products (replicate k types) types)) e)
+    of_tree whole (tree_at trees i) (tree_at trees domain) (tree_at trees body) (arity - (counter + 1)) t f
+    (g ∙ ap (λ k. tree_eq (tree_at trees i) (products (replicate k types) types)) e)
 
 -- a front that goes on where the text ends
 ends : (front text : List ℕ) → 0 < length front → length text < 1 → None ≡ behind front text
@@ -87,7 +94,8 @@ module _ (d : List Declaration) (s : ℕ) (front : List ℕ) where
       lacking : demangled text ≡ None
       lacking = go (Some-or_None (demangled text))
 
-  pub has_name : (text : List ℕ) (name : Name) → behind front (symbol_name d s) ≡ Some text → IsName name → mangled name ≡ text → Some name ≡ name_behind d s front
+  pub has_name : (text : List ℕ) (name : Name) → behind front (symbol_name d s) ≡ Some text → IsName name → mangled name ≡ text → Some name
+      ≡ name_behind d s front
   has_name text name e is m = sym (ap (λ o. bind o demangled) e ∙ ap demangled (sym m) ∙ demangled-mangled name is)
 
 -- the operator that a name tells
@@ -127,18 +135,25 @@ module _ (d : List Declaration) (s : ℕ) (front : List ℕ) (arity : ℕ) where
     kept false b f g = absurd (cc)
 
     pub is-primitive : (b : Bool) → b ≡ not (is_lacking (primitive_arity name)) → b ≡ true → None ≡ named_operator d s front arity
-    is-primitive b f g = sym (found ∙ unless (is_lacking (primitive_arity name)) (has_type (symbol_type d s) (products (replicate arity types) types)) (negated (is_lacking (primitive_arity name)) b f g))
+    is-primitive b f g = sym
+        (found ∙ unless (is_lacking (primitive_arity name)) (has_type (symbol_type d s) (products (replicate arity types) types))
+        (negated (is_lacking (primitive_arity name)) b f g))
 
-    typed : (A : Tree) (b : Bool) → symbol_type d s ≡ Some A → b ≡ tree_eq A (products (replicate arity types) types) → has_type (symbol_type d s) (products (replicate arity types) types) ≡ b
+    typed : (A : Tree) (b : Bool) → symbol_type d s ≡ Some A → b ≡ tree_eq A (products (replicate arity types) types)
+        → has_type (symbol_type d s) (products (replicate arity types) types) ≡ b
     typed A b t f = ap (λ o. has_type o (products (replicate arity types) types)) t ∙ sym f
 
-    pub other-type : (A : Tree) (b : Bool) → symbol_type d s ≡ Some A → b ≡ tree_eq A (products (replicate arity types) types) → b ≡ false → None ≡ named_operator d s front arity
-    other-type A b t f g = sym (found ∙ unless-second (is_lacking (primitive_arity name)) (has_type (symbol_type d s) (products (replicate arity types) types)) (typed A b t f ∙ g))
+    pub other-type : (A : Tree) (b : Bool) → symbol_type d s ≡ Some A → b ≡ tree_eq A (products (replicate arity types) types) → b ≡ false → None
+        ≡ named_operator d s front arity
+    other-type A b t f g = sym
+        (found ∙ unless-second (is_lacking (primitive_arity name)) (has_type (symbol_type d s) (products (replicate arity types) types)) (typed A b t f ∙ g))
 
-    pub is-named : (A : Tree) (a b : Bool) → a ≡ not (is_lacking (primitive_arity name)) → a ≡ false → symbol_type d s ≡ Some A → b ≡ tree_eq A (products (replicate arity types) types) → b ≡ true
+    pub is-named : (A : Tree) (a b : Bool) → a ≡ not (is_lacking (primitive_arity name)) → a ≡ false → symbol_type d s ≡ Some A → b
+        ≡ tree_eq A (products (replicate arity types) types) → b ≡ true
         → Some name ≡ named_operator d s front arity
     is-named A a b f g t h k =
-        sym (found ∙ both (is_lacking (primitive_arity name)) (has_type (symbol_type d s) (products (replicate arity types) types)) (kept (is_lacking (primitive_arity name)) a f g) (typed A b t h ∙ k))
+        sym (found ∙ both (is_lacking (primitive_arity name)) (has_type (symbol_type d s) (products (replicate arity types) types))
+        (kept (is_lacking (primitive_arity name)) a f g) (typed A b t h ∙ k))
 
 -- the front of the name of an input operator
 pub front-numeral : (k : ℕ) → k < 2 ^ 64 → codes "t" ++ decimal k ++ codes "_" ≡ codes "t" ++ numeral k ++ codes "_"

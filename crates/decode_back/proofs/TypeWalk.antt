@@ -61,11 +61,13 @@ length-types_at ts [] = refl
 length-types_at ts (x ∷ xs) = ap suc (length-types_at ts xs)
 
 pub arguments-count : (trees : Trees) (args : List TypeId) (acc : ClosedTypes) → AreArguments trees args acc → closed_count acc ≡ length args
-arguments-count trees args acc h = sym (count-open parameter_name acc) ∙ ap count (sym h) ∙ length-types (types_at trees.types args) ∙ length-types_at trees.types args
+arguments-count trees args acc h = sym (count-open parameter_name acc) ∙ ap count (sym h) ∙ length-types (types_at trees.types args) ∙ length-types_at
+    trees.types args
 
 -- a node that is no part of a spine stands for no type
 module _ (d : List Declaration) (at : Place) (level : ℕ) (trees : List Tree) where
-  pub no_spine : (r : LpNode) → (r ≡ node.SortType) ⊎ ((r ≡ node.SortKind) ⊎ (((a : LpId) × (b : LpId) × (r ≡ node.Lam a b)) ⊎ ((a : LpId) × (b : LpId) × (r ≡ node.Pi a b)))) → (acc : ClosedTypes)
+  pub no_spine : (r : LpNode) → (r ≡ node.SortType)
+      ⊎ ((r ≡ node.SortKind) ⊎ (((a : LpId) × (b : LpId) × (r ≡ node.Lam a b)) ⊎ ((a : LpId) × (b : LpId) × (r ≡ node.Pi a b)))) → (acc : ClosedTypes)
       → NoTypeWithin level (type_from d at (tree_of_node trees r) acc)
   no_spine r (inl e) acc = subst (λ x. NoTypeWithin level (type_from d at (tree_of_node trees x) acc)) (sym e) (λ t f. absurd (cc))
   no_spine r (inr (inl e)) acc = subst (λ x. NoTypeWithin level (type_from d at (tree_of_node trees x) acc)) (sym e) (λ t f. absurd (cc))
@@ -82,7 +84,8 @@ passes kind.TooDeep size depth p a b = omega (arith, p.1, b)
 passes _ size depth p a b = p
 
 -- what is refused isn't within the greatest size and a level
-pub not-within : (k : Kind) (level : ℕ) (t : HolType) → level ≤ greatest_depth → PassesLimit k (type_size t) (type_depth t) → type_size t ≤ greatest_size → type_depth t ≤ level → ⊥
+pub not-within : (k : Kind) (level : ℕ) (t : HolType) → level ≤ greatest_depth → PassesLimit k (type_size t) (type_depth t) → type_size t ≤ greatest_size
+    → type_depth t ≤ level → ⊥
 not-within k level t l p a b = passes k (type_size t) (type_depth t) p a (omega (arith, b, l))
 
 module _ (d : List Declaration) (at : Place) (level s k : ℕ) (acc : ClosedTypes) (count_is : closed_count acc ≡ k) where
@@ -91,21 +94,28 @@ module _ (d : List Declaration) (at : Place) (level s k : ℕ) (acc : ClosedType
       let g : ◌≡◌ {A = Option ClosedType} None (Some t) = sym (ap (option_map (λ n. ClosedType.operator n acc)) (ap (operator_at d s) count_is ∙ e)) ∙ f in
       absurd (cc)
 
-  pub symbol-some : (name : Name) (old new : Trees) (args ids : List TypeId) (id : TypeId) → operator_at d s k ≡ Some name → AreArguments old args acc → ids ≡ args
+  pub symbol-some : (name : Name) (old new : Trees) (args ids : List TypeId) (id : TypeId) → operator_at d s k ≡ Some name → AreArguments old args acc → ids
+      ≡ args
       → Holds new.types id.0 (operator name (types_of (types_at old.types ids))) → IsTypeFound level (type_from d at (Sym s) acc) new (Some id)
   symbol-some name old new args ids id e h f made =
-      let same : types_of (types_at old.types ids) ≡ open_types parameter_name acc = ap (λ l. types_of (types_at old.types l)) f ∙ h in
-      (ClosedType.operator name acc, ap (option_map (λ n. ClosedType.operator n acc)) (ap (operator_at d s) count_is ∙ e), subst (λ us. Holds new.types id.0 (operator name us)) same made)
+      let same : types_of (types_at old.types ids) ≡ open_types parameter_name acc = ap (λ l. types_of (types_at old.types l)) f ∙ h in (
+        ClosedType.operator name acc,
+        ap (option_map (λ n. ClosedType.operator n acc)) (ap (operator_at d s) count_is ∙ e),
+        subst (λ us. Holds new.types id.0 (operator name us)) same made,
+      )
 
   pub symbol-refused : (name : Name) (old : Trees) (args ids : List TypeId) → operator_at d s k ≡ Some name → AreArguments old args acc → ids ≡ args
-      → (type_size (operator name (types_of (types_at old.types ids))) ≤ greatest_size → type_depth (operator name (types_of (types_at old.types ids))) ≤ level → ⊥) → NoTypeWithin level (type_from d at (Sym s) acc)
+      → (type_size (operator name (types_of (types_at old.types ids))) ≤ greatest_size → type_depth (operator name (types_of (types_at old.types ids))) ≤ level
+      → ⊥) → NoTypeWithin level (type_from d at (Sym s) acc)
   symbol-refused name old args ids e h f refused =
       let same : types_of (types_at old.types ids) ≡ open_types parameter_name acc = ap (λ l. types_of (types_at old.types l)) f ∙ h in
       none-operator parameter_name d at greatest_size level s name acc (ap (operator_at d s) count_is ∙ e)
-      (λ a b. refused (subst (λ us. type_size (operator name us) ≤ greatest_size) (sym same) a) (subst (λ us. type_depth (operator name us) ≤ level) (sym same) b))
+      (λ a b. refused (subst (λ us. type_size (operator name us) ≤ greatest_size) (sym same) a)
+      (subst (λ us. type_depth (operator name us) ≤ level) (sym same) b))
 
 -- a symbol past those of the module stands for nothing
-pub undeclared-none : (d : List Declaration) (at : Place) (level s : ℕ) (acc : ClosedTypes) → length (signature ++ d) ≤ s → NoTypeWithin level (type_from d at (Sym s) acc)
+pub undeclared-none : (d : List Declaration) (at : Place) (level s : ℕ) (acc : ClosedTypes) → length (signature ++ d) ≤ s
+    → NoTypeWithin level (type_from d at (Sym s) acc)
 undeclared-none d at level s acc l = symbol-none d at level s (closed_count acc) acc refl (operator_at-undeclared d s l (closed_count acc))
 
 -- the type variable of a binder
@@ -113,14 +123,16 @@ module _ (d : List Declaration) (at : Place) (level v depth : ℕ) (all : depth_
   number_is : v < depth → depth_of at - suc v ≡ depth - 1 - v
   number_is l = omega (arith, all, l)
 
-  pub variable-found : v < depth → depth - 1 - v < at.type_variables → (new : Trees) (id : TypeId) → Holds new.types id.0 (variable (parameter_name (depth - 1 - v))) → IsTypeFound level (type_from d at (Var v) ClosedTypes.none) new (Some id)
+  pub variable-found : v < depth → depth - 1 - v < at.type_variables → (new : Trees) (id : TypeId)
+      → Holds new.types id.0 (variable (parameter_name (depth - 1 - v))) → IsTypeFound level (type_from d at (Var v) ClosedTypes.none) new (Some id)
   variable-found below own new id h =
       let same = number_is below in
       let l : v < depth_of at = omega (arith, all, below) in
       let m : depth_of at - suc v < at.type_variables = omega (arith, same, own) in (
         ClosedType.parameter (depth - 1 - v),
         provided-true (nat_lt v (depth_of at) && nat_lt (depth_of at - suc v) at.type_variables) (Some (ClosedType.parameter (depth_of at - suc v)))
-            (and_from (nat_lt v (depth_of at)) (nat_lt (depth_of at - suc v) at.type_variables) ((Decides-ltb v (depth_of at)).1 l) ((Decides-ltb (depth_of at - suc v) at.type_variables).1 m))
+            (and_from (nat_lt v (depth_of at)) (nat_lt (depth_of at - suc v) at.type_variables) ((Decides-ltb v (depth_of at)).1 l)
+            ((Decides-ltb (depth_of at - suc v) at.type_variables).1 m))
             ∙ ap (λ i. Some (ClosedType.parameter i)) same,
         h,
       )
@@ -137,7 +149,8 @@ module _ (d : List Declaration) (at : Place) (level v depth : ℕ) (all : depth_
   variable-none h (ClosedTypes.more t ts) u e = absurd (cc)
 
 -- a variable with arguments stands for no type
-pub applied_variable-none : (d : List Declaration) (at : Place) (level v : ℕ) (acc : ClosedTypes) (n : ℕ) → closed_count acc ≡ n → 0 < n → NoTypeWithin level (type_from d at (Var v) acc)
+pub applied_variable-none : (d : List Declaration) (at : Place) (level v : ℕ) (acc : ClosedTypes) (n : ℕ) → closed_count acc ≡ n → 0 < n
+    → NoTypeWithin level (type_from d at (Var v) acc)
 applied_variable-none d at level v ClosedTypes.none n c l = absurd (omega (arith, c, l))
 applied_variable-none d at level v (ClosedTypes.more t ts) n c l = λ u f. absurd (cc)
 

@@ -20,7 +20,8 @@ runs_decoded articles run r named = AreExports-decoded (image run) run 0 run.exp
 
 -- So are those of the module of every accepted run over articles of bytes.
 abbrev pub RunsOfBytesDecoded : Type 0
-RunsOfBytesDecoded = (articles : List (List ℕ)) (run : Accepted) → AllByRecursion AreBytes articles → Run articles (accepted run) → decoded_exports (image run) ≡ closed_exports run
+RunsOfBytesDecoded = (articles : List (List ℕ)) (run : Accepted) → AllByRecursion AreBytes articles → Run articles (accepted run) → decoded_exports (image run)
+    ≡ closed_exports run
 
 pub runs_of_bytes_decoded : RunsOfBytesDecoded
 runs_of_bytes_decoded articles run bytes r = exports_decoded (image run) run (runs_of_bytes_stand articles run bytes r)

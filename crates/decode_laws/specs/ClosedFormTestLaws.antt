@@ -39,7 +39,8 @@ module _ (named : ℕ → Name) (apart : (i j : ℕ) → named i ≡ named j →
   name-place i j (suc n) k = go (name_eq (named i) (named j)) refl (name_eq-Decides (named i) (named j)) (λ l. name-place i (suc j) n l) k
     where
       go : (b : Bool) → name_eq (named i) (named j) ≡ b → Decides (name_eq (named i) (named j)) (named i ≡ named j)
-          → (IsIn (map named (numbers (suc j) n)) (named i) → suc j + position_or_len (name_eq (named i)) (map named (numbers (suc j) n)) ≡ i) → IsIn (map named (numbers j (suc n))) (named i)
+          → (IsIn (map named (numbers (suc j) n)) (named i) → suc j + position_or_len (name_eq (named i)) (map named (numbers (suc j) n)) ≡ i)
+          → IsIn (map named (numbers j (suc n))) (named i)
           → j + position_or_len (name_eq (named i)) (map named (numbers j (suc n))) ≡ i
       go true e d later k =
           let p = position-cons (name_eq (named i)) (named j) (map named (numbers (suc j) n)) true e in
@@ -56,10 +57,13 @@ module _ (named : ℕ → Name) (apart : (i j : ℕ) → named i ≡ named j →
       → j + position_or_len (variable_eq (named i, u)) (open_variables named j ts) ≡ i
   variable-place i j u [] k = absurd k
   variable-place i j u (t ∷ ts) k =
-      go (variable_eq (named i, u) (named j, open_type named t)) refl (variable_eq-Decides (named i, u) (named j, open_type named t)) (λ l. variable-place i (suc j) u ts l) k
+      go (variable_eq (named i, u) (named j, open_type named t)) refl (variable_eq-Decides (named i, u) (named j, open_type named t))
+      (λ l. variable-place i (suc j) u ts l) k
     where
-      go : (b : Bool) → variable_eq (named i, u) (named j, open_type named t) ≡ b → Decides (variable_eq (named i, u) (named j, open_type named t)) (◌≡◌ {A = Variable} (named i, u) (named j, open_type named t))
-          → (IsIn (open_variables named (suc j) ts) (named i, u) → suc j + position_or_len (variable_eq (named i, u)) (open_variables named (suc j) ts) ≡ i) → IsIn (open_variables named j (t ∷ ts)) (named i, u)
+      go : (b : Bool) → variable_eq (named i, u) (named j, open_type named t) ≡ b
+          → Decides (variable_eq (named i, u) (named j, open_type named t)) (◌≡◌ {A = Variable} (named i, u) (named j, open_type named t))
+          → (IsIn (open_variables named (suc j) ts) (named i, u) → suc j + position_or_len (variable_eq (named i, u)) (open_variables named (suc j) ts) ≡ i)
+          → IsIn (open_variables named j (t ∷ ts)) (named i, u)
           → j + position_or_len (variable_eq (named i, u)) (open_variables named j (t ∷ ts)) ≡ i
       go true e d later k =
           let p = position-cons (variable_eq (named i, u)) (named j, open_type named t) (open_variables named (suc j) ts) true e in
@@ -76,7 +80,8 @@ module _ (named : ℕ → Name) (apart : (i j : ℕ) → named i ≡ named j →
       -- to open a type whose variables are among these and close it again changes nothing
       close-open_type : (t : ClosedType) → AllByRecursion (IsIn (map named (numbers 0 n))) (variable_places (open_type named t))
           → close_type (map named (numbers 0 n)) (open_type named t) ≡ t
-      close-open_type (ClosedType.parameter i) h = let p = name-place i 0 n h.0 in let z : position_or_len (name_eq (named i)) (map named (numbers 0 n)) ≡ i = omega (arith, p) in ap ClosedType.parameter z
+      close-open_type (ClosedType.parameter i) h = let p = name-place i 0 n h.0 in let z : position_or_len (name_eq (named i)) (map named (numbers 0 n)) ≡ i =
+          omega (arith, p) in ap ClosedType.parameter z
       close-open_type (ClosedType.operator m ts) h = ap (ClosedType.operator m) (close-open_types ts h)
 
       close-open_types : (ts : ClosedTypes) → AllByRecursion (IsIn (map named (numbers 0 n))) (variable_places_of_all (open_types named ts))
@@ -98,8 +103,18 @@ module _ (named : ℕ → Name) (apart : (i j : ℕ) → named i ≡ named j →
         let g = open_term named types f in
         let y = open_term named types x in
         ap₂ ClosedTerm.app
-        (close-open_term f (record { types = All-left _ (type_variable_places g) (type_variable_places y) h.types; terms = All-left _ (free_places g) (free_places y) h.terms }))
-        (close-open_term x (record { types = All-right _ (type_variable_places g) (type_variable_places y) h.types; terms = All-right _ (free_places g) (free_places y) h.terms }))
+        (close-open_term f
+        (record {
+          types = All-left _ (type_variable_places g) (type_variable_places y) h.types;
+          terms =
+              All-left _ (free_places g) (free_places y) h.terms;
+        }))
+        (close-open_term x
+        (record {
+          types = All-right _ (type_variable_places g) (type_variable_places y) h.types;
+          terms =
+              All-right _ (free_places g) (free_places y) h.terms;
+        }))
     close-open_term (ClosedTerm.lam t b) h =
         let y = open_term named types b in
         ap₂ ClosedTerm.lam (close-open_type t (All-left _ (variable_places (open_type named t)) (type_variable_places y) h.types))
@@ -111,7 +126,8 @@ module _ (named : ℕ → Name) (apart : (i j : ℕ) → named i ≡ named j →
     close-open_terms [] h = refl
     close-open_terms (t ∷ ts) h = λ i. close-open_term t h.0 i ∷ close-open_terms ts h.1 i
 
-    close-open_variables : (k : ℕ) (ts : List ClosedType) → AllByRecursion (λ v. AllByRecursion (IsIn (map named (numbers 0 n))) (variable_places v.1)) (open_variables named k ts)
+    close-open_variables : (k : ℕ) (ts : List ClosedType)
+        → AllByRecursion (λ v. AllByRecursion (IsIn (map named (numbers 0 n))) (variable_places v.1)) (open_variables named k ts)
         → map (λ v. close_type (map named (numbers 0 n)) v.1) (open_variables named k ts) ≡ ts
     close-open_variables k [] h = refl
     close-open_variables k (t ∷ ts) h = λ i. close-open_type t h.0 i ∷ close-open_variables (suc k) ts h.1 i
@@ -123,11 +139,21 @@ module _ (named : ℕ → Name) (apart : (i j : ℕ) → named i ≡ named j →
       let n = s.type_variable_count in
       let ns = map named (numbers 0 n) in
       let vs = open_variables named 0 s.free_variable_types in
-      let over : AllByRecursion (IsOver ns vs) o.hypotheses = subst (λ l. AllByRecursion (IsOver l vs) o.hypotheses) is.type_variables (subst (λ l. AllByRecursion (IsOver (type_variables_of o) l) o.hypotheses) is.free_variables (hypotheses-IsOver o)) in
-      let end : IsOver ns vs o.conclusion = subst (λ l. IsOver l vs o.conclusion) is.type_variables (subst (λ l. IsOver (type_variables_of o) l o.conclusion) is.free_variables (conclusion-IsOver o)) in
+      let over : AllByRecursion (IsOver ns vs) o.hypotheses =
+      subst (λ l. AllByRecursion (IsOver l vs) o.hypotheses) is.type_variables
+      (subst (λ l. AllByRecursion (IsOver (type_variables_of o) l) o.hypotheses) is.free_variables (hypotheses-IsOver o)) in
+      let end : IsOver ns vs o.conclusion = subst (λ l. IsOver l vs o.conclusion) is.type_variables
+      (subst (λ l. IsOver (type_variables_of o) l o.conclusion) is.free_variables (conclusion-IsOver o)) in
       let known : AllByRecursion (λ v. AllByRecursion (IsIn ns) (variable_places v.1)) vs =
-      subst (λ l. AllByRecursion (λ v. AllByRecursion (IsIn l) (variable_places v.1)) vs) is.type_variables (subst (λ l. AllByRecursion (λ v. AllByRecursion (IsIn (type_variables_of o)) (variable_places v.1)) l) is.free_variables (free_variables-known o)) in
-      let form : s ≡ record { type_variable_count = length ns; free_variable_types = map (λ v. close_type ns v.1) vs; hypotheses = map (close_term ns vs) o.hypotheses; conclusion = close_term ns vs o.conclusion } =
+      subst (λ l. AllByRecursion (λ v. AllByRecursion (IsIn l) (variable_places v.1)) vs) is.type_variables
+      (subst (λ l. AllByRecursion (λ v. AllByRecursion (IsIn (type_variables_of o)) (variable_places v.1)) l) is.free_variables (free_variables-known o)) in
+      let form : s ≡ record {
+        type_variable_count = length ns;
+        free_variable_types = map (λ v. close_type ns v.1) vs;
+        hypotheses =
+            map (close_term ns vs) o.hypotheses;
+        conclusion = close_term ns vs o.conclusion;
+      } =
       λ i. record {
         type_variable_count = sym (length-numbers named 0 n) i;
         free_variable_types = sym (close-open_variables n s.free_variable_types 0 s.free_variable_types known) i;
@@ -154,7 +180,8 @@ is_of_type-Decides (Some b) a = (λ h. ap Some ((type_eq-Decides b a).0 h), λ h
 
 formulas-Decides : (ts : List Term) → Decides (list_all is_formula ts) (AllByRecursion (λ h. HasType h bool) ts)
 formulas-Decides [] = (λ h. tt, λ h. refl)
-formulas-Decides (t ∷ ts) = both-Decides (is_formula t) (list_all is_formula ts) (is_of_type-Decides (type_of t) bool) (formulas-Decides ts) (λ a b. (a, b)) (λ h. h)
+formulas-Decides (t ∷ ts) = both-Decides (is_formula t) (list_all is_formula ts) (is_of_type-Decides (type_of t) bool) (formulas-Decides ts) (λ a b. (a, b))
+    (λ h. h)
 
 module _ {A : Type 0} (same : A → A → Bool) where
   differs : (b : Bool) → Decides (not b) (b ≡ false)
@@ -163,12 +190,14 @@ module _ {A : Type 0} (same : A → A → Bool) where
 
   apart-Decides : (x : A) (xs : List A) → Decides (list_all (λ y. not (same x y)) xs) (AllByRecursion (λ y. same x y ≡ false) xs)
   apart-Decides x [] = (λ h. tt, λ h. refl)
-  apart-Decides x (y ∷ ys) = both-Decides (not (same x y)) (list_all (λ y. not (same x y)) ys) (differs (same x y)) (apart-Decides x ys) (λ a b. (a, b)) (λ h. h)
+  apart-Decides x (y ∷ ys) = both-Decides (not (same x y)) (list_all (λ y. not (same x y)) ys) (differs (same x y)) (apart-Decides x ys) (λ a b. (a, b))
+      (λ h. h)
 
   no_repeats-Decides : (xs : List A) → Decides (no_repeats same xs) (IsDistinct same xs)
   unfolding IsDistinct
   no_repeats-Decides [] = (λ h. tt, λ h. refl)
-  no_repeats-Decides (x ∷ xs) = both-Decides (list_all (λ y. not (same x y)) xs) (no_repeats same xs) (apart-Decides x xs) (no_repeats-Decides xs) (λ a b. (a, b)) (λ h. h)
+  no_repeats-Decides (x ∷ xs) = both-Decides (list_all (λ y. not (same x y)) xs) (no_repeats same xs) (apart-Decides x xs) (no_repeats-Decides xs)
+      (λ a b. (a, b)) (λ h. h)
 
 pub at_most-Decides : (limit n : ℕ) → Decides (at_most limit n) (n ≤ limit)
 at_most-Decides limit n =
@@ -181,13 +210,16 @@ at_most-Decides limit n =
 is_sequent-Decides : (s : Sequent) → Decides (is_sequent s) (IsSequent s)
 is_sequent-Decides s =
     both-Decides (no_repeats term_eq s.hypotheses) (list_all is_formula s.hypotheses && is_formula s.conclusion) (no_repeats-Decides term_eq s.hypotheses)
-    (both-Decides (list_all is_formula s.hypotheses) (is_formula s.conclusion) (formulas-Decides s.hypotheses) (is_of_type-Decides (type_of s.conclusion) bool) (λ a b. (a, b)) (λ h. h))
+    (both-Decides (list_all is_formula s.hypotheses) (is_formula s.conclusion) (formulas-Decides s.hypotheses) (is_of_type-Decides (type_of s.conclusion) bool)
+    (λ a b. (a, b)) (λ h. h))
     (λ a b. record { no_repeats = a; hypotheses = b.0; conclusion = b.1 }) (λ h. (h.no_repeats, (h.hypotheses, h.conclusion)))
 
 is_within-Decides : (s : Sequent) → Decides (is_within s) (SequentWithin s)
 is_within-Decides s =
-    both-Decides (at_most greatest_size (sequent_size s)) (at_most greatest_depth (sequent_depth s) && at_most greatest_parameter_count (parameter_count s)) (at_most-Decides greatest_size (sequent_size s))
-    (both-Decides (at_most greatest_depth (sequent_depth s)) (at_most greatest_parameter_count (parameter_count s)) (at_most-Decides greatest_depth (sequent_depth s)) (at_most-Decides greatest_parameter_count (parameter_count s)) (λ a b. (a, b)) (λ h. h))
+    both-Decides (at_most greatest_size (sequent_size s)) (at_most greatest_depth (sequent_depth s) && at_most greatest_parameter_count (parameter_count s))
+    (at_most-Decides greatest_size (sequent_size s))
+    (both-Decides (at_most greatest_depth (sequent_depth s)) (at_most greatest_parameter_count (parameter_count s))
+    (at_most-Decides greatest_depth (sequent_depth s)) (at_most-Decides greatest_parameter_count (parameter_count s)) (λ a b. (a, b)) (λ h. h))
     (λ a b. record { size = a; depth = b.0; parameters = b.1 }) (λ h. (h.size, (h.depth, h.parameters)))
 
 -- the whole test
@@ -197,7 +229,8 @@ is_closed_form-Decides named apart s =
     let o = opened named s in
     both-Decides (is_sequent o) (is_within o && is_numbered named s) (is_sequent-Decides o)
     (both-Decides (is_within o) (is_numbered named s) (is_within-Decides o)
-    (both-Decides (pointwise name_eq (type_variables_of o) (map named (numbers 0 s.type_variable_count))) (pointwise variable_eq (free_variables_of o) (open_variables named 0 s.free_variable_types))
+    (both-Decides (pointwise name_eq (type_variables_of o) (map named (numbers 0 s.type_variable_count)))
+    (pointwise variable_eq (free_variables_of o) (open_variables named 0 s.free_variable_types))
     (slice_eq-Decides name_eq-Decides (type_variables_of o) (map named (numbers 0 s.type_variable_count)) _ refl)
     (slice_eq-Decides variable_eq-Decides (free_variables_of o) (open_variables named 0 s.free_variable_types) _ refl) (λ a b. (a, b)) (λ h. h))
     (λ a b. (a, b)) (λ h. h))

@@ -66,7 +66,8 @@ peel_types-is (App f x) = refl
 peel_types-is (Lam a b) = refl
 peel_types-is (Pi a b) = peel_one-is (is_types a) a b (peel_types b) (is_types-is a) (peel_types-is b)
 
-pub peel_types-products : (k : ℕ) (B : Tree) → ◌≡◌ {A = ℕ × Tree} (peel_types B) (0, B) → ◌≡◌ {A = ℕ × Tree} (peel_types (products (replicate k types) B)) (k, B)
+pub peel_types-products : (k : ℕ) (B : Tree) → ◌≡◌ {A = ℕ × Tree} (peel_types B) (0, B)
+    → ◌≡◌ {A = ℕ × Tree} (peel_types (products (replicate k types) B)) (k, B)
 peel_types-products zero B e = e
 peel_types-products (suc k) B e = ap (λ (r : ℕ × Tree). (suc r.0, r.1)) (peel_types-products k B e)
 
@@ -76,13 +77,15 @@ module _ (d : List Declaration) where
   generic_of-is (Some A) s k t f e =
       let n = (peel_types A).0 in
       let test : ClosedType → Bool = λ u. pointwise nat_eq (distinct nat_eq (parameter_places u)) (numbers 0 n) in
-      let p = bind-is {A = Tree} {B = ℕ × ClosedType} (term_part (peel_types A).1) (λ T. bind (type_of_tree d (place n 0 0 0) T) (λ u. provided (test u) (Some (n, u)))) (k, t) e in
+      let p = bind-is {A = Tree} {B = ℕ × ClosedType} (term_part (peel_types A).1)
+      (λ T. bind (type_of_tree d (place n 0 0 0) T) (λ u. provided (test u) (Some (n, u)))) (k, t) e in
       let q = bind-is {A = ClosedType} {B = ℕ × ClosedType} (type_of_tree d (place n 0 0 0) p.0) (λ u. provided (test u) (Some (n, u))) (k, t) p.2 in
       let r = provided-is {A = ℕ × ClosedType} (test q.0) (Some (n, q.0)) (k, t) q.2 in
       let pair : ◌≡◌ {A = ℕ × ClosedType} (n, q.0) (k, t) = some-injective r.1 in
       let same : n ≡ k = ap (λ (x : ℕ × ClosedType). x.0) pair in
       let one : q.0 ≡ t = ap (λ (x : ℕ × ClosedType). x.1) pair in
-      let whole : A ≡ products (replicate n types) (term_of p.0) = peel_types-is A ∙ ap (products (replicate n types)) (symbol_argument-is term_symbol (peel_types A).1 p.0 p.1) in
+      let whole : A ≡ products (replicate n types) (term_of p.0) =
+      peel_types-is A ∙ ap (products (replicate n types)) (symbol_argument-is term_symbol (peel_types A).1 p.0 p.1) in
       subst (λ j. HasGenericType d s j t) same (subst (λ u. HasGenericType d s n u) one (record {
         tree = p.0;
         ty = f ∙ ap Some whole;
@@ -93,11 +96,13 @@ module _ (d : List Declaration) where
   generic_of-has : (s k : ℕ) (t : ClosedType) → HasGenericType d s k t → generic_of d (symbol_type d s) ≡ Some (k, t)
   generic_of-has s k t h =
       let test : ℕ → ClosedType → Bool = λ n u. pointwise nat_eq (distinct nat_eq (parameter_places u)) (numbers 0 n) in
-      let from : ℕ × Tree → Option (ℕ × ClosedType) = λ r. bind (term_part r.1) (λ T. bind (type_of_tree d (place r.0 0 0 0) T) (λ u. provided (test r.0 u) (Some (r.0, u)))) in
+      let from : ℕ × Tree → Option (ℕ × ClosedType) =
+      λ r. bind (term_part r.1) (λ T. bind (type_of_tree d (place r.0 0 0 0) T) (λ u. provided (test r.0 u) (Some (r.0, u)))) in
       ap (generic_of d) h.ty
       ∙ ap from (peel_types-products k (term_of h.tree) refl)
       ∙ ap (λ o. bind o (λ u. provided (test k u) (Some (k, u)))) (type_of_tree-stands d (place k 0 0 0) t h.tree h.stands)
-      ∙ provided-true (test k t) (Some (k, t)) ((slice_eq-Decides Decides-eqb (distinct nat_eq (parameter_places t)) (numbers 0 k) (test k t) refl).1 h.in_order)
+      ∙ provided-true (test k t) (Some (k, t))
+      ((slice_eq-Decides Decides-eqb (distinct nat_eq (parameter_places t)) (numbers 0 k) (test k t) refl).1 h.in_order)
 
   -- what is found is what the symbol stands for
   abbrev pub Means : ℕ → Constant → Type 0
@@ -127,15 +132,18 @@ module _ (d : List Declaration) where
       let r = and_parts (is_lacking (primitive_type p.0)) (has_type (symbol_type d s) input_type) q.0 in
       let h = name_behind-is d s (codes "i_") p.0 p.1 in
       subst (Means s) (some-injective q.1) (constants.MeansConstant.input
-      (record { is_name = h.is_name; not_primitive = (is_lacking-Decides (primitive_type p.0)).0 r.0; text = h.text }) ((has_type-Decides (symbol_type d s) input_type).0 r.1))
+      (record { is_name = h.is_name; not_primitive = (is_lacking-Decides (primitive_type p.0)).0 r.0; text = h.text })
+      ((has_type-Decides (symbol_type d s) input_type).0 r.1))
 
   input_constant-means : (s : ℕ) (n : Name) → NamesConstant d s (codes "i_") n → symbol_type d s ≡ Some input_type
       → input_constant d s ≡ Some (constant_with n 1 (ClosedType.parameter 0))
   input_constant-means s n h f =
       let test : Name → Bool = λ m. is_lacking (primitive_type m) && has_type (symbol_type d s) input_type in
-      ap (λ o. bind o (λ m. provided (test m) (Some (constant_with m 1 (ClosedType.parameter 0))))) (name_behind-has d s (codes "i_") n (record { is_name = h.is_name; text = h.text }))
+      ap (λ o. bind o (λ m. provided (test m) (Some (constant_with m 1 (ClosedType.parameter 0)))))
+      (name_behind-has d s (codes "i_") n (record { is_name = h.is_name; text = h.text }))
       ∙ provided-true (test n) (Some (constant_with n 1 (ClosedType.parameter 0)))
-      (and_from (is_lacking (primitive_type n)) (has_type (symbol_type d s) input_type) ((is_lacking-Decides (primitive_type n)).1 h.not_primitive) ((has_type-Decides (symbol_type d s) input_type).1 f))
+      (and_from (is_lacking (primitive_type n)) (has_type (symbol_type d s) input_type) ((is_lacking-Decides (primitive_type n)).1 h.not_primitive)
+      ((has_type-Decides (symbol_type d s) input_type).1 f))
 
   defined_constant-is : (s : ℕ) (c : Constant) → defined_constant d s ≡ Some c → Means s c
   defined_constant-is s c e =
@@ -145,18 +153,21 @@ module _ (d : List Declaration) where
       let r = option_map-some (λ (g : ℕ × ClosedType). constant_with p.0 g.0 g.1) (generic_of d (symbol_type d s)) c q.1 in
       let h = name_behind-is d s (codes "c_") p.0 p.1 in
       subst (Means s) r.2 (constants.MeansConstant.defined
-      (record { is_name = h.is_name; not_primitive = (is_lacking-Decides (primitive_type p.0)).0 q.0; text = h.text }) (generic_of-is (symbol_type d s) s r.0.0 r.0.1 refl r.1))
+      (record { is_name = h.is_name; not_primitive = (is_lacking-Decides (primitive_type p.0)).0 q.0; text = h.text })
+      (generic_of-is (symbol_type d s) s r.0.0 r.0.1 refl r.1))
 
   defined_constant-means : (s : ℕ) (n : Name) (k : ℕ) (t : ClosedType) → NamesConstant d s (codes "c_") n → HasGenericType d s k t
       → defined_constant d s ≡ Some (constant_with n k t)
   defined_constant-means s n k t h g =
       let made : Name → Option Constant = λ m. option_map (λ (x : ℕ × ClosedType). constant_with m x.0 x.1) (generic_of d (symbol_type d s)) in
-      ap (λ o. bind o (λ m. provided (is_lacking (primitive_type m)) (made m))) (name_behind-has d s (codes "c_") n (record { is_name = h.is_name; text = h.text }))
+      ap (λ o. bind o (λ m. provided (is_lacking (primitive_type m)) (made m)))
+      (name_behind-has d s (codes "c_") n (record { is_name = h.is_name; text = h.text }))
       ∙ provided-true (is_lacking (primitive_type n)) (made n) ((is_lacking-Decides (primitive_type n)).1 h.not_primitive)
       ∙ ap (option_map (λ (x : ℕ × ClosedType). constant_with n x.0 x.1)) (generic_of-has s k t g)
 
   pub constant_at-is : (s : ℕ) (c : Constant) → constant_at d s ≡ Some c → Means s c
-  constant_at-is s c e = ⊎_elim (primitive_constant-is s c) (λ f. ⊎_elim (input_constant-is s c) (defined_constant-is s c) (or_else-is _ _ c f)) (or_else-is _ _ c e)
+  constant_at-is s c e = ⊎_elim (primitive_constant-is s c) (λ f. ⊎_elim (input_constant-is s c) (defined_constant-is s c) (or_else-is _ _ c f))
+      (or_else-is _ _ c e)
 
   -- the first byte of its name tells whether a constant is primitive, an input or defined
   primitive_constant-begins : (s : ℕ) (c : Constant) → primitive_constant s ≡ Some c → (begins (symbol_name d s) ≡ 101) ⊎ (begins (symbol_name d s) ≡ 115)
@@ -179,11 +190,13 @@ module _ (d : List Declaration) where
 
   input_constant-begins : (s : ℕ) (c : Constant) → input_constant d s ≡ Some c → begins (symbol_name d s) ≡ 105
   input_constant-begins s c e =
-      let p = bind-is (name_behind d s (codes "i_")) (λ n. provided (is_lacking (primitive_type n) && has_type (symbol_type d s) input_type) (Some (constant_with n 1 (ClosedType.parameter 0)))) c e in
+      let p = bind-is (name_behind d s (codes "i_"))
+      (λ n. provided (is_lacking (primitive_type n) && has_type (symbol_type d s) input_type) (Some (constant_with n 1 (ClosedType.parameter 0)))) c e in
       ap begins (name_behind-is d s (codes "i_") p.0 p.1).text
 
   pub constant_at-means : (s : ℕ) (n : Name) (k : ℕ) (t : ClosedType) → MeansConstant d s n k t → constant_at d s ≡ Some (constant_with n k t)
-  constant_at-means s n k t (constants.MeansConstant.equality e) = subst (λ r. constant_at d r ≡ Some (constant_with equality_name 1 equality_type)) (sym e) refl
+  constant_at-means s n k t (constants.MeansConstant.equality e) =
+      subst (λ r. constant_at d r ≡ Some (constant_with equality_name 1 equality_type)) (sym e) refl
   constant_at-means s n k t (constants.MeansConstant.choice e) = subst (λ r. constant_at d r ≡ Some (constant_with select_name 1 choice_type)) (sym e) refl
   constant_at-means s n k t (constants.MeansConstant.input h f) =
       or_else-second (primitive_constant s) _ (constant_with n 1 (ClosedType.parameter 0))

@@ -41,7 +41,8 @@ peel-is s (App f x) = refl
 peel-is s (Lam a b) = refl
 peel-is s (Pi a b) = peel_on-is s (symbol_argument s a) a b (peel s b) (symbol_argument-is s a) (peel-is s b)
 
-peel-products : (s : ℕ) (xs : List Tree) (B : Tree) → ◌≡◌ {A = List Tree × Tree} (peel s B) ([], B) → ◌≡◌ {A = List Tree × Tree} (peel s (products (headed s xs) B)) (xs, B)
+peel-products : (s : ℕ) (xs : List Tree) (B : Tree) → ◌≡◌ {A = List Tree × Tree} (peel s B) ([], B)
+    → ◌≡◌ {A = List Tree × Tree} (peel s (products (headed s xs) B)) (xs, B)
 peel-products s [] B e = e
 peel-products s (x ∷ xs) B e =
     ap (λ o. peel_on o (products (headed s (x ∷ xs)) B) (peel s (products (headed s xs) B))) (symbol_argument-of s x)
@@ -53,7 +54,8 @@ products-append (x ∷ xs) ys c = ap (Pi x) (products-append xs ys c)
 
 products-domains : (n : ℕ) (vs hs : List Tree) (c : Tree)
     → products (domains n vs hs) c ≡ products (replicate n types) (products (map term_of vs) (products (map proof_of hs) c))
-products-domains n vs hs c = products-append (replicate n types ++ map term_of vs) (map proof_of hs) c ∙ products-append (replicate n types) (map term_of vs) (products (map proof_of hs) c)
+products-domains n vs hs c = products-append (replicate n types ++ map term_of vs) (map proof_of hs) c ∙ products-append (replicate n types) (map term_of vs)
+    (products (map proof_of hs) c)
 
 -- the parts are those of the product
 parts-is : (A : Tree) → A ≡ products (domains (parts A).type_variables (parts A).variables (parts A).hypotheses) (parts A).end
@@ -65,12 +67,14 @@ parts-is A =
     ∙ ap (products (replicate p.type_variables types)) (peel-is term_symbol rest ∙ ap (products (map term_of p.variables)) (peel-is proof_symbol last))
     ∙ sym (products-domains p.type_variables p.variables p.hypotheses p.end)
 
-no_types : (vs hs : List Tree) (c : Tree) → ◌≡◌ {A = ℕ × Tree} (peel_types (products (map term_of vs) (products (map proof_of hs) (proof_of c)))) (0, products (map term_of vs) (products (map proof_of hs) (proof_of c)))
+no_types : (vs hs : List Tree) (c : Tree) → ◌≡◌ {A = ℕ × Tree} (peel_types (products (map term_of vs) (products (map proof_of hs) (proof_of c))))
+    (0, products (map term_of vs) (products (map proof_of hs) (proof_of c)))
 no_types [] [] c = refl
 no_types [] (h ∷ hs) c = refl
 no_types (v ∷ vs) hs c = refl
 
-no_terms : (hs : List Tree) (c : Tree) → ◌≡◌ {A = List Tree × Tree} (peel term_symbol (products (map proof_of hs) (proof_of c))) ([], products (map proof_of hs) (proof_of c))
+no_terms : (hs : List Tree) (c : Tree) → ◌≡◌ {A = List Tree × Tree} (peel term_symbol (products (map proof_of hs) (proof_of c)))
+    ([], products (map proof_of hs) (proof_of c))
 no_terms [] c = refl
 no_terms (h ∷ hs) c = refl
 
@@ -137,7 +141,8 @@ module _ (d : List Declaration) where
     pub conclusion_stands : StandsForTerm d s.conclusion (place p.type_variables (length p.variables) (length p.hypotheses) 0) conclusion
 
   abbrev with_conclusion : Parts → List ClosedType → List ClosedTerm → Tree → Option ClosedSequent
-  with_conclusion p vs hs C = option_map (closed_sequent p.type_variables vs hs) (term_from d C (place p.type_variables (length p.variables) (length p.hypotheses) 0))
+  with_conclusion p vs hs C = option_map (closed_sequent p.type_variables vs hs)
+      (term_from d C (place p.type_variables (length p.variables) (length p.hypotheses) 0))
 
   abbrev with_hypotheses : Parts → List ClosedType → List ClosedTerm → Option ClosedSequent
   with_hypotheses p vs hs = bind (proof_part p.end) (with_conclusion p vs hs)
@@ -150,7 +155,8 @@ module _ (d : List Declaration) where
       let v = bind-is (variables_from d p.variables p.type_variables 0) (with_variables p) s e in
       let h = bind-is (hypotheses_from d p.hypotheses p.type_variables (length p.variables) 0) (with_hypotheses p v.0) s v.2 in
       let c = bind-is (proof_part p.end) (with_conclusion p v.0 h.0) s h.2 in
-      let t = option_map-some (closed_sequent p.type_variables v.0 h.0) (term_from d c.0 (place p.type_variables (length p.variables) (length p.hypotheses) 0)) s c.2 in
+      let t = option_map-some (closed_sequent p.type_variables v.0 h.0) (term_from d c.0 (place p.type_variables (length p.variables) (length p.hypotheses) 0))
+      s c.2 in
       subst (λ z. PartsStand z p) t.2 (record {
         conclusion = c.0;
         count = refl;
@@ -161,14 +167,16 @@ module _ (d : List Declaration) where
       })
 
   sequent_from-stands : (s : ClosedSequent) (vs hs : List Tree) (c : Tree) → StandForVariables d s.free_variable_types s.type_variable_count 0 vs
-      → StandForHypotheses d s.hypotheses s.type_variable_count (length vs) 0 hs → StandsForTerm d s.conclusion (place s.type_variable_count (length vs) (length hs) 0) c
+      → StandForHypotheses d s.hypotheses s.type_variable_count (length vs) 0 hs
+      → StandsForTerm d s.conclusion (place s.type_variable_count (length vs) (length hs) 0) c
       → sequent_from d (parts_with s.type_variable_count vs hs (proof_of c)) ≡ Some s
   sequent_from-stands s vs hs c v h t =
       let p = parts_with s.type_variable_count vs hs (proof_of c) in
       ap (λ o. bind o (with_variables p)) (variables_from-stand s.free_variable_types vs s.type_variable_count 0 v)
       ∙ ap (λ o. bind o (with_hypotheses p s.free_variable_types)) (hypotheses_from-stand s.hypotheses hs s.type_variable_count (length vs) 0 h)
       ∙ ap (λ o. bind o (with_conclusion p s.free_variable_types s.hypotheses)) (symbol_argument-of proof_symbol c)
-      ∙ ap (option_map (closed_sequent s.type_variable_count s.free_variable_types s.hypotheses)) (term_from-stands d s.conclusion (place s.type_variable_count (length vs) (length hs) 0) c t)
+      ∙ ap (option_map (closed_sequent s.type_variable_count s.free_variable_types s.hypotheses))
+      (term_from-stands d s.conclusion (place s.type_variable_count (length vs) (length hs) 0) c t)
 
   abbrev tested : ClosedSequent → Option ClosedSequent
   tested s = provided (is_closed_form own_name s) (Some s)
@@ -207,7 +215,8 @@ module _ (d : List Declaration) where
 
   -- what a type stands for is decoded
   pub decode-Enc : (A : Tree) (s : ClosedSequent) → Enc d s A → decode d A ≡ Some s
-  decode-Enc A s h = ap (λ o. bind o tested) (Enc-parts A s h) ∙ provided-true (is_closed_form own_name s) (Some s) ((is_closed_form-Decides own_name own_name-apart s).1 h.closed)
+  decode-Enc A s h = ap (λ o. bind o tested) (Enc-parts A s h) ∙ provided-true (is_closed_form own_name s) (Some s)
+      ((is_closed_form-Decides own_name own_name-apart s).1 h.closed)
 
   -- nothing is decoded exactly where the type stands for nothing
   pub decode-None : (A : Tree) → decode d A ≡ None → (s : ClosedSequent) → Enc d s A → ⊥

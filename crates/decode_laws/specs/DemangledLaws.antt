@@ -94,10 +94,12 @@ mutual
     where
       go : (t : Bool) → is_ascii_alphanumeric b ≡ t
           → cond t (option_map (with_byte b) (demangled text)) (provided (nat_eq b underscore) (escaped text)) ≡ Some name
-          → ((n : Name) → demangled text ≡ Some n → IsNamed text n) → ((n : Name) → escaped text ≡ Some n → IsNamed (underscore ∷ text) n) → IsNamed (b ∷ text) name
+          → ((n : Name) → demangled text ≡ Some n → IsNamed text n) → ((n : Name) → escaped text ≡ Some n → IsNamed (underscore ∷ text) n)
+          → IsNamed (b ∷ text) name
       go true f e p q =
           let m = option_map-is (with_byte b) (demangled text) name e in
-          subst (IsNamed (b ∷ text)) (sym m.2) (named-with_byte b text (b ∷ text) m.0 (alphanumeric-byte b f) (p m.0 m.1) (λ rest bytes h. plain-written b bytes rest text f h))
+          subst (IsNamed (b ∷ text)) (sym m.2)
+          (named-with_byte b text (b ∷ text) m.0 (alphanumeric-byte b f) (p m.0 m.1) (λ rest bytes h. plain-written b bytes rest text f h))
       go false f e p q =
           let m = provided-is (nat_eq b underscore) (escaped text) name e in
           subst (λ c. IsNamed (c ∷ text) name) (sym ((Decides-eqb b underscore).0 m.0)) (q name m.1)
@@ -107,10 +109,12 @@ mutual
   escaped-is (c ∷ text) name e = go (nat_eq c underscore) refl e (λ n p. demangled-is text n p) (λ n p. two_digits-is text c n p)
     where
       go : (t : Bool) → nat_eq c underscore ≡ t → cond t (option_map (λ n. [] ∷ n) (demangled text)) (two_digits text c) ≡ Some name
-          → ((n : Name) → demangled text ≡ Some n → IsNamed text n) → ((n : Name) → two_digits text c ≡ Some n → IsNamed (underscore ∷ c ∷ text) n) → IsNamed (underscore ∷ c ∷ text) name
+          → ((n : Name) → demangled text ≡ Some n → IsNamed text n) → ((n : Name) → two_digits text c ≡ Some n → IsNamed (underscore ∷ c ∷ text) n)
+          → IsNamed (underscore ∷ c ∷ text) name
       go true f e p q =
           let m = option_map-is (λ n. [] ∷ n) (demangled text) name e in
-          subst (λ x. IsNamed (underscore ∷ x ∷ text) name) (sym ((Decides-eqb c underscore).0 f)) (subst (IsNamed (underscore ∷ underscore ∷ text)) (sym m.2) (named-boundary text m.0 (p m.0 m.1)))
+          subst (λ x. IsNamed (underscore ∷ x ∷ text) name) (sym ((Decides-eqb c underscore).0 f))
+          (subst (IsNamed (underscore ∷ underscore ∷ text)) (sym m.2) (named-boundary text m.0 (p m.0 m.1)))
       go false f e p q = q name e
 
   two_digits-is : (text : List ℕ) (c : ℕ) (name : Name) → two_digits text c ≡ Some name → IsNamed (underscore ∷ c ∷ text) name
@@ -125,7 +129,8 @@ demangled-other : (b : ℕ) (text : List ℕ) (name : Name) → b < 256 → is_a
     → demangled (underscore ∷ hex_digit (b / 16) ∷ hex_digit (b % 16) ∷ text) ≡ Some (with_byte b name)
 demangled-other b text name l f h =
     let m : b / 16 < 16 = omega (arith, l) in
-    ap (λ t. cond t (option_map (λ n. [] ∷ n) (demangled (hex_digit (b % 16) ∷ text))) (two_digits (hex_digit (b % 16) ∷ text) (hex_digit (b / 16)))) (hex_digit-not_underscore (b / 16) m)
+    ap (λ t. cond t (option_map (λ n. [] ∷ n) (demangled (hex_digit (b % 16) ∷ text))) (two_digits (hex_digit (b % 16) ∷ text) (hex_digit (b / 16))))
+    (hex_digit-not_underscore (b / 16) m)
     ∙ ap (λ o. both with_byte o (demangled text)) (byte_of-digits b l f)
     ∙ ap (both with_byte (Some b)) h
 
@@ -141,7 +146,9 @@ demangled-bytes (b ∷ bs) name rest h e = go (is_ascii_alphanumeric b) refl (de
         ∙ ap (λ t. cond t (option_map (with_byte b) (demangled (mangled_before bs rest))) (provided (nat_eq b underscore) (escaped (mangled_before bs rest)))) f
         ∙ ap (option_map (with_byte b)) k
     go false f k =
-        ap demangled (other-written b bs rest (mangled_before bs rest) (hex_digit (b / 16)) (hex_digit (b % 16)) (record { small = h.0; other = f; high = refl; low = refl }) refl)
+        ap demangled
+        (other-written b bs rest (mangled_before bs rest) (hex_digit (b / 16)) (hex_digit (b % 16))
+        (record { small = h.0; other = f; high = refl; low = refl }) refl)
         ∙ demangled-other b (mangled_before bs rest) (bs ∷ name) h.0 f k
 
 demangled-more : (name : Name) → AllByRecursion AreBytes name → demangled (mangled_more name) ≡ Some ([] ∷ name)

@@ -25,7 +25,8 @@ module _ (named : ℕ → Name) where
 
     places_all-open : (ts : ClosedTypes) → variable_places_of_all (open_types named ts) ≡ map named (parameter_places_of_all ts)
     places_all-open ClosedTypes.none = refl
-    places_all-open (ClosedTypes.more t ts) = ap₂ (λ a b. a ++ b) (places-open t) (places_all-open ts) ∙ sym (map-append named (parameter_places t) (parameter_places_of_all ts))
+    places_all-open (ClosedTypes.more t ts) = ap₂ (λ a b. a ++ b) (places-open t) (places_all-open ts) ∙ sym
+        (map-append named (parameter_places t) (parameter_places_of_all ts))
 
   mutual
     places-size : (t : ClosedType) → summed (λ i. 1) (parameter_places t) ≤ type_size (open_type named t)
@@ -34,7 +35,8 @@ module _ (named : ℕ → Name) where
 
     places_all-size : (ts : ClosedTypes) → summed (λ i. 1) (parameter_places_of_all ts) ≤ types_size (open_types named ts)
     places_all-size ClosedTypes.none = omega arith
-    places_all-size (ClosedTypes.more t ts) = omega (arith, places-size t, places_all-size ts, summed-append (λ (i : ℕ). 1) (parameter_places t) (parameter_places_of_all ts))
+    places_all-size (ClosedTypes.more t ts) = omega
+        (arith, places-size t, places_all-size ts, summed-append (λ (i : ℕ). 1) (parameter_places t) (parameter_places_of_all ts))
 
   summed-numbers : (i k : ℕ) → summed (λ i. 1) (numbers i k) ≡ k
   summed-numbers i zero = refl
@@ -51,7 +53,8 @@ module _ (named : ℕ → Name) where
     pub type_variables-open : (t : ClosedType) → type_variables (open_type named t) ≡ map named (distinct nat_eq (parameter_places t))
     type_variables-open t =
         ap (distinct name_eq) (places-open t)
-        ∙ distinct-map named nat_eq name_eq (λ (i : ℕ). Unit {0}) (λ i j h k. agree nat_eq name_eq Decides-eqb name_eq-Decides named i j (apart i j)) (parameter_places t) (All-each (λ (i : ℕ). Unit {0}) (parameter_places t) (λ i h. tt {0}))
+        ∙ distinct-map named nat_eq name_eq (λ (i : ℕ). Unit {0}) (λ i j h k. agree nat_eq name_eq Decides-eqb name_eq-Decides named i j (apart i j))
+        (parameter_places t) (All-each (λ (i : ℕ). Unit {0}) (parameter_places t) (λ i h. tt {0}))
 
     map-apart : (xs ys : List ℕ) → map named xs ≡ map named ys → xs ≡ ys
     map-apart [] [] e = refl

@@ -29,13 +29,16 @@ map-numbers i zero = refl
 map-numbers i (suc k) = ap (λ l. suc i ∷ l) (map-numbers (suc i) k)
 
 -- the places of the elements of a list without repeats are the numbers from zero on
-positions : {A : Type 0} (same : A → A → Bool) (decides : (x y : A) → Decides (same x y) (x ≡ y)) (xs : List A) → IsDistinct same xs → map (λ x. position_or_len (same x) xs) xs ≡ numbers 0 (length xs)
+positions : {A : Type 0} (same : A → A → Bool) (decides : (x y : A) → Decides (same x y) (x ≡ y)) (xs : List A) → IsDistinct same xs
+    → map (λ x. position_or_len (same x) xs) xs ≡ numbers 0 (length xs)
 unfolding IsDistinct
 positions same decides [] h = refl
 positions same decides (x ∷ xs) h =
     let rest : map (λ y. position_or_len (same y) (x ∷ xs)) xs ≡ map (λ y. suc (position_or_len (same y) xs)) xs =
-    map-each (λ y. position_or_len (same y) (x ∷ xs)) (λ y. suc (position_or_len (same y) xs)) xs (All-each _ xs (λ y k. position-later same decides x y xs (All-at _ xs y h.0 k))) in
-    λ i. position-first same decides x xs i ∷ (rest ∙ sym (map-twice suc (λ y. position_or_len (same y) xs) xs) ∙ ap (map suc) (positions same decides xs h.1) ∙ map-numbers 0 (length xs)) i
+    map-each (λ y. position_or_len (same y) (x ∷ xs)) (λ y. suc (position_or_len (same y) xs)) xs
+    (All-each _ xs (λ y k. position-later same decides x y xs (All-at _ xs y h.0 k))) in
+    λ i. position-first same decides x xs i ∷ (rest ∙ sym (map-twice suc (λ y. position_or_len (same y) xs) xs) ∙ ap (map suc) (positions same decides xs h.1)
+    ∙ map-numbers 0 (length xs)) i
 
 module _ (named : ℕ → Name) (apart : (i j : ℕ) → named i ≡ named j → i ≡ j) where
   -- the new names of the variables of these lists
@@ -77,7 +80,8 @@ module _ (named : ℕ → Name) (apart : (i j : ℕ) → named i ≡ named j →
       ∙ ap (term.Term.free (new_variable vs (n, t))) (open-close_type ns t)
   open-close_term ns vs (term.Term.bound k) h = refl
   open-close_term ns vs (term.Term.constant n t) h = ap (term.Term.constant n) (open-close_type ns t)
-  open-close_term ns vs (term.Term.app f x) h = ap₂ term.Term.app (open-close_term ns vs f (All-left _ (free_places f) (free_places x) h)) (open-close_term ns vs x (All-right _ (free_places f) (free_places x) h))
+  open-close_term ns vs (term.Term.app f x) h = ap₂ term.Term.app (open-close_term ns vs f (All-left _ (free_places f) (free_places x) h))
+      (open-close_term ns vs x (All-right _ (free_places f) (free_places x) h))
   open-close_term ns vs (term.Term.lam t b) h = ap₂ term.Term.lam (open-close_type ns t) (open-close_term ns vs b h)
 
   -- the new variables in order
@@ -86,13 +90,18 @@ module _ (named : ℕ → Name) (apart : (i j : ℕ) → named i ≡ named j →
   unfolding IsDistinct
   open_variables-are ns k [] h = refl
   open_variables-are ns k (v ∷ vs) h =
-      let first : named k ≡ named (k + position_or_len (variable_eq v) (v ∷ vs)) = ap named (let e = position-first variable_eq variable_eq-Decides v vs in omega (arith, e)) in
-      let later : map (λ w. (named (suc k + position_or_len (variable_eq w) vs), renamed_type (new_name ns) w.1)) vs ≡ map (λ w. (named (k + position_or_len (variable_eq w) (v ∷ vs)), renamed_type (new_name ns) w.1)) vs =
+      let first : named k ≡ named (k + position_or_len (variable_eq v) (v ∷ vs)) =
+      ap named (let e = position-first variable_eq variable_eq-Decides v vs in omega (arith, e)) in
+      let later : map (λ w. (named (suc k + position_or_len (variable_eq w) vs), renamed_type (new_name ns) w.1)) vs
+      ≡ map (λ w. (named (k + position_or_len (variable_eq w) (v ∷ vs)), renamed_type (new_name ns) w.1)) vs =
       map-each _ _ vs (All-each _ vs (λ w i. shifted w (All-at _ vs w h.0 i))) in
       λ i. (first i, open-close_type ns v.1 i) ∷ (open_variables-are ns (suc k) vs h.1 ∙ later) i
     where
-      shifted : (w : Variable) → variable_eq v w ≡ false → ◌≡◌ {A = Variable} (named (suc k + position_or_len (variable_eq w) vs), renamed_type (new_name ns) w.1) (named (k + position_or_len (variable_eq w) (v ∷ vs)), renamed_type (new_name ns) w.1)
-      shifted w e = let p = position-later variable_eq variable_eq-Decides v w vs e in let z : suc k + position_or_len (variable_eq w) vs ≡ k + position_or_len (variable_eq w) (v ∷ vs) = omega (arith, p) in λ i. (named (z i), renamed_type (new_name ns) w.1)
+      shifted : (w : Variable) → variable_eq v w ≡ false
+          → ◌≡◌ {A = Variable} (named (suc k + position_or_len (variable_eq w) vs), renamed_type (new_name ns) w.1)
+          (named (k + position_or_len (variable_eq w) (v ∷ vs)), renamed_type (new_name ns) w.1)
+      shifted w e = let p = position-later variable_eq variable_eq-Decides v w vs e in let z : suc k + position_or_len (variable_eq w) vs ≡ k + position_or_len
+          (variable_eq w) (v ∷ vs) = omega (arith, p) in λ i. (named (z i), renamed_type (new_name ns) w.1)
 
   module _ (s : Sequent) where
     kept_apart : (m n : Name) → IsIn (type_variables_of s) m → IsIn (type_variables_of s) n
@@ -100,14 +109,18 @@ module _ (named : ℕ → Name) (apart : (i j : ℕ) → named i ≡ named j →
     kept_apart m n h k e = position-injective name_eq name_eq-Decides (type_variables_of s) m n h k (apart _ _ e)
 
     variables_apart : (v w : Variable) → IsIn (free_variables_of s) v → IsIn (free_variables_of s) w
-        → renamed_variable (new_name (type_variables_of s)) (new_variable (free_variables_of s)) v ≡ renamed_variable (new_name (type_variables_of s)) (new_variable (free_variables_of s)) w → v ≡ w
+        → renamed_variable (new_name (type_variables_of s)) (new_variable (free_variables_of s)) v
+        ≡ renamed_variable (new_name (type_variables_of s)) (new_variable (free_variables_of s)) w → v ≡ w
     variables_apart v w h k e = position-injective variable_eq variable_eq-Decides (free_variables_of s) v w h k (apart _ _ (ap (λ (x : Variable). x.0) e))
 
     -- the closed form of a sequent, opened, is the sequent with new names
     opened-closed_form : opened named (closed_form s) ≡ renamed_sequent (new_name (type_variables_of s)) (new_variable (free_variables_of s)) s
     opened-closed_form =
-        let hypotheses : map (open_term named (closed_types (type_variables_of s) (free_variables_of s))) (map (close_term (type_variables_of s) (free_variables_of s)) s.hypotheses) ≡ map (renamed (new_name (type_variables_of s)) (new_variable (free_variables_of s))) s.hypotheses =
-        map-twice _ _ s.hypotheses ∙ map-each _ _ s.hypotheses (All-weaker _ _ (λ t o. open-close_term (type_variables_of s) (free_variables_of s) t o.terms) s.hypotheses (hypotheses-IsOver s)) in
+        let hypotheses : map (open_term named (closed_types (type_variables_of s) (free_variables_of s)))
+        (map (close_term (type_variables_of s) (free_variables_of s)) s.hypotheses)
+        ≡ map (renamed (new_name (type_variables_of s)) (new_variable (free_variables_of s))) s.hypotheses =
+        map-twice _ _ s.hypotheses ∙ map-each _ _ s.hypotheses
+        (All-weaker _ _ (λ t o. open-close_term (type_variables_of s) (free_variables_of s) t o.terms) s.hypotheses (hypotheses-IsOver s)) in
         let conclusion = open-close_term (type_variables_of s) (free_variables_of s) s.conclusion (conclusion-IsOver s).terms in
         λ i. record { hypotheses = hypotheses i; conclusion = conclusion i }
 
@@ -116,12 +129,16 @@ module _ (named : ℕ → Name) (apart : (i j : ℕ) → named i ≡ named j →
         let r = new_name (type_variables_of s) in
         let q = new_variable (free_variables_of s) in
         let types : type_variables_of (renamed_sequent r q s) ≡ map named (numbers 0 (length (type_variables_of s))) =
-        type_variables-renamed r q s kept_apart variables_apart ∙ sym (map-twice named (λ n. position_or_len (name_eq n) (type_variables_of s)) (type_variables_of s))
-        ∙ ap (map named) (positions name_eq name_eq-Decides (type_variables_of s) (distinct-IsDistinct name_eq (λ m n e. turned_names m n e) (flat_map type_variable_places (terms_of s)))) in
+        type_variables-renamed r q s kept_apart variables_apart
+        ∙ sym (map-twice named (λ n. position_or_len (name_eq n) (type_variables_of s)) (type_variables_of s))
+        ∙ ap (map named)
+        (positions name_eq name_eq-Decides (type_variables_of s)
+        (distinct-IsDistinct name_eq (λ m n e. turned_names m n e) (flat_map type_variable_places (terms_of s)))) in
         let terms : free_variables_of (renamed_sequent r q s) ≡ open_variables named 0 (closed_types (type_variables_of s) (free_variables_of s)) =
         free_variables-renamed r q s kept_apart variables_apart
         ∙ map-each _ _ (free_variables_of s) (All-each _ (free_variables_of s) (λ v i. from_zero v))
-        ∙ sym (open_variables-are (type_variables_of s) 0 (free_variables_of s) (distinct-IsDistinct variable_eq (λ v w e. turned_variables v w e) (flat_map free_places (terms_of s)))) in
+        ∙ sym (open_variables-are (type_variables_of s) 0 (free_variables_of s)
+        (distinct-IsDistinct variable_eq (λ v w e. turned_variables v w e) (flat_map free_places (terms_of s)))) in
         record {
           is_sequent = subst IsSequent (sym opened-closed_form) (IsSequent-renamed r q s kept_apart variables_apart is);
           within = subst SequentWithin (sym opened-closed_form) (SequentWithin-renamed r q s kept_apart variables_apart within);
@@ -129,8 +146,10 @@ module _ (named : ℕ → Name) (apart : (i j : ℕ) → named i ≡ named j →
           free_variables = ap free_variables_of opened-closed_form ∙ terms;
         }
       where
-        from_zero : (v : Variable) → ◌≡◌ {A = Variable} (new_variable (free_variables_of s) v, renamed_type (new_name (type_variables_of s)) v.1) (named (0 + position_or_len (variable_eq v) (free_variables_of s)), renamed_type (new_name (type_variables_of s)) v.1)
-        from_zero v = let z : position_or_len (variable_eq v) (free_variables_of s) ≡ 0 + position_or_len (variable_eq v) (free_variables_of s) = omega arith in λ i. (named (z i), renamed_type (new_name (type_variables_of s)) v.1)
+        from_zero : (v : Variable) → ◌≡◌ {A = Variable} (new_variable (free_variables_of s) v, renamed_type (new_name (type_variables_of s)) v.1)
+            (named (0 + position_or_len (variable_eq v) (free_variables_of s)), renamed_type (new_name (type_variables_of s)) v.1)
+        from_zero v = let z : position_or_len (variable_eq v) (free_variables_of s) ≡ 0 + position_or_len (variable_eq v) (free_variables_of s) =
+            omega arith in λ i. (named (z i), renamed_type (new_name (type_variables_of s)) v.1)
 
         turned_names : (m n : Name) → name_eq m n ≡ false → name_eq n m ≡ false
         turned_names = turned name_eq name_eq-Decides

@@ -66,7 +66,8 @@ module _ (named : ℕ → Name) (d : List Declaration) where
   hypotheses-size variables [] [] n m l h = omega arith
   hypotheses-size variables [] (A ∷ As) n m l h = absurd h
   hypotheses-size variables (t ∷ ts) [] n m l h = absurd h
-  hypotheses-size variables (t ∷ ts) (A ∷ As) n m l h = omega (arith, term-size named d variables t (place n m l 0) A h.0, hypotheses-size variables ts As n m (suc l) h.1)
+  hypotheses-size variables (t ∷ ts) (A ∷ As) n m l h =
+      omega (arith, term-size named d variables t (place n m l 0) A h.0, hypotheses-size variables ts As n m (suc l) h.1)
 
 pub Enc-size : (named : ℕ → Name) → ((i j : ℕ) → named i ≡ named j → i ≡ j) → (d : List Declaration) (s : ClosedSequent) (A : Tree) → Enc d s A
     → size A ≤ greatest_tree
@@ -75,15 +76,18 @@ Enc-size named apart d s A h =
     let o = opened named s in
     let n = s.type_variable_count in
     let variables = s.free_variable_types in
-    let whole : size A ≡ summed (λ x. 1 + size x) (domains n h.variables h.hypotheses) + size (proof_of h.conclusion) = ap size h.product ∙ products-size (domains n h.variables h.hypotheses) (proof_of h.conclusion) in
+    let whole : size A ≡ summed (λ x. 1 + size x) (domains n h.variables h.hypotheses) + size (proof_of h.conclusion) =
+    ap size h.product ∙ products-size (domains n h.variables h.hypotheses) (proof_of h.conclusion) in
     let one = summed-append (λ (x : Tree). 1 + size x) (replicate n types ++ map term_of h.variables) (map proof_of h.hypotheses) in
     let two = summed-append (λ (x : Tree). 1 + size x) (replicate n types) (map term_of h.variables) in
     let v = variables-size named d variables h.variables n 0 0 h.variables_stand in
-    let w : summed variable_size (open_variables named 0 variables) ≡ summed variable_size (free_variables_of o) = ap (summed variable_size) (sym is.free_variables) in
+    let w : summed variable_size (open_variables named 0 variables) ≡ summed variable_size (free_variables_of o) =
+    ap (summed variable_size) (sym is.free_variables) in
     let g = hypotheses-size named d variables s.hypotheses h.hypotheses n (length h.variables) 0 h.hypotheses_stand in
     let c = term-size named d variables s.conclusion (place n (length h.variables) (length h.hypotheses) 0) h.conclusion h.conclusion_stands in
     let all : sequent_size o ≡ summed term_size (map (open_term named variables) s.hypotheses) + term_size (open_term named variables s.conclusion) =
-    sym (summed-sum_by (terms_of o)) ∙ summed-append term_size (map (open_term named variables) s.hypotheses) (open_term named variables s.conclusion ∷ []) ∙ (omega arith) in
+    sym (summed-sum_by (terms_of o)) ∙ summed-append term_size (map (open_term named variables) s.hypotheses) (open_term named variables s.conclusion ∷ [])
+    ∙ (omega arith) in
     let count : length (type_variables_of o) ≡ n = ap length is.type_variables ∙ length-numbers named 0 n in
     let hs : length (map (open_term named variables) s.hypotheses) ≡ length s.hypotheses = length_map (open_term named variables) s.hypotheses in
     omega (arith, whole, one, two, types-size n, v, w, free_variables-size o, g, c, all, count, hs, is.within.size, is.within.parameters)

@@ -66,7 +66,8 @@ module _ (named : ℕ → Name) where
     generics-size ts ClosedTypes.none = omega arith
     generics-size ts (ClosedTypes.more u us) = omega (arith, generic-size ts u, generics-size ts us)
 
-  summed-shifted : (t : ClosedType) (ts : ClosedTypes) (i k : ℕ) → summed (λ j. own_size (argument (ClosedTypes.more t ts) j)) (numbers (suc i) k) ≡ summed (λ j. own_size (argument ts j)) (numbers i k)
+  summed-shifted : (t : ClosedType) (ts : ClosedTypes) (i k : ℕ) → summed (λ j. own_size (argument (ClosedTypes.more t ts) j)) (numbers (suc i) k)
+      ≡ summed (λ j. own_size (argument ts j)) (numbers i k)
   summed-shifted t ts i zero = refl
   summed-shifted t ts i (suc k) = ap (λ n. own_size (argument ts i) + n) (summed-shifted t ts (suc i) k)
 
@@ -97,7 +98,8 @@ module _ (named : ℕ → Name) where
     mutual
       pub type-size : (t : ClosedType) (at : Place) (A : Tree) → StandsForType d t at A → size A + 1 ≤ 2 * own_size t
       type-size (ClosedType.parameter i) at A h = let e : size A ≡ 1 = ap size h.1 in omega (arith, e)
-      type-size (ClosedType.operator n ts) at A h = let e : size A ≡ size (applied (Sym h.0) h.1) = ap size h.4 in omega (arith, e, applied-size ts at h.1 (Sym h.0) h.3)
+      type-size (ClosedType.operator n ts) at A h = let e : size A ≡ size (applied (Sym h.0) h.1) =
+          ap size h.4 in omega (arith, e, applied-size ts at h.1 (Sym h.0) h.3)
 
       applied-size : (ts : ClosedTypes) (at : Place) (As : List Tree) (f : Tree) → StandForTypes d ts at As → size (applied f As) ≤ size f + 2 * sizes ts
       applied-size ClosedTypes.none at [] f h = omega arith
@@ -125,5 +127,7 @@ module _ (named : ℕ → Name) where
     term-size types (ClosedTerm.parameter j) at A h = let e : size A ≡ 1 = ap size h.1 in omega (arith, e)
     term-size types (ClosedTerm.bound k) at A h = let e : size A ≡ 1 = ap size h.1 in omega (arith, e)
     term-size types (ClosedTerm.constant n t) at A h = constant-size n t at A h
-    term-size types (ClosedTerm.app f x) at A h = let e : size A ≡ 1 + size h.0 + size h.1 = ap size h.4 in omega (arith, e, term-size types f at h.0 h.2, term-size types x at h.1 h.3)
-    term-size types (ClosedTerm.lam t b) at A h = let e : size A ≡ 1 + (1 + 1 + size h.0) + size h.1 = ap size h.4 in omega (arith, e, type-size t at h.0 h.2, term-size types b (inside at) h.1 h.3)
+    term-size types (ClosedTerm.app f x) at A h = let e : size A ≡ 1 + size h.0 + size h.1 =
+        ap size h.4 in omega (arith, e, term-size types f at h.0 h.2, term-size types x at h.1 h.3)
+    term-size types (ClosedTerm.lam t b) at A h = let e : size A ≡ 1 + (1 + 1 + size h.0) + size h.1 =
+        ap size h.4 in omega (arith, e, type-size t at h.0 h.2, term-size types b (inside at) h.1 h.3)

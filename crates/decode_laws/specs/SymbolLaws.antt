@@ -80,7 +80,9 @@ named_operator-names d s front k name h =
     let tree = products (replicate k types) types in
     let test : Name → Bool = λ n. is_lacking (primitive_arity n) && has_type (symbol_type d s) tree in
     ap (λ o. bind o (λ n. provided (test n) (Some n))) (name_behind-has d s front name (record { is_name = h.is_name; text = h.text }))
-    ∙ provided-true (test name) (Some name) (and_from (is_lacking (primitive_arity name)) (has_type (symbol_type d s) tree) ((is_lacking-Decides (primitive_arity name)).1 h.not_primitive) ((has_type-Decides (symbol_type d s) tree).1 h.ty))
+    ∙ provided-true (test name) (Some name)
+    (and_from (is_lacking (primitive_arity name)) (has_type (symbol_type d s) tree) ((is_lacking-Decides (primitive_arity name)).1 h.not_primitive)
+    ((has_type-Decides (symbol_type d s) tree).1 h.ty))
 
 -- a primitive operator is found at its symbol alone
 one_primitive : (s k r j : ℕ) (n m : Name) → provided (nat_eq s r && nat_eq k j) (Some n) ≡ Some m → (s ≡ r) × (k ≡ j) × (n ≡ m)
@@ -95,7 +97,9 @@ means_at d s k j n m e f h = subst (λ i. MeansOperator d s m i) (sym e) (subst 
 
 -- what is found is what the symbol stands for, and the reverse
 pub operator_at-is : (d : List Declaration) (s k : ℕ) (m : Name) → operator_at d s k ≡ Some m → MeansOperator d s m k
-operator_at-is d s k m e = ⊎_elim primitive (λ f. ⊎_elim (λ g. operators.MeansOperator.input (named_operator-is d s (codes "t" ++ numeral k ++ codes "_") k m g)) (λ g. operators.MeansOperator.defined (named_operator-is d s (codes "o_") k m g)) (or_else-is _ _ m f)) (or_else-is _ _ m e)
+operator_at-is d s k m e = ⊎_elim primitive
+    (λ f. ⊎_elim (λ g. operators.MeansOperator.input (named_operator-is d s (codes "t" ++ numeral k ++ codes "_") k m g))
+    (λ g. operators.MeansOperator.defined (named_operator-is d s (codes "o_") k m g)) (or_else-is _ _ m f)) (or_else-is _ _ m e)
   where
     individual : provided (nat_eq s ind_symbol && nat_eq k 0) (Some ind_name) ≡ Some m → MeansOperator d s m k
     individual f = let p = one_primitive s k ind_symbol 0 ind_name m f in means_at d s k 0 ind_name m p.1 p.2 (operators.MeansOperator.individuals p.0)
@@ -119,13 +123,16 @@ primitive_operator-begins : (d : List Declaration) (s k : ℕ) (m : Name) → pr
 primitive_operator-begins d s k m e = ⊎_elim arrow (λ g. ⊎_elim truth individual (or_else-is _ _ m g)) (or_else-is _ _ m e)
   where
     arrow : provided (nat_eq s arr_symbol && nat_eq k 2) (Some arrow_name) ≡ Some m → begins (symbol_name d s) ≤ 105
-    arrow f = let p = one_primitive s k arr_symbol 2 arrow_name m f in let b : begins (symbol_name d s) ≡ 97 = ap (λ r. begins (symbol_name d r)) p.0 in omega (arith, b)
+    arrow f = let p = one_primitive s k arr_symbol 2 arrow_name m f in let b : begins (symbol_name d s) ≡ 97 =
+        ap (λ r. begins (symbol_name d r)) p.0 in omega (arith, b)
 
     truth : provided (nat_eq s bool_symbol && nat_eq k 0) (Some bool_name) ≡ Some m → begins (symbol_name d s) ≤ 105
-    truth f = let p = one_primitive s k bool_symbol 0 bool_name m f in let b : begins (symbol_name d s) ≡ 98 = ap (λ r. begins (symbol_name d r)) p.0 in omega (arith, b)
+    truth f = let p = one_primitive s k bool_symbol 0 bool_name m f in let b : begins (symbol_name d s) ≡ 98 =
+        ap (λ r. begins (symbol_name d r)) p.0 in omega (arith, b)
 
     individual : provided (nat_eq s ind_symbol && nat_eq k 0) (Some ind_name) ≡ Some m → begins (symbol_name d s) ≤ 105
-    individual f = let p = one_primitive s k ind_symbol 0 ind_name m f in let b : begins (symbol_name d s) ≡ 105 = ap (λ r. begins (symbol_name d r)) p.0 in omega (arith, b)
+    individual f = let p = one_primitive s k ind_symbol 0 ind_name m f in let b : begins (symbol_name d s) ≡ 105 =
+        ap (λ r. begins (symbol_name d r)) p.0 in omega (arith, b)
 
 input_operator-begins : (d : List Declaration) (s k : ℕ) (m : Name) → NamesOperator d s (codes "t" ++ numeral k ++ codes "_") m k
     → begins (symbol_name d s) ≡ 116
@@ -139,7 +146,8 @@ operator_at-means d s k m (operators.MeansOperator.arrow e) = subst (λ r. opera
 operator_at-means d s k m (operators.MeansOperator.truth_values e) = subst (λ r. operator_at d r 0 ≡ Some bool_name) (sym e) refl
 operator_at-means d s k m (operators.MeansOperator.individuals e) = subst (λ r. operator_at d r 0 ≡ Some ind_name) (sym e) refl
 operator_at-means d s k m (operators.MeansOperator.input h) =
-    or_else-second (primitive_operator s k) _ m (λ y e. let b = primitive_operator-begins d s k y e in let c = input_operator-begins d s k m h in absurd (omega (arith, b, c)))
+    or_else-second (primitive_operator s k) _ m (λ y e. let b = primitive_operator-begins d s k y e in let c =
+    input_operator-begins d s k m h in absurd (omega (arith, b, c)))
     (or_else-first _ _ m (named_operator-names d s (codes "t" ++ numeral k ++ codes "_") k m h))
 operator_at-means d s k m (operators.MeansOperator.defined h) =
     let c = defined_operator-begins d s k m h in

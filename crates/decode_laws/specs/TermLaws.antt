@@ -59,7 +59,8 @@ module _ (d : List Declaration) where
     constant_from-is SortKind args c e Xs h = absurd (cc)
     constant_from-is (Var v) args c e Xs h = absurd (cc)
     constant_from-is (Sym s) args c e Xs h =
-        let p = bind-is (constant_at d s) (λ (k : Constant). provided (nat_eq k.variables (closed_count args)) (Some (ClosedTerm.constant k.name (instance_of args k.generic)))) c e in
+        let p = bind-is (constant_at d s)
+        (λ (k : Constant). provided (nat_eq k.variables (closed_count args)) (Some (ClosedTerm.constant k.name (instance_of args k.generic)))) c e in
         let q = provided-is (nat_eq p.0.variables (closed_count args)) (Some (ClosedTerm.constant p.0.name (instance_of args p.0.generic))) c p.2 in
         let count : p.0.variables ≡ length Xs = (Decides-eqb p.0.variables (closed_count args)).0 q.0 ∙ count-stand d at args Xs h in
         record {
@@ -95,7 +96,8 @@ module _ (d : List Declaration) where
     pub constant_from-stands : (n : Name) (t : ClosedType) (A : Tree) → StandsForConstant d n t at A
         → constant_from d at A ClosedTypes.none ≡ Some (ClosedTerm.constant n t)
     constant_from-stands n t A h =
-        let made : ClosedTypes → Constant → Option ClosedTerm = λ us k. provided (nat_eq k.variables (closed_count us)) (Some (ClosedTerm.constant k.name (instance_of us k.generic))) in
+        let made : ClosedTypes → Constant → Option ClosedTerm =
+        λ us k. provided (nat_eq k.variables (closed_count us)) (Some (ClosedTerm.constant k.name (instance_of us k.generic))) in
         ap (λ B. constant_from d at B ClosedTypes.none) h.tree
         ∙ constants-stand h.arguments h.args (Sym h.symbol) ClosedTypes.none h.args_stand
         ∙ ap (λ us. bind (constant_at d h.symbol) (made us)) (joined-none h.arguments)
@@ -117,7 +119,8 @@ module _ (d : List Declaration) where
     constant_from-applied SortKind args c e = absurd (cc)
     constant_from-applied (Var v) args c e = absurd (cc)
     constant_from-applied (Sym s) args c e =
-        let p = bind-is (constant_at d s) (λ (k : Constant). provided (nat_eq k.variables (closed_count args)) (Some (ClosedTerm.constant k.name (instance_of args k.generic)))) c e in
+        let p = bind-is (constant_at d s)
+        (λ (k : Constant). provided (nat_eq k.variables (closed_count args)) (Some (ClosedTerm.constant k.name (instance_of args k.generic)))) c e in
         let q = provided-is (nat_eq p.0.variables (closed_count args)) (Some (ClosedTerm.constant p.0.name (instance_of args p.0.generic))) c p.2 in
         let count : p.0.variables ≡ closed_count args = (Decides-eqb p.0.variables (closed_count args)).0 q.0 in
         record { symbol = s; constant = p.0; head = refl; found = p.1; count = omega (arith, count) }
@@ -130,7 +133,8 @@ module _ (d : List Declaration) where
 
     -- variables
     abbrev is_free : ℕ → Bool
-    is_free v = nat_lt v (depth_of at) && (not (nat_lt (depth_of at - suc v) at.type_variables) && nat_lt (depth_of at - suc v - at.type_variables) at.free_variables)
+    is_free v = nat_lt v (depth_of at) &&
+        (not (nat_lt (depth_of at - suc v) at.type_variables) && nat_lt (depth_of at - suc v - at.type_variables) at.free_variables)
 
     term_parameter-is : (v : ℕ) (c : ClosedTerm) → term_parameter at v ≡ Some c → StandsForTerm d c at (Var v)
     term_parameter-is v c e = ⊎_elim own outer (or_else-is _ _ c e)
@@ -152,7 +156,8 @@ module _ (d : List Declaration) where
             subst (λ u. StandsForTerm d u at (Var v)) (some-injective p.1) ((Decides-ltb (D - suc v - at.type_variables) at.free_variables).0 r.1, ap Var back)
 
     term_parameter-bound : (k : ℕ) → k < at.binders → term_parameter at k ≡ Some (ClosedTerm.bound k)
-    term_parameter-bound k h = or_else-first _ _ (ClosedTerm.bound k) (provided-true (nat_lt k at.binders) (Some (ClosedTerm.bound k)) ((Decides-ltb k at.binders).1 h))
+    term_parameter-bound k h = or_else-first _ _ (ClosedTerm.bound k)
+        (provided-true (nat_lt k at.binders) (Some (ClosedTerm.bound k)) ((Decides-ltb k at.binders).1 h))
 
     term_parameter-free : (j : ℕ) → j < at.free_variables → term_parameter at (depth_of at - suc (at.type_variables + j)) ≡ Some (ClosedTerm.parameter j)
     term_parameter-free j h =
@@ -166,10 +171,13 @@ module _ (d : List Declaration) where
         let same : D - suc v - at.type_variables ≡ j = omega (arith, back) in
         let small : D - suc v - at.type_variables < at.free_variables = omega (arith, same, h) in
         or_else-second (provided (nat_lt v at.binders) (Some (ClosedTerm.bound v))) _ (ClosedTerm.parameter j)
-        (λ y e. let p = provided-is (nat_lt v at.binders) (Some (ClosedTerm.bound v)) y e in let q : v < at.binders = (Decides-ltb v at.binders).0 p.0 in absurd (omega (arith, q, high)))
+        (λ y e. let p = provided-is (nat_lt v at.binders) (Some (ClosedTerm.bound v)) y e in let q : v < at.binders =
+        (Decides-ltb v at.binders).0 p.0 in absurd (omega (arith, q, high)))
         (provided-true (is_free v) (Some (ClosedTerm.parameter (D - suc v - at.type_variables)))
-        (and_from (nat_lt v D) (not (nat_lt (D - suc v) at.type_variables) && nat_lt (D - suc v - at.type_variables) at.free_variables) ((Decides-ltb v D).1 below)
-        (and_from (not (nat_lt (D - suc v) at.type_variables)) (nat_lt (D - suc v - at.type_variables) at.free_variables) (not-less-true (D - suc v) at.type_variables past) ((Decides-ltb (D - suc v - at.type_variables) at.free_variables).1 small)))
+        (and_from (nat_lt v D) (not (nat_lt (D - suc v) at.type_variables) && nat_lt (D - suc v - at.type_variables) at.free_variables)
+        ((Decides-ltb v D).1 below)
+        (and_from (not (nat_lt (D - suc v) at.type_variables)) (nat_lt (D - suc v - at.type_variables) at.free_variables)
+        (not-less-true (D - suc v) at.type_variables past) ((Decides-ltb (D - suc v - at.type_variables) at.free_variables).1 small)))
         ∙ ap (λ i. Some (ClosedTerm.parameter i)) same)
 
   pub term_from-is : (A : Tree) (at : Place) (c : ClosedTerm) → term_from d A at ≡ Some c → StandsForTerm d c at A
@@ -179,10 +187,12 @@ module _ (d : List Declaration) where
   term_from-is (Sym s) at c e =
       let k = constant_from-is at (Sym s) ClosedTypes.none c e [] (tt {0}) in
       subst (λ u. StandsForTerm d u at (Sym s)) (sym k.is) k.stands
-  term_from-is (App f x) at c e = go (λ u h. term_from-is f at u h) (λ u h. term_from-is x at u h) (or_else-is (constant_from d at (App f x) ClosedTypes.none) (both ClosedTerm.app (term_from d f at) (term_from d x at)) c e)
+  term_from-is (App f x) at c e = go (λ u h. term_from-is f at u h) (λ u h. term_from-is x at u h)
+      (or_else-is (constant_from d at (App f x) ClosedTypes.none) (both ClosedTerm.app (term_from d f at) (term_from d x at)) c e)
     where
       go : ((u : ClosedTerm) → term_from d f at ≡ Some u → StandsForTerm d u at f) → ((u : ClosedTerm) → term_from d x at ≡ Some u → StandsForTerm d u at x)
-          → (constant_from d at (App f x) ClosedTypes.none ≡ Some c) ⊎ (both ClosedTerm.app (term_from d f at) (term_from d x at) ≡ Some c) → StandsForTerm d c at (App f x)
+          → (constant_from d at (App f x) ClosedTypes.none ≡ Some c) ⊎ (both ClosedTerm.app (term_from d f at) (term_from d x at) ≡ Some c)
+          → StandsForTerm d c at (App f x)
       go p q (inl g) =
           let k = constant_from-is at (App f x) ClosedTypes.none c g [] (tt {0}) in
           subst (λ u. StandsForTerm d u at (App f x)) (sym k.is) k.stands
@@ -193,7 +203,8 @@ module _ (d : List Declaration) where
       let m = both-is ClosedTerm.lam (bind (term_part a) (type_of_tree d at)) (term_from d b (inside at)) c e in
       let t = bind-is (term_part a) (type_of_tree d at) m.0 m.2 in
       let domain : a ≡ term_of t.0 = symbol_argument-is term_symbol a t.0 t.1 in
-      subst (λ u. StandsForTerm d u at (Lam a b)) (sym m.4) (t.0, b, type_of_tree-is d at t.0 m.0 t.2, term_from-is b (inside at) m.1 m.3, ap (λ z. Lam z b) domain)
+      subst (λ u. StandsForTerm d u at (Lam a b)) (sym m.4)
+      (t.0, b, type_of_tree-is d at t.0 m.0 t.2, term_from-is b (inside at) m.1 m.3, ap (λ z. Lam z b) domain)
   term_from-is (Pi a b) at c e = absurd (cc)
 
   -- what is decoded as a constant is so decoded as a term
@@ -209,7 +220,8 @@ module _ (d : List Declaration) where
   -- the tree of a term whose head is the symbol of a constant has an argument at least for each variable of its generic type
   pub enough_arguments : (c : ClosedTerm) (at : Place) (A : Tree) (s : ℕ) (k : Constant) → StandsForTerm d c at A → head_of A ≡ Sym s → constant_at d s ≡ Some k
       → k.variables ≤ argument_count A
-  enough_arguments (ClosedTerm.parameter j) at A s k h e f = let g : Var (depth_of at - suc (at.type_variables + j)) ≡ Sym s = sym (ap head_of h.1) ∙ e in absurd (cc)
+  enough_arguments (ClosedTerm.parameter j) at A s k h e f = let g : Var (depth_of at - suc (at.type_variables + j)) ≡ Sym s =
+      sym (ap head_of h.1) ∙ e in absurd (cc)
   enough_arguments (ClosedTerm.bound i) at A s k h e f = let g : Var i ≡ Sym s = sym (ap head_of h.1) ∙ e in absurd (cc)
   enough_arguments (ClosedTerm.constant n t) at A s k h e f =
       let a = constant_from-applied at A ClosedTypes.none (ClosedTerm.constant n t) (constant_from-stands at n t A h) in
@@ -247,7 +259,8 @@ module _ (d : List Declaration) where
   term_from-stands (ClosedTerm.lam t b) at A h =
       let T = h.0 in
       let B = h.1 in
-      let first : bind (term_part (term_of T)) (type_of_tree d at) ≡ Some t = ap (λ o. bind o (type_of_tree d at)) (symbol_argument-of term_symbol T) ∙ type_of_tree-stands d at t T h.2 in
+      let first : bind (term_part (term_of T)) (type_of_tree d at) ≡ Some t =
+      ap (λ o. bind o (type_of_tree d at)) (symbol_argument-of term_symbol T) ∙ type_of_tree-stands d at t T h.2 in
       let second : term_from d B (inside at) ≡ Some b = term_from-stands b (inside at) B h.3 in
       ap (λ C. term_from d C at) h.4
       ∙ ap (λ o. both ClosedTerm.lam o (term_from d B (inside at))) first ∙ ap (both ClosedTerm.lam (Some t)) second

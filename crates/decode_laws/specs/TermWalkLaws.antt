@@ -29,14 +29,16 @@ module _ (named : ℕ → Name) where
   mutual
     argument-size : (ts : ClosedTypes) (g : ClosedType) (i : ℕ) → IsIn (parameter_places g) i
         → type_size (open_type named (argument ts i)) ≤ type_size (open_type named (instance_of ts g))
-    argument-size ts (ClosedType.parameter j) i (inl e) = let f : type_size (open_type named (argument ts i)) ≡ type_size (open_type named (argument ts j)) = ap (λ k. type_size (open_type named (argument ts k))) e in omega (arith, f)
+    argument-size ts (ClosedType.parameter j) i (inl e) = let f : type_size (open_type named (argument ts i)) ≡ type_size (open_type named (argument ts j)) =
+        ap (λ k. type_size (open_type named (argument ts k))) e in omega (arith, f)
     argument-size ts (ClosedType.parameter j) i (inr h) = absurd h
     argument-size ts (ClosedType.operator n us) i h = omega (arith, arguments-size ts us i h)
 
     arguments-size : (ts us : ClosedTypes) (i : ℕ) → IsIn (parameter_places_of_all us) i
         → type_size (open_type named (argument ts i)) ≤ types_size (open_types named (instances_of ts us))
     arguments-size ts ClosedTypes.none i h = absurd h
-    arguments-size ts (ClosedTypes.more u us) i h = go (IsIn-either (parameter_places u) (parameter_places_of_all us) i h) (argument-size ts u i) (arguments-size ts us i)
+    arguments-size ts (ClosedTypes.more u us) i h =
+        go (IsIn-either (parameter_places u) (parameter_places_of_all us) i h) (argument-size ts u i) (arguments-size ts us i)
       where
         go : IsIn (parameter_places u) i ⊎ IsIn (parameter_places_of_all us) i
             → (IsIn (parameter_places u) i → type_size (open_type named (argument ts i)) ≤ type_size (open_type named (instance_of ts u)))
@@ -48,14 +50,16 @@ module _ (named : ℕ → Name) where
   mutual
     argument-depth : (ts : ClosedTypes) (g : ClosedType) (i : ℕ) → IsIn (parameter_places g) i
         → type_depth (open_type named (argument ts i)) ≤ type_depth (open_type named (instance_of ts g))
-    argument-depth ts (ClosedType.parameter j) i (inl e) = let f : type_depth (open_type named (argument ts i)) ≡ type_depth (open_type named (argument ts j)) = ap (λ k. type_depth (open_type named (argument ts k))) e in omega (arith, f)
+    argument-depth ts (ClosedType.parameter j) i (inl e) = let f : type_depth (open_type named (argument ts i)) ≡ type_depth (open_type named (argument ts j)) =
+        ap (λ k. type_depth (open_type named (argument ts k))) e in omega (arith, f)
     argument-depth ts (ClosedType.parameter j) i (inr h) = absurd h
     argument-depth ts (ClosedType.operator n us) i h = omega (arith, arguments-depth ts us i h)
 
     arguments-depth : (ts us : ClosedTypes) (i : ℕ) → IsIn (parameter_places_of_all us) i
         → type_depth (open_type named (argument ts i)) ≤ types_depth (open_types named (instances_of ts us))
     arguments-depth ts ClosedTypes.none i h = absurd h
-    arguments-depth ts (ClosedTypes.more u us) i h = go (IsIn-either (parameter_places u) (parameter_places_of_all us) i h) (argument-depth ts u i) (arguments-depth ts us i)
+    arguments-depth ts (ClosedTypes.more u us) i h =
+        go (IsIn-either (parameter_places u) (parameter_places_of_all us) i h) (argument-depth ts u i) (arguments-depth ts us i)
       where
         go : IsIn (parameter_places u) i ⊎ IsIn (parameter_places_of_all us) i
             → (IsIn (parameter_places u) i → type_depth (open_type named (argument ts i)) ≤ type_depth (open_type named (instance_of ts u)))
@@ -82,7 +86,8 @@ module _ (named : ℕ → Name) where
 below-IsIn : (i k j : ℕ) → i < k → IsIn (numbers j k) (j + i)
 below-IsIn i zero j l = absurd (omega (arith, l))
 below-IsIn zero (suc k) j l = inl (omega arith)
-below-IsIn (suc i) (suc k) j l = let e : suc j + i ≡ j + suc i = omega arith in inr (subst (IsIn (numbers (suc j) k)) e (below-IsIn i k (suc j) (omega (arith, l))))
+below-IsIn (suc i) (suc k) j l = let e : suc j + i ≡ j + suc i =
+    omega arith in inr (subst (IsIn (numbers (suc j) k)) e (below-IsIn i k (suc j) (omega (arith, l))))
 
 pub IsIn-numbers : (i k : ℕ) → i < k → IsIn (numbers 0 k) i
 IsIn-numbers i k l = let e : 0 + i ≡ i = omega arith in subst (IsIn (numbers 0 k)) e (below-IsIn i k 0 l)
@@ -132,8 +137,10 @@ module _ (named : ℕ → Name) (variables : List ClosedType) where
         go c a b (inl e) = h.constants (X ∷ []) c e a b
         go c a b (inr e) =
             let m = both-is ClosedTerm.app (term_from d F at) (term_from d X at) c e in
-            let s : term_size (open_term named variables c) ≡ term_size (open_term named variables (ClosedTerm.app m.0 m.1)) = ap (λ u. term_size (open_term named variables u)) m.4 in
-            let t : term_depth (open_term named variables c) ≡ term_depth (open_term named variables (ClosedTerm.app m.0 m.1)) = ap (λ u. term_depth (open_term named variables u)) m.4 in
+            let s : term_size (open_term named variables c) ≡ term_size (open_term named variables (ClosedTerm.app m.0 m.1)) =
+            ap (λ u. term_size (open_term named variables u)) m.4 in
+            let t : term_depth (open_term named variables c) ≡ term_depth (open_term named variables (ClosedTerm.app m.0 m.1)) =
+            ap (λ u. term_depth (open_term named variables u)) m.4 in
             h.here m.0 m.2 (omega (arith, s, a)) (omega (arith, t, b))
 
     pub dead-applied : (size level : ℕ) (F : Tree) (xs : List Tree) → IsDead size level F → NoTerm size level (term_from d (applied F xs) at)
@@ -184,7 +191,8 @@ module _ (named : ℕ → Name) (variables : List ClosedType) where
         → IsInstance s xs c
     constant_from-instance s xs c e =
         let h = constant_from-types (Sym s) xs ClosedTypes.none c e in
-        let made : ClosedTypes → Constant → Option ClosedTerm = λ us k. provided (nat_eq k.variables (closed_count us)) (Some (ClosedTerm.constant k.name (instance_of us k.generic))) in
+        let made : ClosedTypes → Constant → Option ClosedTerm =
+        λ us k. provided (nat_eq k.variables (closed_count us)) (Some (ClosedTerm.constant k.name (instance_of us k.generic))) in
         let f : bind (constant_at d s) (made h.types) ≡ Some c = ap (λ us. bind (constant_at d s) (made us)) (sym (joined-none h.types)) ∙ h.is in
         let p = bind-is (constant_at d s) (made h.types) c f in
         let q = provided-is (nat_eq p.0.variables (closed_count h.types)) (Some (ClosedTerm.constant p.0.name (instance_of h.types p.0.generic))) c p.2 in
@@ -201,7 +209,8 @@ module _ (named : ℕ → Name) (variables : List ClosedType) where
         → k.variables ≡ length xs
         → constant_from d at (applied (Sym s) xs) ClosedTypes.none ≡ Some (ClosedTerm.constant k.name (instance_of types k.generic))
     constant_from-stand s xs types k found stand count =
-        let made : ClosedTypes → Constant → Option ClosedTerm = λ us c. provided (nat_eq c.variables (closed_count us)) (Some (ClosedTerm.constant c.name (instance_of us c.generic))) in
+        let made : ClosedTypes → Constant → Option ClosedTerm =
+        λ us c. provided (nat_eq c.variables (closed_count us)) (Some (ClosedTerm.constant c.name (instance_of us c.generic))) in
         constants-stand d at types xs (Sym s) ClosedTypes.none stand
         ∙ ap (λ us. bind (constant_at d s) (made us)) (joined-none types)
         ∙ ap (λ o. bind o (made types)) found
@@ -210,16 +219,20 @@ module _ (named : ℕ → Name) (variables : List ClosedType) where
 
     -- the symbol of no constant within the limits
     pub dead-symbol : (size level s : ℕ)
-        → ((k : Constant) → constant_at d s ≡ Some k → 1 + type_size (open_type named k.generic) ≤ size → 1 + type_depth (open_type named k.generic) ≤ level → ⊥)
+        → ((k : Constant) → constant_at d s ≡ Some k → 1 + type_size (open_type named k.generic) ≤ size → 1 + type_depth (open_type named k.generic) ≤ level
+        → ⊥)
         → IsDead size level (Sym s)
     dead-symbol size level s h = record { here = none []; constants = none }
       where
         none : (rest : List Tree) → NoTerm size level (constant_from d at (applied (Sym s) rest) ClosedTypes.none)
         none rest c e a b =
             let i = constant_from-instance s rest c e in
-            let m : term_size (open_term named variables c) ≡ 1 + type_size (open_type named (instance_of i.types i.constant.generic)) = ap (λ u. term_size (open_term named variables u)) i.is in
-            let n : term_depth (open_term named variables c) ≡ 1 + type_depth (open_type named (instance_of i.types i.constant.generic)) = ap (λ u. term_depth (open_term named variables u)) i.is in
-            h i.constant i.found (omega (arith, a, m, generic-size named i.types i.constant.generic)) (omega (arith, b, n, generic-depth named i.types i.constant.generic))
+            let m : term_size (open_term named variables c) ≡ 1 + type_size (open_type named (instance_of i.types i.constant.generic)) =
+            ap (λ u. term_size (open_term named variables u)) i.is in
+            let n : term_depth (open_term named variables c) ≡ 1 + type_depth (open_type named (instance_of i.types i.constant.generic)) =
+            ap (λ u. term_depth (open_term named variables u)) i.is in
+            h i.constant i.found (omega (arith, a, m, generic-size named i.types i.constant.generic))
+            (omega (arith, b, n, generic-depth named i.types i.constant.generic))
 
     one_found : (s : ℕ) (k l : Constant) → constant_at d s ≡ Some k → constant_at d s ≡ Some l → k ≡ l
     one_found s k l e f = some-injective (sym e ∙ f)
@@ -247,23 +260,31 @@ module _ (named : ℕ → Name) (variables : List ClosedType) where
           let i = constant_from-instance s (taken ++ X ∷ rest) c e in
           let same : i.constant ≡ k = one_found s i.constant k i.found found in
           let order = means-in_order named d s i.constant.name i.constant.variables i.constant.generic (constant_at-is d s i.constant i.found) in
-          let m : length taken < i.constant.variables = let z : i.constant.variables ≡ k.variables = ap (λ (x : Constant). x.variables) same in omega (arith, z, l) in
+          let m : length taken < i.constant.variables = let z : i.constant.variables ≡ k.variables =
+          ap (λ (x : Constant). x.variables) same in omega (arith, z, l) in
           let among : IsIn (parameter_places i.constant.generic) (length taken) =
-          IsIn-distinct_of nat_eq Decides-eqb (parameter_places i.constant.generic) (length taken) (subst (λ ns. IsIn ns (length taken)) (sym order) (IsIn-numbers (length taken) i.constant.variables m)) in
+          IsIn-distinct_of nat_eq Decides-eqb (parameter_places i.constant.generic) (length taken)
+          (subst (λ ns. IsIn ns (length taken)) (sym order) (IsIn-numbers (length taken) i.constant.variables m)) in
           let t = argument i.types (length taken) in
-          let p : term_size (open_term named variables c) ≡ 1 + type_size (open_type named (instance_of i.types i.constant.generic)) = ap (λ u. term_size (open_term named variables u)) i.is in
-          let q : term_depth (open_term named variables c) ≡ 1 + type_depth (open_type named (instance_of i.types i.constant.generic)) = ap (λ u. term_depth (open_term named variables u)) i.is in
+          let p : term_size (open_term named variables c) ≡ 1 + type_size (open_type named (instance_of i.types i.constant.generic)) =
+          ap (λ u. term_size (open_term named variables u)) i.is in
+          let q : term_depth (open_term named variables c) ≡ 1 + type_depth (open_type named (instance_of i.types i.constant.generic)) =
+          ap (λ u. term_depth (open_term named variables u)) i.is in
           none t (type_of_tree-stands d at t X (argument-stands i.types taken rest X i.stand))
-          (omega (arith, a, p, argument-size named i.types i.constant.generic (length taken) among)) (omega (arith, b, q, argument-depth named i.types i.constant.generic (length taken) among))
+          (omega (arith, a, p, argument-size named i.types i.constant.generic (length taken) among))
+          (omega (arith, b, q, argument-depth named i.types i.constant.generic (length taken) among))
 
       pub dead-argument : IsDead size level (App (applied (Sym s) taken) X)
       dead-argument = record {
-        here = λ c e a b. go c a b (or_else-is (constant_from d at (App (applied (Sym s) taken) X) ClosedTypes.none) (both ClosedTerm.app (term_from d (applied (Sym s) taken) at) (term_from d X at)) c e);
+        here = λ c e a b. go c a b
+            (or_else-is (constant_from d at (App (applied (Sym s) taken) X) ClosedTypes.none)
+            (both ClosedTerm.app (term_from d (applied (Sym s) taken) at) (term_from d X at)) c e);
         constants = λ rest c e a b. lacks rest c (ap (λ A. constant_from d at A ClosedTypes.none) (applied-append (Sym s) taken (X ∷ rest)) ∙ e) a b;
       }
         where
           go : (c : ClosedTerm) → term_size (open_term named variables c) ≤ size → term_depth (open_term named variables c) ≤ level
-              → (constant_from d at (App (applied (Sym s) taken) X) ClosedTypes.none ≡ Some c) ⊎ (both ClosedTerm.app (term_from d (applied (Sym s) taken) at) (term_from d X at) ≡ Some c) → ⊥
+              → (constant_from d at (App (applied (Sym s) taken) X) ClosedTypes.none ≡ Some c)
+              ⊎ (both ClosedTerm.app (term_from d (applied (Sym s) taken) at) (term_from d X at) ≡ Some c) → ⊥
           go c a b (inl e) = lacks [] c (ap (λ A. constant_from d at A ClosedTypes.none) (applied-append (Sym s) taken (X ∷ [])) ∙ e) a b
           go c a b (inr e) =
               let m = both-is ClosedTerm.app (term_from d (applied (Sym s) taken) at) (term_from d X at) c e in
@@ -272,7 +293,8 @@ module _ (named : ℕ → Name) (variables : List ClosedType) where
     -- an instance that passes the limits
     pub dead-instance : (size level s : ℕ) (k : Constant) (xs : List Tree) (types : ClosedTypes) → constant_at d s ≡ Some k → StandForTypes d types at xs
         → k.variables ≡ length xs
-        → (1 + type_size (open_type named (instance_of types k.generic)) ≤ size → 1 + type_depth (open_type named (instance_of types k.generic)) ≤ level → ⊥) → IsDead size level (applied (Sym s) xs)
+        → (1 + type_size (open_type named (instance_of types k.generic)) ≤ size → 1 + type_depth (open_type named (instance_of types k.generic)) ≤ level → ⊥)
+        → IsDead size level (applied (Sym s) xs)
     dead-instance size level s k xs types found stand count large = record {
       here = λ c e a b. one c (some-injective (sym is_term ∙ e)) a b;
       constants = constants;
@@ -287,8 +309,10 @@ module _ (named : ℕ → Name) (variables : List ClosedType) where
         one : (c : ClosedTerm) → ClosedTerm.constant k.name (instance_of types k.generic) ≡ c → term_size (open_term named variables c) ≤ size
             → term_depth (open_term named variables c) ≤ level → ⊥
         one c e a b =
-            let m : term_size (open_term named variables c) ≡ 1 + type_size (open_type named (instance_of types k.generic)) = ap (λ u. term_size (open_term named variables u)) (sym e) in
-            let n : term_depth (open_term named variables c) ≡ 1 + type_depth (open_type named (instance_of types k.generic)) = ap (λ u. term_depth (open_term named variables u)) (sym e) in
+            let m : term_size (open_term named variables c) ≡ 1 + type_size (open_type named (instance_of types k.generic)) =
+            ap (λ u. term_size (open_term named variables u)) (sym e) in
+            let n : term_depth (open_term named variables c) ≡ 1 + type_depth (open_type named (instance_of types k.generic)) =
+            ap (λ u. term_depth (open_term named variables u)) (sym e) in
             large (omega (arith, a, m)) (omega (arith, b, n))
 
         constants : (rest : List Tree) → NoTerm size level (constant_from d at (applied (applied (Sym s) xs) rest) ClosedTypes.none)
@@ -310,7 +334,8 @@ module _ (named : ℕ → Name) (variables : List ClosedType) where
 
     -- an application of a term that passes the limits, or whose argument does
     pub dead-application : (size level : ℕ) (f : ClosedTerm) (F X : Tree) → term_from d F at ≡ Some f
-        → ((x : ClosedTerm) → term_from d X at ≡ Some x → 1 + term_size (open_term named variables f) + term_size (open_term named variables x) ≤ size → 1 + term_depth (open_term named variables x) ≤ level → ⊥)
+        → ((x : ClosedTerm) → term_from d X at ≡ Some x → 1 + term_size (open_term named variables f) + term_size (open_term named variables x) ≤ size
+        → 1 + term_depth (open_term named variables x) ≤ level → ⊥)
         → IsDead size level (App F X)
     dead-application size level f F X e h = record {
       here = λ c g a b. go c a b (or_else-is (constant_from d at (App F X) ClosedTypes.none) (both ClosedTerm.app (term_from d F at) (term_from d X at)) c g);
@@ -324,6 +349,8 @@ module _ (named : ℕ → Name) (variables : List ClosedType) where
             let m = both-is ClosedTerm.app (term_from d F at) (term_from d X at) c g in
             let same : m.0 ≡ f = some-injective (sym m.2 ∙ e) in
             let w : c ≡ ClosedTerm.app f m.1 = m.4 ∙ ap (λ u. ClosedTerm.app u m.1) same in
-            let s : term_size (open_term named variables c) ≡ term_size (open_term named variables (ClosedTerm.app f m.1)) = ap (λ u. term_size (open_term named variables u)) w in
-            let t : term_depth (open_term named variables c) ≡ term_depth (open_term named variables (ClosedTerm.app f m.1)) = ap (λ u. term_depth (open_term named variables u)) w in
+            let s : term_size (open_term named variables c) ≡ term_size (open_term named variables (ClosedTerm.app f m.1)) =
+            ap (λ u. term_size (open_term named variables u)) w in
+            let t : term_depth (open_term named variables c) ≡ term_depth (open_term named variables (ClosedTerm.app f m.1)) =
+            ap (λ u. term_depth (open_term named variables u)) w in
             h m.1 m.3 (omega (arith, s, a)) (omega (arith, t, b))

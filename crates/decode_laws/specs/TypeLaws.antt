@@ -48,7 +48,8 @@ module _ (d : List Declaration) (at : Place) where
       let back : D - suc (D - suc i) ≡ i = omega (arith, l) in
       let own : D - suc (D - suc i) < at.type_variables = omega (arith, back, h) in
       provided-true (nat_lt (D - suc i) D && nat_lt (D - suc (D - suc i)) at.type_variables) (Some (ClosedType.parameter (D - suc (D - suc i))))
-      (and_from (nat_lt (D - suc i) D) (nat_lt (D - suc (D - suc i)) at.type_variables) ((Decides-ltb (D - suc i) D).1 below) ((Decides-ltb (D - suc (D - suc i)) at.type_variables).1 own))
+      (and_from (nat_lt (D - suc i) D) (nat_lt (D - suc (D - suc i)) at.type_variables) ((Decides-ltb (D - suc i) D).1 below)
+      ((Decides-ltb (D - suc (D - suc i)) at.type_variables).1 own))
       ∙ ap (λ j. Some (ClosedType.parameter j)) back
 
   pub type_from-is : (A : Tree) (args : ClosedTypes) (t : ClosedType) → type_from d at A args ≡ Some t → (Xs : List Tree) → StandForTypes d args at Xs
@@ -60,7 +61,8 @@ module _ (d : List Declaration) (at : Place) where
   type_from-is (Var v) (ClosedTypes.more u us) t e Xs h = absurd (cc)
   type_from-is (Sym s) args t e Xs h =
       let p = option_map-some (λ n. ClosedType.operator n args) (operator_at d s (closed_count args)) t e in
-      let means : MeansOperator d s p.0 (length Xs) = subst (λ k. MeansOperator d s p.0 k) (count-stand args Xs h) (operator_at-is d s (closed_count args) p.0 p.1) in
+      let means : MeansOperator d s p.0 (length Xs) =
+      subst (λ k. MeansOperator d s p.0 k) (count-stand args Xs h) (operator_at-is d s (closed_count args) p.0 p.1) in
       subst (λ u. StandsForType d u at (applied (Sym s) Xs)) p.2 (s, Xs, means, h, refl)
   type_from-is (App f x) args t e Xs h =
       let p = bind-is (type_from d at x ClosedTypes.none) (λ u. type_from d at f (ClosedTypes.more u args)) t e in
@@ -79,7 +81,8 @@ module _ (d : List Declaration) (at : Place) where
         ap (type_of_tree d at) h.4
         ∙ types-stand ts h.1 (Sym h.0) ClosedTypes.none h.3
         ∙ ap (λ us. option_map (λ m. ClosedType.operator m us) (operator_at d h.0 (closed_count us))) (joined-none ts)
-        ∙ ap (option_map (λ m. ClosedType.operator m ts)) (operator_at-means d h.0 (closed_count ts) n (subst (λ k. MeansOperator d h.0 n k) (sym (count-stand ts h.1 h.3)) h.2))
+        ∙ ap (option_map (λ m. ClosedType.operator m ts))
+        (operator_at-means d h.0 (closed_count ts) n (subst (λ k. MeansOperator d h.0 n k) (sym (count-stand ts h.1 h.3)) h.2))
 
     pub types-stand : (ts : ClosedTypes) (As : List Tree) (f : Tree) (acc : ClosedTypes) → StandForTypes d ts at As
         → type_from d at (applied f As) acc ≡ type_from d at f (joined ts acc)

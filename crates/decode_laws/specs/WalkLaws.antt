@@ -62,7 +62,8 @@ module _ (named : ℕ → Name) (d : List Declaration) (at : Place) where
 
   -- nor is there an operator that would pass them
   pub none-operator : (size level s : ℕ) (n : Name) (acc : ClosedTypes) → operator_at d s (closed_count acc) ≡ Some n
-      → (type_size (open_type named (ClosedType.operator n acc)) ≤ size → type_depth (open_type named (ClosedType.operator n acc)) ≤ level → ⊥) → NoType named size level (type_from d at (Sym s) acc)
+      → (type_size (open_type named (ClosedType.operator n acc)) ≤ size → type_depth (open_type named (ClosedType.operator n acc)) ≤ level → ⊥)
+      → NoType named size level (type_from d at (Sym s) acc)
   none-operator size level s n acc e f t g a b =
       let same : ClosedType.operator n acc ≡ t = some-injective (sym (ap (option_map (λ m. ClosedType.operator m acc)) e) ∙ g) in
       f (subst (λ u. type_size (open_type named u) ≤ size) (sym same) a) (subst (λ u. type_depth (open_type named u) ≤ level) (sym same) b)

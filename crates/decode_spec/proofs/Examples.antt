@@ -17,7 +17,8 @@ reflexivity = refl
 
 -- over a type variable
 pub general : decode [] (Pi types (Pi (term_of (Var 0)) (proof_of (eq_of (Var 1) (Var 0) (Var 0))))) ≡
-    Some (closed_sequent 1 (ClosedType.parameter 0 ∷ []) [] (ClosedTerm.app (ClosedTerm.app (equals (ClosedType.parameter 0)) (ClosedTerm.parameter 0)) (ClosedTerm.parameter 0)))
+    Some (closed_sequent 1 (ClosedType.parameter 0 ∷ []) []
+    (ClosedTerm.app (ClosedTerm.app (equals (ClosedType.parameter 0)) (ClosedTerm.parameter 0)) (ClosedTerm.parameter 0)))
 general = refl
 
 -- `{x} |- y`

@@ -133,12 +133,14 @@ primitive_constant s =
 abbrev pub input_constant : List Declaration → ℕ → Option Constant
 input_constant declarations s =
     bind (name_behind declarations s (codes "i_")) (λ n.
-    provided (is_lacking (primitive_type n) && has_type (symbol_type declarations s) (Pi types (term_of (Var 0)))) (Some (constant_with n 1 (ClosedType.parameter 0))))
+    provided (is_lacking (primitive_type n) && has_type (symbol_type declarations s) (Pi types (term_of (Var 0))))
+    (Some (constant_with n 1 (ClosedType.parameter 0))))
 
 abbrev pub defined_constant : List Declaration → ℕ → Option Constant
 defined_constant declarations s =
     bind (name_behind declarations s (codes "c_")) (λ n.
-    provided (is_lacking (primitive_type n)) (option_map (λ (g : ℕ × ClosedType). constant_with n g.0 g.1) (generic_of declarations (symbol_type declarations s))))
+    provided (is_lacking (primitive_type n))
+    (option_map (λ (g : ℕ × ClosedType). constant_with n g.0 g.1) (generic_of declarations (symbol_type declarations s))))
 
 abbrev pub constant_at : List Declaration → ℕ → Option Constant
 constant_at declarations s = or_else (primitive_constant s) (or_else (input_constant declarations s) (defined_constant declarations s))
@@ -157,7 +159,8 @@ constant_from declarations at (Pi a b) args = None
 abbrev pub term_parameter : Place → ℕ → Option ClosedTerm
 term_parameter at v =
     or_else (provided (nat_lt v at.binders) (Some (ClosedTerm.bound v)))
-    (provided (nat_lt v (depth_of at) && (not (nat_lt (depth_of at - suc v) at.type_variables) && nat_lt (depth_of at - suc v - at.type_variables) at.free_variables))
+    (provided (nat_lt v (depth_of at) &&
+    (not (nat_lt (depth_of at - suc v) at.type_variables) && nat_lt (depth_of at - suc v - at.type_variables) at.free_variables))
     (Some (ClosedTerm.parameter (depth_of at - suc v - at.type_variables))))
 
 -- the term that a tree stands for
@@ -205,7 +208,8 @@ sequent_from declarations p =
     bind (variables_from declarations p.variables p.type_variables 0) (λ variables.
     bind (hypotheses_from declarations p.hypotheses p.type_variables (length p.variables) 0) (λ hypotheses.
     bind (proof_part p.end) (λ C.
-    option_map (closed_sequent p.type_variables variables hypotheses) (term_from declarations C (place p.type_variables (length p.variables) (length p.hypotheses) 0)))))
+    option_map (closed_sequent p.type_variables variables hypotheses)
+    (term_from declarations C (place p.type_variables (length p.variables) (length p.hypotheses) 0)))))
 
 -- The closed sequent that a type stands for
 abbrev pub decode : List Declaration → Tree → Option ClosedSequent

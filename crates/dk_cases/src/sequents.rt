@@ -3,9 +3,9 @@ ghost use Rattle.std.specs.Prelude.{◌<◌, length};
 ghost use Rattle.holide_sig.specs.Modules.{IsHeld};
 
 use case_files::Wrong;
-use hol_text::append_closed;
 use common::Memory;
 use decode_back::decode;
+use hol_text::append_closed;
 use holide_sig::Module;
 use std::alloc::Global;
 

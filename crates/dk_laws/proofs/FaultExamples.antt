@@ -16,7 +16,9 @@ name_again = by_tokens (codes "bool : type.") refl (name_twice (of_symbol first)
 
 -- a declaration's name in its own type
 own_name : Shows (prelude ++ codes "thm e : proof e := e.") (refusal (length prelude + 14) (UnknownName (codes "e")))
-own_name = by_tokens (codes "thm e : proof e := e.") refl (unknown_name (further (of_term (of_whole (type_before_body tt (of_theorem first)))) (faults.BareApplication.application faults.BareAtom.identifier faults.BareArguments.none)) refl refl tt)
+own_name = by_tokens (codes "thm e : proof e := e.") refl
+    (unknown_name (further (of_term (of_whole (type_before_body tt (of_theorem first))))
+    (faults.BareApplication.application faults.BareAtom.identifier faults.BareArguments.none)) refl refl tt)
 
 -- a byte that begins no token
 no_such_token : Shows (prelude ++ codes "a : ?") (refusal (length prelude + 4) BadText)
@@ -48,7 +50,8 @@ arrow_tree-depth zero = refl
 arrow_tree-depth (suc n) = omega (arith, arrow_tree-depth n)
 
 -- a type that is deeper than the limit
-deep : (n : ℕ) (name : List ℕ) (p : ℕ) → IsNew [] name → max_depth ≤ n → TokensShow (at 0 (Name name) ∷ at 0 Colon ∷ arrows n (at p Dot ∷ [])) (refusal p DkTooDeep)
+deep : (n : ℕ) (name : List ℕ) (p : ℕ) → IsNew [] name → max_depth ≤ n
+    → TokensShow (at 0 (Name name) ∷ at 0 Colon ∷ arrows n (at p Dot ∷ [])) (refusal p DkTooDeep)
 deep n name p new h = too_deep (symbol_type (symbol_name none_yet new)) (arrows-Term n [] (at p Dot ∷ [])) (omega (arith, h, arrow_tree-depth n))
 
 -- a `:` that the limit cuts, also as `:=`, begins no declaration

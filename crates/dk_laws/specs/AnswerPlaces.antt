@@ -51,9 +51,12 @@ text_place : (bytes text : List ℕ) → bytes ≡ prelude ++ text → IsRefused
 text_place bytes text begun =
     let end = (tokens_after text).end in
     let in_order = tokens-ascending (length prelude) text in
-    let before : place_of end ≤ length bytes = omega (arith, end_within (length prelude + length text) end (tokens-end (length prelude) text), ap length begun, length-append prelude text) in
-    let by_end = outcome_place (tokens_after text).tokens (run [] Between (tokens_after text).tokens) end in_order (read_shown (place_of end) (tokens_after text).tokens in_order) in
-    subst (IsRefusedBy (length bytes)) (sym (answered bytes text begun)) (refused_by (length bytes) (place_of end) (answers (run [] Between (tokens_after text).tokens) end) by_end before)
+    let before : place_of end ≤ length bytes = omega
+    (arith, end_within (length prelude + length text) end (tokens-end (length prelude) text), ap length begun, length-append prelude text) in
+    let by_end = outcome_place (tokens_after text).tokens (run [] Between (tokens_after text).tokens) end in_order
+    (read_shown (place_of end) (tokens_after text).tokens in_order) in
+    subst (IsRefusedBy (length bytes)) (sym (answered bytes text begun))
+    (refused_by (length bytes) (place_of end) (answers (run [] Between (tokens_after text).tokens) end) by_end before)
 
 opens_place : (bytes : List ℕ) → Opens bytes → IsRefusedBy (length bytes) (answer bytes)
 opens_place bytes (opens text begun) = text_place bytes text begun

@@ -70,7 +70,8 @@ minus_goes_on : (n q : ℕ) (m : List Declaration) (state : State) → stop_of (
 minus_goes_on n q m state h = goes_on_by n (Inside n (AfterMinus q) m state) (codes ">") (outcome_goes_on n (n + 1) (advance m state q Arrow) (omega arith) h)
 
 equals_goes_on : (n q : ℕ) (m : List Declaration) (state : State) → stop_of (advance m state q FatArrow) ≡ None → GoesOn n (Inside n (AfterEquals q) m state)
-equals_goes_on n q m state h = goes_on_by n (Inside n (AfterEquals q) m state) (codes ">") (outcome_goes_on n (n + 1) (advance m state q FatArrow) (omega arith) h)
+equals_goes_on n q m state h = goes_on_by n (Inside n (AfterEquals q) m state) (codes ">")
+    (outcome_goes_on n (n + 1) (advance m state q FatArrow) (omega arith) h)
 
 -- by the rest of the signature's text
 opening_goes_on : (n p : ℕ) (wanted : List ℕ) → GoesOn n (Opening p wanted)
@@ -173,7 +174,8 @@ some-injective : (v w : List ℕ) → Some v ≡ Some w → v ≡ w
 some-injective v w e = cc
 
 unlike_names : (bytes : List ℕ) → Some (bytes ++ codes "x") ≡ Some (bytes ++ codes "y") → ⊥
-unlike_names bytes h = absurd (omega (arith, ap last_byte (append_cancel_left bytes (codes "x") (codes "y") (some-injective (bytes ++ codes "x") (bytes ++ codes "y") h))))
+unlike_names bytes h = absurd
+    (omega (arith, ap last_byte (append_cancel_left bytes (codes "x") (codes "y") (some-injective (bytes ++ codes "x") (bytes ++ codes "y") h))))
 
 -- the bytes behind place n end one token, and the text ends
 abbrev EndsToken : ℕ → Pending → List ℕ → ℕ → Token → Type 0
@@ -183,21 +185,26 @@ EndsToken n pending more q token = scan (goes [] pending) n more ≡ record { to
 data Passes (n : ℕ) (pending : Pending) (m : List Declaration) (state : State) : Type 0 where
   passes : GoesOn n (Inside n pending m state) → Passes n pending m state
   forks : {q : ℕ} {token : Token} {x y : Option (List ℕ)} (one two : List ℕ) → EndsToken n pending one q token → (x ≡ y → ⊥)
-      → EndsAt n q x (read_end (read_bytes (Inside n pending m state) one)) → EndsAt n q y (read_end (read_bytes (Inside n pending m state) two)) → Passes n pending m state
+      → EndsAt n q x (read_end (read_bytes (Inside n pending m state) one)) → EndsAt n q y (read_end (read_bytes (Inside n pending m state) two))
+      → Passes n pending m state
 
 -- a `:`, or a `:=`
 colon_passes : (n q : ℕ) (m : List Declaration) (state : State) → any_colon m state q ≡ None → Passes n (AfterColon q) m state
 colon_passes n q m (AfterName form name) h =
-    passes (goes_on_by n (Inside n (AfterColon q) m (AfterName form name)) (codes " ") (nothing_goes_on n (n + 1) m (AtTerm (TypeOf form name) []) (omega arith)))
+    passes (goes_on_by n (Inside n (AfterColon q) m (AfterName form name)) (codes " ")
+    (nothing_goes_on n (n + 1) m (AtTerm (TypeOf form name) []) (omega arith)))
 colon_passes n q m (AfterFirst head frames o name) h =
-    passes (goes_on_by n (Inside n (AfterColon q) m (AfterFirst head frames o name)) (codes " ") (nothing_goes_on n (n + 1) m (InApplication head (Domain name ∷ frames) None) (omega arith)))
-colon_passes n q m (InApplication head frames (Some t)) h = forks (codes "=") (codes " ") refl (λ e. absurd (cc)) (assign_end n q m head (whole frames t) h) (here {fault = BadText} refl)
+    passes (goes_on_by n (Inside n (AfterColon q) m (AfterFirst head frames o name)) (codes " ")
+    (nothing_goes_on n (n + 1) m (InApplication head (Domain name ∷ frames) None) (omega arith)))
+colon_passes n q m (InApplication head frames (Some t)) h =
+    forks (codes "=") (codes " ") refl (λ e. absurd (cc)) (assign_end n q m head (whole frames t) h) (here {fault = BadText} refl)
 colon_passes n q m _ h = absurd (cc)
 
 -- where a cut token shows nothing
 token_passes : (n : ℕ) (pending : Pending) (m : List Declaration) (state : State) → cut_token m state pending ≡ None → Passes n pending m state
 token_passes n Nothing m state h = passes (nothing_goes_on n n m state (omega arith))
-token_passes n (InWord q bytes) m state h = forks (codes "x") (codes "y") refl (unlike_names bytes) (word_end bytes 120 (omega arith) n q m state h) (word_end bytes 121 (omega arith) n q m state h)
+token_passes n (InWord q bytes) m state h = forks (codes "x") (codes "y") refl (unlike_names bytes) (word_end bytes 120 (omega arith) n q m state h)
+    (word_end bytes 121 (omega arith) n q m state h)
 token_passes n (AfterColon q) m state h = colon_passes n q m state h
 token_passes n (AfterMinus q) m state h = passes (minus_goes_on n q m state h)
 token_passes n (AfterEquals q) m state h = passes (equals_goes_on n q m state h)
@@ -232,7 +239,8 @@ tokens_up_to q fault end u a (bad_token front rest {p = p} token i b) = up_to_fr
 tokens_up_to q fault end u a (unknown_name x v i b) = (atom_stands_keeps (up_to_kept q) u x).0
 tokens_up_to q fault end u a (name_twice x i) = (name_keeps (up_to_kept q) u x).0
 tokens_up_to {all = all} q fault end u a (too_deep {p = p} w t d) =
-    let deep : answers (run [] Between all) end ≡ refused (refusal p DkTooDeep) = answers-Stops (run [] Between all) (refusal p DkTooDeep) end (deep-Stops w t d) in
+    let deep : answers (run [] Between all) end ≡ refused (refusal p DkTooDeep) =
+    answers-Stops (run [] Between all) (refusal p DkTooDeep) end (deep-Stops w t d) in
     omega (arith, ap (λ c. c.place) (refused-injective (refusal p DkTooDeep) (refusal q fault) (sym deep ∙ a)))
 
 ended-injective : (o p : ℕ) → ended o ≡ ended p → o ≡ p
@@ -258,14 +266,16 @@ module _ (bytes : List ℕ) (n : ℕ) (pending : Pending) (m : List Declaration)
       all_up_to : AreUpTo q (tokens_after text).tokens
       all_up_to =
           let e = place_of (tokens_after text).end in
-          subst (AreUpTo q) (sym tokens_are) (ascending_up_to e q token found.front (subst (AreAscending e) tokens_are (tokens-ascending (length prelude) text)))
+          subst (AreUpTo q) (sym tokens_are)
+          (ascending_up_to e q token found.front (subst (AreAscending e) tokens_are (tokens-ascending (length prelude) text)))
 
     -- and the text is refused for that token, another fault is at the token's place or before it, or at the end
     late_shown : (fault : Fault) (s : Refusal) → answer (bytes ++ more) ≡ refused (refusal q fault) → q < s.place → Shows (bytes ++ more) s → n < s.place
     late_shown fault _ a l (no_prelude front wanted rest i k d) =
         let two : refused (refusal q fault) ≡ refused (refusal (length front) NoPrelude) = sym a ∙ differs_answer (bytes ++ more) front wanted rest i k d in
         absurd (omega (arith, l, ap (λ c. c.place) (refused-injective (refusal q fault) (refusal (length front) NoPrelude) two)))
-    late_shown fault s a l (by_tokens text i t) = absurd (omega (arith, l, tokens_up_to q fault (tokens_after text).end (all_up_to text i) (sym (answered (bytes ++ more) text i) ∙ a) t))
+    late_shown fault s a l (by_tokens text i t) = absurd
+        (omega (arith, l, tokens_up_to q fault (tokens_after text).end (all_up_to text i) (sym (answered (bytes ++ more) text i) ∙ a) t))
     late_shown fault _ a l (no_token text {p = o} i k) = absurd (let two : stuck o ≡ ended (n + 1) = sym k ∙ end_is text i in cc)
     late_shown fault _ a l (no_end text {p = o} i k b) = omega (arith, ended-injective o (n + 1) (sym k ∙ end_is text i))
 
@@ -289,7 +299,8 @@ module _ (bytes : List ℕ) (n : ℕ) (s : Refusal) (always : ShowsSo bytes s) w
       → EndsAt n q x a → EndsAt n q y b → ((fault : Fault) → a ≡ refused (refusal q fault) → q < s.place → n < s.place) → n < s.place
   fork_past q x y one two a b unlike e f (past i) w g = no_later-IsPast n a s i (no_later_by one a e)
   fork_past q x y one two a b unlike e f w (past i) g = no_later-IsPast n b s i (no_later_by two b f)
-  fork_past q x y one two _ _ unlike e f (here {fault = c} i) (here {fault = d} j) g = by_order (no_later_by one (refused (refusal q c)) e) (no_later_by two (refused (refusal q d)) f)
+  fork_past q x y one two _ _ unlike e f (here {fault = c} i) (here {fault = d} j) g =
+      by_order (no_later_by one (refused (refusal q c)) e) (no_later_by two (refused (refusal q d)) f)
     where
       by_order : (q < s.place) ⊎ (refusal q c ≡ s) → (q < s.place) ⊎ (refusal q d ≡ s) → n < s.place
       by_order (inl k) l = g c refl k
@@ -301,7 +312,8 @@ module _ (bytes : List ℕ) (n : ℕ) (s : Refusal) (always : ShowsSo bytes s) w
   passes_past pending m state h (passes g) = goes_on_past (Inside n pending m state) h g
   passes_past pending m state h (forks {q = q} {token = token} {x = x} {y = y} one two last unlike v w) =
       let after = read_end (read_bytes (Inside n pending m state) one) in
-      fork_past q x y one two after (read_end (read_bytes (Inside n pending m state) two)) unlike (inside_answer bytes n pending m state h one) (inside_answer bytes n pending m state h two) v w
+      fork_past q x y one two after (read_end (read_bytes (Inside n pending m state) two)) unlike (inside_answer bytes n pending m state h one)
+      (inside_answer bytes n pending m state h two) v w
       (λ fault a l. late_shown bytes n pending m state h one q token last fault s (inside_answer bytes n pending m state h one ∙ a) l (always one))
 
 -- Where a cut token shows nothing, no fault is shown at a place up to the limit whatever bytes follow.

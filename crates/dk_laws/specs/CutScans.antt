@@ -37,11 +37,13 @@ read_byte_at : (n : ℕ) (done : Progress) (b : ℕ) → IsAt n done → IsAt (n
 read_byte_at n (Refused r) b h = tt
 read_byte_at n (Opening p []) b h = subst (λ k. IsAt (k + 1) (read_byte (Opening p []) b)) h (after_byte_at (p + 1) [] Between (take_byte Nothing p b))
 read_byte_at n (Opening p (c ∷ wanted)) b h = subst (λ k. IsAt (k + 1) (read_byte (Opening p (c ∷ wanted)) b)) h (opening_at p wanted (b == c))
-read_byte_at n (Inside p pending m state) b h = subst (λ k. IsAt (k + 1) (read_byte (Inside p pending m state) b)) h (after_byte_at (p + 1) m state (take_byte pending p b))
+read_byte_at n (Inside p pending m state) b h = subst (λ k. IsAt (k + 1) (read_byte (Inside p pending m state) b)) h
+    (after_byte_at (p + 1) m state (take_byte pending p b))
 
 read_bytes_at : (n : ℕ) (done : Progress) (bytes : List ℕ) → IsAt n done → IsAt (n + length bytes) (read_bytes done bytes)
 read_bytes_at n done [] h = subst (λ k. IsAt k done) (omega arith) h
-read_bytes_at n done (b ∷ bytes) h = subst (λ k. IsAt k (read_bytes (read_byte done b) bytes)) (omega arith) (read_bytes_at (n + 1) (read_byte done b) bytes (read_byte_at n done b h))
+read_bytes_at n done (b ∷ bytes) h = subst (λ k. IsAt k (read_bytes (read_byte done b) bytes)) (omega arith)
+    (read_bytes_at (n + 1) (read_byte done b) bytes (read_byte_at n done b h))
 
 -- A reading inside a text has come to its end.
 pub inside_place : (bytes : List ℕ) (n : ℕ) (pending : Pending) (m : List Declaration) (state : State) → read_bytes unread bytes ≡ Inside n pending m state
@@ -81,13 +83,15 @@ module _ (n : ℕ) (pending : Pending) (c : List Declaration) (d : State) where
         let same : waiting ≡ pending = cc in
         record {
           front = tokens;
-          is = scan-goes tokens waiting p more ∙ ap (λ k. before tokens (scan (goes [] waiting) k more)) place ∙ ap (λ w. before tokens (scan (goes [] w) n more)) same;
+          is = scan-goes tokens waiting p more ∙ ap (λ k. before tokens (scan (goes [] waiting) k more)) place
+              ∙ ap (λ w. before tokens (scan (goes [] w) n more)) same;
           runs = cc;
         }
 
     next_scanned : (b : ℕ) (bytes : List ℕ) (p : ℕ) (waiting : Pending) (tokens : List Placed) (rest : Scanned) (from o : Outcome) → advance_all from tokens ≡ o
         → IsInside (read_bytes (read_byte (progress p waiting o) b) bytes)
-        → ((a : List Declaration) (s : State) → IsInside (read_bytes (after_byte (p + 1) a s (take_byte waiting p b)) bytes) → IsScanned rest (Goes a s)) → IsScanned (before tokens rest) from
+        → ((a : List Declaration) (s : State) → IsInside (read_bytes (after_byte (p + 1) a s (take_byte waiting p b)) bytes) → IsScanned rest (Goes a s))
+        → IsScanned (before tokens rest) from
     next_scanned b bytes p waiting tokens rest from (Stops r) e h f = absurd (cc (h, read_bytes-Refused r bytes))
     next_scanned b bytes p waiting tokens rest from (Goes a s) e h f =
         let found = f a s h in
@@ -113,7 +117,8 @@ module _ (bytes : List ℕ) (n : ℕ) (pending : Pending) (m : List Declaration)
 
   text_read : read_bytes (Inside (length prelude) Nothing [] Between) begun.text ≡ Inside n pending m state
   text_read =
-      ap (λ k. read_bytes (Inside k Nothing [] Between) begun.text) (omega arith) ∙ sym (prelude_read 0 prelude begun.text) ∙ sym (ap (read_bytes unread) begun.is)
+      ap (λ k. read_bytes (Inside k Nothing [] Between) begun.text) (omega arith) ∙ sym (prelude_read 0 prelude begun.text)
+      ∙ sym (ap (read_bytes unread) begun.is)
       ∙ h
 
   -- the tokens of a text that begins so

@@ -133,8 +133,10 @@ module _ (m : List Declaration) (state : State) (r : Refusal) where
 
   -- a token that stops the reading does so whatever the byte behind it begins
   after_stops : (n q : ℕ) (token : Token) (taken : Taken) (more : List ℕ) → advance m state q token ≡ Stops r → IsTaken n (after (at q token) taken) more
-  after_stops n q token (goes tokens pending) more h = refused_end (after_byte n m state (goes (at q token ∷ tokens) pending)) r more (ap (λ o. progress n pending (advance_all o tokens)) h)
-  after_stops n q token (sticks tokens p) more h = refused_end (after_byte n m state (sticks (at q token ∷ tokens) p)) r more (ap (λ o. Refused (broken (advance_all o tokens) p)) h)
+  after_stops n q token (goes tokens pending) more h =
+      refused_end (after_byte n m state (goes (at q token ∷ tokens) pending)) r more (ap (λ o. progress n pending (advance_all o tokens)) h)
+  after_stops n q token (sticks tokens p) more h =
+      refused_end (after_byte n m state (sticks (at q token ∷ tokens) p)) r more (ap (λ o. Refused (broken (advance_all o tokens) p)) h)
 
   sign_stops : (n q : ℕ) (token : Token) (more : List ℕ) → advance m state q token ≡ Stops r → IsTaken n (goes (at q token ∷ []) Nothing) more
   sign_stops n q token more h = refused_end (after_byte n m state (goes (at q token ∷ []) Nothing)) r more (ap (λ o. progress n Nothing (advance_all o [])) h)
@@ -188,7 +190,8 @@ module _ (m : List Declaration) (state : State) (r : Refusal) where
 pub cut_token-answer : (bytes : List ℕ) (n : ℕ) (pending : Pending) (m : List Declaration) (state : State) (r : Refusal)
     → read_bytes unread bytes ≡ Inside n pending m state
     → cut_token m state pending ≡ Some r → (more : List ℕ) → answer (bytes ++ more) ≡ refused r
-cut_token-answer bytes n pending m state r e h more = ap read_end (read_bytes-append unread bytes more ∙ ap (λ done. read_bytes done more) e) ∙ cut_always m state r n pending more h
+cut_token-answer bytes n pending m state r e h more =
+    ap read_end (read_bytes-append unread bytes more ∙ ap (λ done. read_bytes done more) e) ∙ cut_always m state r n pending more h
 
 -- an outcome that stops
 goes_no : (o : Outcome) (r : Refusal) (c : List Declaration) (d : State) → o ≡ Stops r → advance_all o [] ≡ Goes c d → ⊥

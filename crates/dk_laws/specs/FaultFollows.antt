@@ -71,11 +71,14 @@ module _ {all : List Placed} where
         → AllFollow all rest tokens
     term_follows t (product y u) =
         more_follow (identifier_atom (of_application (of_term t)))
-        (more_follow (binder_colon t) (then_follow (application_follows (of_domain t) y) (more_follow (arrow_sign (of_domain t) y) (term_follows (after_product t y) u))))
+        (more_follow (binder_colon t)
+        (then_follow (application_follows (of_domain t) y) (more_follow (arrow_sign (of_domain t) y) (term_follows (after_product t y) u))))
     term_follows t (abstraction y u) =
         more_follow (identifier_atom (of_application (of_term t)))
-        (more_follow (binder_colon t) (then_follow (application_follows (of_domain t) y) (more_follow (fat_arrow_sign t y) (term_follows (after_abstraction t y) u))))
-    term_follows t (nameless y u) = then_follow (application_follows (of_term t) y) (more_follow (arrow_sign (of_term t) y) (term_follows (after_nameless t y) u))
+        (more_follow (binder_colon t)
+        (then_follow (application_follows (of_domain t) y) (more_follow (fat_arrow_sign t y) (term_follows (after_abstraction t y) u))))
+    term_follows t (nameless y u) = then_follow (application_follows (of_term t) y)
+        (more_follow (arrow_sign (of_term t) y) (term_follows (after_nameless t y) u))
     term_follows t (plain y) = application_follows (of_term t) y
 
   mutual

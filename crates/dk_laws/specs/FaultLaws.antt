@@ -47,7 +47,8 @@ module _ (e : ℕ) (all : List Placed) (ascending : AreAscending e all) where
       → Step all p token rest o → IsShown e all (advance_all o rest)
   step_shown p token front rest i b k f (goes {m = m} {state = state} c s) = f m state s k
   step_shown p token front rest i b k f (shown c t) = (t, b)
-  step_shown p token front rest i b k f cannot = (bad_token front rest token i (λ more h. can-follow e all ascending (text-follows all front rest more p token i h) k), b)
+  step_shown p token front rest i b k f cannot =
+      (bad_token front rest token i (λ more h. can-follow e all ascending (text-follows all front rest more p token i h) k), b)
   step_shown p token front rest i b k f (earlier t l) = (t, omega (arith, l, b))
 
   run_shown : (rest front : List Placed) (m : List Declaration) (state : State) → all ≡ front ++ rest → AreAscending e rest → HasRead all m state rest
@@ -68,7 +69,8 @@ module _ (e : ℕ) (all : List Placed) (ascending : AreAscending e all) where
   step_least p q end other rest l k f (goes {m = m} {state = state} c s) = f m state s k
   step_least p q end other rest l k f (shown {fault = fault} c t) = no_later read (refusal p BadText) (refusal q fault) end k (inl l)
   step_least p q end other rest l k f cannot = no_later read (refusal p BadText) (refusal q BadText) end k (inl l)
-  step_least p q end other rest l k f (earlier {q = r} {fault = fault} t i) = no_later read (refusal p BadText) (refusal r fault) end k (inl (omega (arith, i, l)))
+  step_least p q end other rest l k f (earlier {q = r} {fault = fault} t i) =
+      no_later read (refusal p BadText) (refusal r fault) end k (inl (omega (arith, i, l)))
 
   bad_least : {o : Outcome} (p : ℕ) (end : End) (token : Token) (rest : List Placed) → (CanFollow all (at p token ∷ rest) → ⊥) → read ≡ advance_all o rest
       → Step all p token rest o → IsNoLater (answers read end) (refusal p BadText)
@@ -89,7 +91,8 @@ module _ (e : ℕ) (all : List Placed) (ascending : AreAscending e all) where
   bad-no-later : (front rest : List Placed) (p : ℕ) (end : End) (token : Token) → all ≡ front ++ at p token ∷ rest
       → ((more : List Placed) → IsText (front ++ at p token ∷ more) → ⊥) → IsNoLater (answers read end) (refusal p BadText)
   bad-no-later front rest p end token i b =
-      run_least front rest p end token [] Between (λ c. let t = follows-text all front rest p token i c in b t.0 t.1) (subst (AreAscending e) i ascending) (subst (λ tokens. DeclarationBegins all [] tokens × Declared all [] tokens) i (first, none_yet)) (ap (λ tokens. run [] Between tokens) i)
+      run_least front rest p end token [] Between (λ c. let t = follows-text all front rest p token i c in b t.0 t.1) (subst (AreAscending e) i ascending)
+      (subst (λ tokens. DeclarationBegins all [] tokens × Declared all [] tokens) i (first, none_yet)) (ap (λ tokens. run [] Between tokens) i)
 
   -- where a reading ends that is between no two declarations
   unended : (m : List Declaration) (state : State) → read ≡ Goes m state → (state ≡ Between → ⊥) → IsText all → ⊥
@@ -129,7 +132,8 @@ module _ (bytes text : List ℕ) (begun : bytes ≡ prelude ++ text) where
   outcome_shown (Stops r) (ended p) k i s = by_tokens text begun s.0
   outcome_shown (Stops r) (stuck p) k i s = by_tokens text begun s.0
   outcome_shown (Goes m Between) (ended p) k i s = tt
-  outcome_shown (Goes m (AfterFirst h frames q name)) (ended p) k i s = first_shown m h frames q name p (meaning m frames name) refl s (not_ended m (AfterFirst h frames q name) p k (λ c. absurd (cc)) i)
+  outcome_shown (Goes m (AfterFirst h frames q name)) (ended p) k i s =
+      first_shown m h frames q name p (meaning m frames name) refl s (not_ended m (AfterFirst h frames q name) p k (λ c. absurd (cc)) i)
   outcome_shown (Goes m (AfterKeyword form)) (ended p) k i s = not_ended m (AfterKeyword form) p k (λ c. absurd (cc)) i
   outcome_shown (Goes m (AfterName form name)) (ended p) k i s = not_ended m (AfterName form name) p k (λ c. absurd (cc)) i
   outcome_shown (Goes m (AtTerm h frames)) (ended p) k i s = not_ended m (AtTerm h frames) p k (λ c. absurd (cc)) i
@@ -146,7 +150,8 @@ module _ (bytes text : List ℕ) (begun : bytes ≡ prelude ++ text) where
   answered = ap answer begun ∙ answer_is text
 
   text_shown : IsAnswerShown bytes (answer bytes)
-  text_shown = subst (IsAnswerShown bytes) (sym answered) (outcome_shown (run [] Between all_tokens) (tokens_after text).end refl refl (read_shown last_place all_tokens in_order))
+  text_shown = subst (IsAnswerShown bytes) (sym answered)
+      (outcome_shown (run [] Between all_tokens) (tokens_after text).end refl refl (read_shown last_place all_tokens in_order))
 
   -- a fault at the end is answered, or one before it
   first_least : (m : List Declaration) (h : Head) (frames : List Frame) (q : ℕ) (name : List ℕ) (p : ℕ) (o : Option Tree) → last_place ≡ p
@@ -241,7 +246,8 @@ differs_answer bytes front wanted rest h k d =
 
 answer_shown : (bytes : List ℕ) → Opens bytes → IsAnswerShown bytes (answer bytes)
 answer_shown bytes (opens text h) = text_shown bytes text h
-answer_shown bytes (differs front wanted rest h k d) = subst (IsAnswerShown bytes) (sym (differs_answer bytes front wanted rest h k d)) (no_prelude front wanted rest h k d)
+answer_shown bytes (differs front wanted rest h k d) =
+    subst (IsAnswerShown bytes) (sym (differs_answer bytes front wanted rest h k d)) (no_prelude front wanted rest h k d)
 
 -- What a text is refused for it shows.
 pub refusals_shown : (bytes : List ℕ) (r : Refusal) → answer bytes ≡ refused r → Shows bytes r

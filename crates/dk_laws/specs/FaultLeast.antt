@@ -40,10 +40,12 @@ deep_at p m state false = λ h. refl
 
 declares_at : (m : List Declaration) (head : Head) (t : Option Tree) (p : ℕ) → StopsAt p (declares m head t p)
 declares_at m head None p = λ h. refl
-declares_at m (TypeOf Symbol name) (Some t) p = deep_at p (m ++ record { name = name; form = Symbol; ty = t; body = None } ∷ []) Between (nat_le (depth t) max_depth)
+declares_at m (TypeOf Symbol name) (Some t) p = deep_at p (m ++ record { name = name; form = Symbol; ty = t; body = None } ∷ []) Between
+    (nat_le (depth t) max_depth)
 declares_at m (TypeOf Def name) (Some t) p = λ h. refl
 declares_at m (TypeOf Thm name) (Some t) p = λ h. refl
-declares_at m (BodyOf form name ty) (Some t) p = deep_at p (m ++ record { name = name; form = form; ty = ty; body = Some t } ∷ []) Between (nat_le (depth t) max_depth)
+declares_at m (BodyOf form name ty) (Some t) p = deep_at p (m ++ record { name = name; form = form; ty = ty; body = Some t } ∷ []) Between
+    (nat_le (depth t) max_depth)
 
 assigns_at : (m : List Declaration) (head : Head) (t : Option Tree) (p : ℕ) → StopsAt p (assigns m head t p)
 assigns_at m head None p = λ h. refl
@@ -151,10 +153,12 @@ arrow_fine m head _ t = tt
 
 closed_fine : {name : List ℕ} {end : Token} (m : List Declaration) (head : Head) (t : Tree) (p : ℕ) → IsClosedBy head name end
     → IsFine (advance m (InApplication head [] (Some t)) p end)
-closed_fine m (TypeOf Symbol name) t p symbol_type = deep_fine p (m ++ record { name = name; form = Symbol; ty = t; body = None } ∷ []) Between (nat_le (depth t) max_depth)
+closed_fine m (TypeOf Symbol name) t p symbol_type =
+    deep_fine p (m ++ record { name = name; form = Symbol; ty = t; body = None } ∷ []) Between (nat_le (depth t) max_depth)
 closed_fine m (TypeOf Def name) t p definition_type = deep_fine p m (AtTerm (BodyOf Def name t) []) (nat_le (depth t) max_depth)
 closed_fine m (TypeOf Thm name) t p theorem_type = deep_fine p m (AtTerm (BodyOf Thm name t) []) (nat_le (depth t) max_depth)
-closed_fine m (BodyOf form name ty) t p any_body = deep_fine p (m ++ record { name = name; form = form; ty = ty; body = Some t } ∷ []) Between (nat_le (depth t) max_depth)
+closed_fine m (BodyOf form name ty) t p any_body =
+    deep_fine p (m ++ record { name = name; form = form; ty = ty; body = Some t } ∷ []) Between (nat_le (depth t) max_depth)
 
 identifier_fine : {names : List (List ℕ)} {scope : Scope} (binder : Bool) (p : ℕ) (name : List ℕ) (x : OfPlace names scope)
     → IsFine (advance_one (place_state binder x) p (Name name))
@@ -193,33 +197,44 @@ module _ (e : ℕ) (all : List Placed) (ascending : AreAscending e all) where
   conclude : {X : Type 0} {so : X → Outcome} {p : ℕ} {token : Token} {rest : List Placed} → Comes X so (at p token ∷ rest) → AreAfter e p rest
       → ((x : X) → IsFine (advance_one (so x) p token)) → read ≡ Stops (refusal p BadText) → ⊥
   conclude {p = p} (past r h a) b f k = let same : r ≡ refusal p BadText = cc in absurd (omega (arith, a.0, ap (λ s. s.place) same))
-  conclude {so = so} {p = p} {token = token} {rest = rest} (reached x h) b f k = fine_later e p (advance_one (so x) p token) rest (f x) b (sym (advance_all-cons (so x) p token rest) ∙ sym h ∙ k)
+  conclude {so = so} {p = p} {token = token} {rest = rest} (reached x h) b f k =
+      fine_later e p (advance_one (so x) p token) rest (f x) b (sym (advance_all-cons (so x) p token rest) ∙ sym h ∙ k)
 
   -- after a declaration's name
-  named_split : {q : ℕ} {rest : List Placed} (form : Form) (name : List ℕ) (p : ℕ) (m : List Declaration) (b : Bool) → AreAfter e p (at q Colon ∷ rest) → read ≡ advance_all (if b then stops p (NameTwice name) else Goes m (AfterName form name)) (at q Colon ∷ rest) → Comes (List Declaration) (λ n. Goes n (AfterName form name)) (at q Colon ∷ rest)
+  named_split : {q : ℕ} {rest : List Placed} (form : Form) (name : List ℕ) (p : ℕ) (m : List Declaration) (b : Bool) → AreAfter e p (at q Colon ∷ rest) → read
+      ≡ advance_all (if b then stops p (NameTwice name) else Goes m (AfterName form name)) (at q Colon ∷ rest)
+      → Comes (List Declaration) (λ n. Goes n (AfterName form name)) (at q Colon ∷ rest)
   named_split form name p m true a k = past (refusal p (NameTwice name)) k a
   named_split form name p m false a k = reached m k
 
-  named : {q : ℕ} {rest : List Placed} (form : Form) (name : List ℕ) (p : ℕ) (m : List Declaration) → AreAfter e p (at q Colon ∷ rest) → read ≡ run m (name_state form) (at p (Name name) ∷ at q Colon ∷ rest) → Comes (List Declaration) (λ n. Goes n (AfterName form name)) (at q Colon ∷ rest)
+  named : {q : ℕ} {rest : List Placed} (form : Form) (name : List ℕ) (p : ℕ) (m : List Declaration) → AreAfter e p (at q Colon ∷ rest) → read
+      ≡ run m (name_state form) (at p (Name name) ∷ at q Colon ∷ rest) → Comes (List Declaration) (λ n. Goes n (AfterName form name)) (at q Colon ∷ rest)
   named Symbol name p m a k = named_split Symbol name p m (is_declared (signature ++ m) name) a k
   named Def name p m a k = named_split Def name p m (is_declared (signature ++ m) name) a k
   named Thm name p m a k = named_split Thm name p m (is_declared (signature ++ m) name) a k
 
-  closing : {name : List ℕ} {end : Token} {p : ℕ} {rest : List Placed} (m : List Declaration) (head : Head) (t : Tree) → IsClosedBy head name end → read ≡ run m (InApplication head [] (Some t)) (at p end ∷ rest) → Comes (OfClosed name end) (λ x. Goes x.m (InApplication x.head [] (Some x.t))) (at p end ∷ rest)
+  closing : {name : List ℕ} {end : Token} {p : ℕ} {rest : List Placed} (m : List Declaration) (head : Head) (t : Tree) → IsClosedBy head name end → read
+      ≡ run m (InApplication head [] (Some t)) (at p end ∷ rest)
+      → Comes (OfClosed name end) (λ x. Goes x.m (InApplication x.head [] (Some x.t))) (at p end ∷ rest)
   closing m head t c k = reached (record { m = m; head = head; t = t; closed = c }) k
 
-  after_first : {names : List (List ℕ)} {scope : Scope} {rest : List Placed} (p : ℕ) (name : List ℕ) (x : OfTerm names scope) → read ≡ run x.m (AtTerm x.head x.frames) (at p (Name name) ∷ rest) → Comes (OfTerm names scope) (λ y. Goes y.m (AfterFirst y.head y.frames p name)) rest
+  after_first : {names : List (List ℕ)} {scope : Scope} {rest : List Placed} (p : ℕ) (name : List ℕ) (x : OfTerm names scope) → read
+      ≡ run x.m (AtTerm x.head x.frames) (at p (Name name) ∷ rest) → Comes (OfTerm names scope) (λ y. Goes y.m (AfterFirst y.head y.frames p name)) rest
   after_first p name x k = reached x k
 
-  after_domain : {rest : List Placed} (name : List ℕ) (m : List Declaration) (head : Head) (frames : List Frame) (t : Tree) → read ≡ run m (InApplication head (Domain name ∷ frames) (Some t)) rest → Comes (InDomain name) (λ w. Goes w.m (InApplication w.head (Domain name ∷ w.frames) (Some w.t))) rest
+  after_domain : {rest : List Placed} (name : List ℕ) (m : List Declaration) (head : Head) (frames : List Frame) (t : Tree) → read
+      ≡ run m (InApplication head (Domain name ∷ frames) (Some t)) rest
+      → Comes (InDomain name) (λ w. Goes w.m (InApplication w.head (Domain name ∷ w.frames) (Some w.t))) rest
   after_domain name m head frames t k = reached (record { m = m; head = head; frames = frames; t = t }) k
 
   -- after what a parenthesis encloses
   in_parentheses : {names : List (List ℕ)} {scope : Scope} {tokens rest : List Placed} {q : ℕ} (p : ℕ) (binder : Bool) (y : OfPlace names scope)
       → BareTerm tokens (at q RightParen ∷ rest) → AreAscending e tokens → read ≡ advance_all (place_state binder y) (at p LeftParen ∷ tokens)
       → read ≡ Stops (refusal q BadText) → ⊥
-  in_parentheses p true y t a k = conclude (term_reaches read e y.m t y.head (Enclosing None ∷ y.frames) tt tt a k) (term_keeps (ascending_kept e) t a).0 (λ z. tt)
-  in_parentheses p false y t a k = conclude (term_reaches read e y.m t y.head (Enclosing y.f ∷ y.frames) tt tt a k) (term_keeps (ascending_kept e) t a).0 (λ z. tt)
+  in_parentheses p true y t a k = conclude (term_reaches read e y.m t y.head (Enclosing None ∷ y.frames) tt tt a k) (term_keeps (ascending_kept e) t a).0
+      (λ z. tt)
+  in_parentheses p false y t a k = conclude (term_reaches read e y.m t y.head (Enclosing y.f ∷ y.frames) tt tt a k) (term_keeps (ascending_kept e) t a).0
+      (λ z. tt)
 
   -- the first of the tokens can't follow
   abbrev IsBadAt : List Placed → Type 0
@@ -229,32 +244,42 @@ module _ (e : ℕ) (all : List Placed) (ascending : AreAscending e all) where
   follows_parenthesis : {names : List (List ℕ)} {scope : Scope} {tokens rest : List Placed} {q : ℕ} (p : ℕ) (binder : Bool)
       → Comes (OfPlace names scope) (place_state binder) (at p LeftParen ∷ tokens) → BareTerm tokens (at q RightParen ∷ rest)
       → AreAscending e (at p LeftParen ∷ tokens) → read ≡ Stops (refusal q BadText) → ⊥
-  follows_parenthesis {q = q} p binder (past r h a) t b k = let same : r ≡ refusal q BadText = cc in absurd (omega (arith, (term_keeps (after_kept e r.place) t a.1).0, ap (λ s. s.place) same))
+  follows_parenthesis {q = q} p binder (past r h a) t b k = let same : r ≡ refusal q BadText =
+      cc in absurd (omega (arith, (term_keeps (after_kept e r.place) t a.1).0, ap (λ s. s.place) same))
   follows_parenthesis p binder (reached y h) t b k = in_parentheses p binder y t b.1 h k
 
   -- no token that can follow is refused for that
   pub can-follow : {tokens : List Placed} → CanFollow all tokens → IsBadAt tokens → ⊥
   can-follow (definition_word d) k = conclude (declaration_comes e all ascending d) (declaration_keeps (ascending_kept e) ascending d).0 (λ x. tt) k
   can-follow (theorem_word d) k = conclude (declaration_comes e all ascending d) (declaration_keeps (ascending_kept e) ascending d).0 (λ x. tt) k
-  can-follow (declared_name {form = form} {name = name} {p = p} n) k = conclude (name_comes e all ascending n) (name_keeps (ascending_kept e) ascending n).0 (λ x. name_fine x.m form p name) k
+  can-follow (declared_name {form = form} {name = name} {p = p} n) k =
+      conclude (name_comes e all ascending n) (name_keeps (ascending_kept e) ascending n).0 (λ x. name_fine x.m form p name) k
   can-follow (declared_colon {form = form} {name = name} {p = p} n) k =
-      conclude (then_reaches (name_comes e all ascending n) (λ c l. l.1) (λ x l. named form name p x.m (name_keeps (ascending_kept e) ascending n).0 l)) (name_keeps (ascending_kept e) ascending n).1.0 (λ x. tt) k
+      conclude (then_reaches (name_comes e all ascending n) (λ c l. l.1) (λ x l. named form name p x.m (name_keeps (ascending_kept e) ascending n).0 l))
+      (name_keeps (ascending_kept e) ascending n).1.0 (λ x. tt) k
   can-follow (whole_end {name = name} {end = end} {rest = rest} {p = p} w t) k =
       conclude (then_reaches (whole_comes e all ascending w) (λ n. term_keeps (after_kept e n) t)
       (λ x l. then_reaches (term_reaches read e x.m t x.head [] tt (closed_end p rest x.closed) (whole_keeps (ascending_kept e) ascending w) l) (λ n i. i)
       (λ y i. closing x.m x.head y x.closed i)))
       (term_keeps (ascending_kept e) t (whole_keeps (ascending_kept e) ascending w)).0 (λ x. closed_fine x.m x.head x.t p x.closed) k
-  can-follow (identifier_atom {binder = binder} {name = name} {p = p} a) k = conclude (atom_comes e all ascending a tt) (atom_stands_keeps (ascending_kept e) ascending a).0 (λ x. identifier_fine binder p name x) k
-  can-follow (sort_atom {binder = binder} {p = p} a) k = conclude (atom_comes e all ascending a tt) (atom_stands_keeps (ascending_kept e) ascending a).0 (λ x. sort_fine binder p x) k
-  can-follow (left_parenthesis {binder = binder} {p = p} a) k = conclude (atom_comes e all ascending a tt) (atom_stands_keeps (ascending_kept e) ascending a).0 (λ x. left_fine binder p x) k
-  can-follow (right_parenthesis {binder = binder} {p = p} a t) k = follows_parenthesis p binder (atom_comes e all ascending a tt) t (atom_stands_keeps (ascending_kept e) ascending a) k
+  can-follow (identifier_atom {binder = binder} {name = name} {p = p} a) k =
+      conclude (atom_comes e all ascending a tt) (atom_stands_keeps (ascending_kept e) ascending a).0 (λ x. identifier_fine binder p name x) k
+  can-follow (sort_atom {binder = binder} {p = p} a) k =
+      conclude (atom_comes e all ascending a tt) (atom_stands_keeps (ascending_kept e) ascending a).0 (λ x. sort_fine binder p x) k
+  can-follow (left_parenthesis {binder = binder} {p = p} a) k =
+      conclude (atom_comes e all ascending a tt) (atom_stands_keeps (ascending_kept e) ascending a).0 (λ x. left_fine binder p x) k
+  can-follow (right_parenthesis {binder = binder} {p = p} a t) k =
+      follows_parenthesis p binder (atom_comes e all ascending a tt) t (atom_stands_keeps (ascending_kept e) ascending a) k
   can-follow (binder_colon {scope = scope} {name = name} {p = p} t) k =
-      conclude {token = Colon} (then_reaches (term_comes e all ascending t) (λ n l. l.1) (λ x l. after_first p name x l)) (term_begins_keeps (ascending_kept e) ascending t).1.0 (λ x. tt) k
+      conclude {token = Colon} (then_reaches (term_comes e all ascending t) (λ n l. l.1) (λ x l. after_first p name x l))
+      (term_begins_keeps (ascending_kept e) ascending t).1.0 (λ x. tt) k
   can-follow (arrow_sign a y) k =
-      conclude (applied_comes e all ascending a y tt) (application_keeps (ascending_kept e) y (application_begins_keeps (ascending_kept e) ascending a)).0 (λ x. arrow_fine x.m x.head x.frames x.t) k
+      conclude (applied_comes e all ascending a y tt) (application_keeps (ascending_kept e) y (application_begins_keeps (ascending_kept e) ascending a)).0
+      (λ x. arrow_fine x.m x.head x.frames x.t) k
   can-follow (fat_arrow_sign {name = name} t y) k =
       conclude {token = FatArrow} (then_reaches (term_comes e all ascending t) (λ n l. application_keeps (after_kept e n) y l.1.1)
-      (λ x l. then_reaches (application_reaches read e x.m y x.head (Domain name ∷ x.frames) (term_begins_keeps (ascending_kept e) ascending t).1.1 l) (λ n i. i)
+      (λ x l. then_reaches (application_reaches read e x.m y x.head (Domain name ∷ x.frames) (term_begins_keeps (ascending_kept e) ascending t).1.1 l)
+      (λ n i. i)
       (λ z i. after_domain name x.m x.head x.frames z i)))
       (application_keeps (ascending_kept e) y (term_begins_keeps (ascending_kept e) ascending t).1.1).0 (λ x. tt) k
 
@@ -296,10 +321,12 @@ deep_stops t p o rest k = ap (λ (b : Bool). advance_all (if b then o else stops
 
 closed_deep : {name : List ℕ} {end : Token} (m : List Declaration) (head : Head) (t : Tree) (p : ℕ) (rest : List Placed) → IsClosedBy head name end
     → max_depth < depth t → run m (InApplication head [] (Some t)) (at p end ∷ rest) ≡ Stops (refusal p DkTooDeep)
-closed_deep m (TypeOf Symbol name) t p rest symbol_type k = deep_stops t p (Goes (m ++ record { name = name; form = Symbol; ty = t; body = None } ∷ []) Between) rest k
+closed_deep m (TypeOf Symbol name) t p rest symbol_type k =
+    deep_stops t p (Goes (m ++ record { name = name; form = Symbol; ty = t; body = None } ∷ []) Between) rest k
 closed_deep m (TypeOf Def name) t p rest definition_type k = deep_stops t p (Goes m (AtTerm (BodyOf Def name t) [])) rest k
 closed_deep m (TypeOf Thm name) t p rest theorem_type k = deep_stops t p (Goes m (AtTerm (BodyOf Thm name t) [])) rest k
-closed_deep m (BodyOf form name ty) t p rest any_body k = deep_stops t p (Goes (m ++ record { name = name; form = form; ty = ty; body = Some t } ∷ []) Between) rest k
+closed_deep m (BodyOf form name ty) t p rest any_body k =
+    deep_stops t p (Goes (m ++ record { name = name; form = form; ty = ty; body = Some t } ∷ []) Between) rest k
 
 -- what is read before a type or a body leads to its beginning
 declared_read : {all tokens : List Placed} {m : List Declaration} → Declared all m tokens → run [] Between all ≡ run m Between tokens
@@ -308,9 +335,12 @@ declared_read (one_more {m = m} h d) = declared_read h ∙ declares_runs m d
 
 name_read : {all tokens : List Placed} {m : List Declaration} {form : Form} {name : List ℕ} → NameReads all m form name tokens
     → run [] Between all ≡ run m (AtTerm (TypeOf form name) []) tokens
-name_read {m = m} (symbol_name {name = name} {tokens = tokens} {p = p} {q = q} h new) = declared_read h ∙ names_run m Between (Goes m (AfterName Symbol name)) name p (at q Colon ∷ tokens) (is_declared (signature ++ m) name) new
-name_read {m = m} (definition_name {name = name} {tokens = tokens} {p = p} {q = q} h new) = declared_read h ∙ names_run m Between (Goes m (AfterName Def name)) name p (at q Colon ∷ tokens) (is_declared (signature ++ m) name) new
-name_read {m = m} (theorem_name {name = name} {tokens = tokens} {p = p} {q = q} h new) = declared_read h ∙ names_run m Between (Goes m (AfterName Thm name)) name p (at q Colon ∷ tokens) (is_declared (signature ++ m) name) new
+name_read {m = m} (symbol_name {name = name} {tokens = tokens} {p = p} {q = q} h new) =
+    declared_read h ∙ names_run m Between (Goes m (AfterName Symbol name)) name p (at q Colon ∷ tokens) (is_declared (signature ++ m) name) new
+name_read {m = m} (definition_name {name = name} {tokens = tokens} {p = p} {q = q} h new) =
+    declared_read h ∙ names_run m Between (Goes m (AfterName Def name)) name p (at q Colon ∷ tokens) (is_declared (signature ++ m) name) new
+name_read {m = m} (theorem_name {name = name} {tokens = tokens} {p = p} {q = q} h new) =
+    declared_read h ∙ names_run m Between (Goes m (AfterName Thm name)) name p (at q Colon ∷ tokens) (is_declared (signature ++ m) name) new
 
 record IsWholeRead (all : List Placed) (m : List Declaration) (end : Token) (tokens : List Placed) : Type 0 where
   head : Head
@@ -362,7 +392,8 @@ module _ (end : End) (all : List Placed) (ascending : AreAscending (place_of end
       no_later (run [] Between all) (refusal p (UnknownName name)) (refusal p (UnknownName name)) end
       (h ∙ ap (λ o. advance_all (atom y.m y.head y.frames y.f p name o) rest) (meaning-None y.m y.frames name y.named y.scoped v i)) (inr refl)
   unknown_least name p true [] y v i b h =
-      subst (λ a. IsNoLater a (refusal p (UnknownName name))) (sym (answers-AfterFirst y.m y.head y.frames p name end (run [] Between all) h (meaning-None y.m y.frames name y.named y.scoped v i))) (inr refl)
+      subst (λ a. IsNoLater a (refusal p (UnknownName name)))
+      (sym (answers-AfterFirst y.m y.head y.frames p name end (run [] Between all) h (meaning-None y.m y.frames name y.named y.scoped v i))) (inr refl)
   unknown_least name p true (at q Colon ∷ rest) y v i b h = absurd b
   unknown_least name p true (at q token ∷ rest) y v i b h =
       no_later (run [] Between all) (refusal p (UnknownName name)) (refusal p (UnknownName name)) end
@@ -384,9 +415,11 @@ module _ (end : End) (all : List Placed) (ascending : AreAscending (place_of end
   twice-no-later {names = names} {form = form} {name = name} {rest = rest} {p = p} n i =
       least (name_comes (place_of end) all ascending n)
     where
-      least : Reaches (run [] Between all) (place_of end) (OfNames names) (λ x. Goes x.m (name_state form)) (at p (Name name) ∷ rest) → IsNoLater answered (refusal p (NameTwice name))
+      least : Reaches (run [] Between all) (place_of end) (OfNames names) (λ x. Goes x.m (name_state form)) (at p (Name name) ∷ rest)
+          → IsNoLater answered (refusal p (NameTwice name))
       least (past r h c) = no_later (run [] Between all) (refusal p (NameTwice name)) r end h (inl c.0)
-      least (reached y h) = no_later (run [] Between all) (refusal p (NameTwice name)) (refusal p (NameTwice name)) end (h ∙ twice_stops y.m form name p rest (is_declared-is_symbol y.m names name y.named ∙ i)) (inr refl)
+      least (reached y h) = no_later (run [] Between all) (refusal p (NameTwice name)) (refusal p (NameTwice name)) end
+          (h ∙ twice_stops y.m form name p rest (is_declared-is_symbol y.m names name y.named ∙ i)) (inr refl)
 
   pub deep-no-later : {m : List Declaration} {last : Token} {tokens rest : List Placed} {p : ℕ} {t : Tree} → WholeReads all m last tokens
       → Term m [] tokens (at p last ∷ rest) t → max_depth < depth t → IsNoLater answered (refusal p DkTooDeep)

@@ -56,7 +56,8 @@ refusals_shown-within (Some n) bytes r h = limit_shown n bytes r (nat_le (length
 scan_refused : (taken : Taken) (p : ℕ) (bytes : List ℕ) (m : List Declaration) (state : State) (r : Refusal) (q : ℕ) (n : List Declaration) (s : State)
     → read_bytes (after_byte p m state taken) bytes ≡ Refused r → (scan taken p bytes).end ≡ ended q → run m state (scan taken p bytes).tokens ≡ Goes n s → ⊥
 scan_refused (sticks tokens o) p bytes m state r q n s h k l = absurd (cc)
-scan_refused (goes tokens pending) p [] m state r q n s h k l = refused_first (run m state tokens) h (sym (advance_all-append (Goes m state) tokens (last_tokens pending)) ∙ l)
+scan_refused (goes tokens pending) p [] m state r q n s h k l =
+    refused_first (run m state tokens) h (sym (advance_all-append (Goes m state) tokens (last_tokens pending)) ∙ l)
   where
     refused_first : (o : Outcome) → progress p pending o ≡ Refused r → advance_all o (last_tokens pending) ≡ Goes n s → ⊥
     refused_first (Goes c d) i j = absurd (cc)
@@ -67,13 +68,15 @@ scan_refused (goes tokens pending) p (b ∷ bytes) m state r q n s h k l =
   where
     refused_later : (o : Outcome) → read_bytes (read_byte (progress p pending o) b) bytes ≡ Refused r
         → advance_all o (scan (take_byte pending p b) (p + 1) bytes).tokens ≡ Goes n s
-        → ((c : List Declaration) (d : State) → read_bytes (after_byte (p + 1) c d (take_byte pending p b)) bytes ≡ Refused r → run c d (scan (take_byte pending p b) (p + 1) bytes).tokens ≡ Goes n s → ⊥) → ⊥
+        → ((c : List Declaration) (d : State) → read_bytes (after_byte (p + 1) c d (take_byte pending p b)) bytes ≡ Refused r
+        → run c d (scan (take_byte pending p b) (p + 1) bytes).tokens ≡ Goes n s → ⊥) → ⊥
     refused_later (Goes c d) i j f = f c d i j
     refused_later (Stops c) i j f = absurd (cc)
 
 -- a text doesn't come to its end
 abbrev NeverEnds : List ℕ → Type 0
-NeverEnds text = (q : ℕ) (m : List Declaration) (state : State) → (tokens_after text).end ≡ ended q → run [] Between (tokens_after text).tokens ≡ Goes m state → ⊥
+NeverEnds text = (q : ℕ) (m : List Declaration) (state : State) → (tokens_after text).end ≡ ended q → run [] Between (tokens_after text).tokens ≡ Goes m state
+    → ⊥
 
 -- such a text is refused at the place of one of its bytes
 module _ (bytes text : List ℕ) (begun : bytes ≡ prelude ++ text) (r : Refusal) (is_refused : answer bytes ≡ refused r) (no_end : NeverEnds text) where
@@ -86,7 +89,8 @@ module _ (bytes text : List ℕ) (begun : bytes ≡ prelude ++ text) (r : Refusa
   stopped_place s k l end i b = placed end (subst (λ e. s.place < place_of e) i l) b
     where
       same : r ≡ s
-      same = refused-injective r s (sym is_refused ∙ answered bytes text begun ∙ answers-Stops (run [] Between (tokens_after text).tokens) s (tokens_after text).end k)
+      same = refused-injective r s (sym is_refused ∙ answered bytes text begun
+          ∙ answers-Stops (run [] Between (tokens_after text).tokens) s (tokens_after text).end k)
 
       placed : (end : End) → s.place < place_of end → IsEndBefore (length prelude + length text) end → r.place < length bytes
       placed (ended q) c d = omega (arith, c, d, bytes_length, ap (λ w. w.place) same)
@@ -113,18 +117,21 @@ module _ (bytes text : List ℕ) (begun : bytes ≡ prelude ++ text) (r : Refusa
 
 text_refused : (bytes text : List ℕ) (r : Refusal) → bytes ≡ prelude ++ text → read_bytes unread bytes ≡ Refused r
     → read_bytes (Inside (length prelude) Nothing [] Between) text ≡ Refused r
-text_refused bytes text r begun h = ap (λ n. read_bytes (Inside n Nothing [] Between) text) (omega arith) ∙ sym (prelude_read 0 prelude text) ∙ sym (ap (read_bytes unread) begun) ∙ h
+text_refused bytes text r begun h = ap (λ n. read_bytes (Inside n Nothing [] Between) text) (omega arith) ∙ sym (prelude_read 0 prelude text) ∙ sym
+    (ap (read_bytes unread) begun) ∙ h
 
 refused_place : (bytes text : List ℕ) (r : Refusal) → bytes ≡ prelude ++ text → read_bytes unread bytes ≡ Refused r → r.place < length bytes
 refused_place bytes text r begun h =
-    text_place bytes text begun r (ap read_end h) (λ q m state i k. scan_refused (goes [] Nothing) (length prelude) text [] Between r q m state (text_refused bytes text r begun h) i k)
+    text_place bytes text begun r (ap read_end h)
+    (λ q m state i k. scan_refused (goes [] Nothing) (length prelude) text [] Between r q m state (text_refused bytes text r begun h) i k)
 
 differs_place : (bytes front wanted rest : List ℕ) (r : Refusal) → prelude ≡ front ++ wanted → bytes ≡ front ++ rest → Differs wanted rest
     → read_bytes unread bytes ≡ Refused r
     → r.place < length bytes
 differs_place bytes front [] rest r i k d h = absurd d
 differs_place bytes front (c ∷ wanted) [] r i k d h =
-    absurd (let opening : read_bytes unread bytes ≡ Opening (0 + length front) (c ∷ wanted) = ap (read_bytes unread) k ∙ ap (λ w. read_bytes (opened 0 w) (front ++ [])) i ∙ front_read 0 front (c ∷ wanted) [] in cc)
+    absurd (let opening : read_bytes unread bytes ≡ Opening (0 + length front) (c ∷ wanted) =
+    ap (read_bytes unread) k ∙ ap (λ w. read_bytes (opened 0 w) (front ++ [])) i ∙ front_read 0 front (c ∷ wanted) [] in cc)
 differs_place bytes front (c ∷ wanted) (b ∷ rest) r i k d h =
     let two : refused r ≡ refused (refusal (length front) NoPrelude) = sym (ap read_end h) ∙ differs_answer bytes front (c ∷ wanted) (b ∷ rest) i k d in
     let same : r ≡ refusal (length front) NoPrelude = cc in
@@ -152,7 +159,8 @@ cut_place bytes n pending m state r e h =
     no_end q c d i k =
         let found = inside_scanned bytes n pending m state e [] text (append-nil bytes ∙ (begun bytes n pending m state e).is) in
         let last = last_tokens pending in
-        let runs : run [] Between (found.front ++ last) ≡ advance_all (Goes m state) last = advance_all-append (Goes [] Between) found.front last ∙ ap (λ o. advance_all o last) found.runs in
+        let runs : run [] Between (found.front ++ last) ≡ advance_all (Goes m state) last =
+        advance_all-append (Goes [] Between) found.front last ∙ ap (λ o. advance_all o last) found.runs in
         cut_token-stops n pending m state r q c d h (sym (ap (λ s. s.end) found.is) ∙ i) (sym runs ∙ ap (λ s. run [] Between s.tokens) (sym found.is) ∙ k)
 
 module _ (n : ℕ) (bytes : List ℕ) (s : Refusal) (shows : ShowsWithin (Some n) bytes s) (long : n < length bytes) where
@@ -181,9 +189,11 @@ module _ (n : ℕ) (bytes : List ℕ) (s : Refusal) (shows : ShowsWithin (Some n
   token_least : (p : ℕ) (pending : Pending) (m : List Declaration) (state : State) (o : Option Refusal)
       → read_bytes unread (take n bytes) ≡ Inside p pending m state
       → cut_token m state pending ≡ o → IsNoLater (or_too_long n o) s
-  token_least p pending m state (Some r) e h = always_least r (cut_token-answer (take n bytes) p pending m state r e h) (cut_place (take n bytes) p pending m state r e h)
+  token_least p pending m state (Some r) e h = always_least r (cut_token-answer (take n bytes) p pending m state r e h)
+      (cut_place (take n bytes) p pending m state r e h)
   token_least p pending m state None e h =
-      long_least (λ f. subst (λ c. c < s.place) (inside_place (take n bytes) p pending m state e ∙ taken_length) (cut_token-past (take n bytes) p s pending m state e h f))
+      long_least (λ f. subst (λ c. c < s.place) (inside_place (take n bytes) p pending m state e ∙ taken_length)
+      (cut_token-past (take n bytes) p s pending m state e h f))
 
   -- the fault that is answered under a limit is before all others that are shown under it
   cut_least : (done : Progress) → read_bytes unread (take n bytes) ≡ done → IsNoLater (cut_at n done) s

@@ -20,7 +20,8 @@ prepends_token : (p : ℕ) (token : Token) → Prepends (λ rest. at p token ∷
 prepends_token p token = record { front = at p token ∷ []; is = λ rest. refl }
 
 prepends_then : {f g : List Placed → List Placed} → Prepends f → Prepends g → Prepends (λ rest. f (g rest))
-prepends_then {f = f} {g = g} h k = record { front = h.front ++ k.front; is = λ rest. h.is (g rest) ∙ ap (λ r. h.front ++ r) (k.is rest) ∙ sym (append_assoc h.front k.front rest) }
+prepends_then {f = f} {g = g} h k = record
+    { front = h.front ++ k.front; is = λ rest. h.is (g rest) ∙ ap (λ r. h.front ++ r) (k.is rest) ∙ sym (append_assoc h.front k.front rest) }
 
 -- the tokens are some before the rest, which stand so before any others
 pub record Cut (S : List Placed → List Placed → Type 0) (tokens rest : List Placed) : Type 0 where
@@ -31,7 +32,8 @@ pub record Cut (S : List Placed → List Placed → Type 0) (tokens rest : List 
 
 mutual
   cut_atom : {tokens rest : List Placed} → BareAtom tokens rest → Cut BareAtom tokens rest
-  cut_atom (identifier {p = p} {name = name}) = record { g = λ r. at p (Name name) ∷ r; prepends = prepends_token p (Name name); is = refl; moved = λ r. identifier }
+  cut_atom (identifier {p = p} {name = name}) = record
+      { g = λ r. at p (Name name) ∷ r; prepends = prepends_token p (Name name); is = refl; moved = λ r. identifier }
   cut_atom (sort {p = p}) = record { g = λ r. at p TypeWord ∷ r; prepends = prepends_token p TypeWord; is = refl; moved = λ r. sort }
   cut_atom (enclosed {p = p} {q = q} t) =
       let c = cut_term t in
@@ -47,13 +49,25 @@ mutual
   cut_arguments (argument x args) =
       let c = cut_atom x in
       let a = cut_arguments args in
-      record { g = λ r. c.g (a.g r); prepends = prepends_then c.prepends a.prepends; is = c.is ∙ ap c.g a.is; moved = λ r. argument (c.moved (a.g r)) (a.moved r) }
+      record {
+        g = λ r. c.g (a.g r);
+        prepends = prepends_then c.prepends a.prepends;
+        is = c.is ∙ ap c.g a.is;
+        moved =
+            λ r. argument (c.moved (a.g r)) (a.moved r);
+      }
 
   cut_application : {tokens rest : List Placed} → BareApplication tokens rest → Cut BareApplication tokens rest
   cut_application (application x args) =
       let c = cut_atom x in
       let a = cut_arguments args in
-      record { g = λ r. c.g (a.g r); prepends = prepends_then c.prepends a.prepends; is = c.is ∙ ap c.g a.is; moved = λ r. application (c.moved (a.g r)) (a.moved r) }
+      record {
+        g = λ r. c.g (a.g r);
+        prepends = prepends_then c.prepends a.prepends;
+        is = c.is ∙ ap c.g a.is;
+        moved =
+            λ r. application (c.moved (a.g r)) (a.moved r);
+      }
 
   cut_term : {tokens rest : List Placed} → BareTerm tokens rest → Cut BareTerm tokens rest
   cut_term (product {p = p} {q = q} {r = r} {name = name} y t) =
@@ -61,7 +75,8 @@ mutual
       let u = cut_term t in
       record {
         g = λ o. at p (Name name) ∷ at q Colon ∷ c.g (at r Arrow ∷ u.g o);
-        prepends = prepends_then (prepends_token p (Name name)) (prepends_then (prepends_token q Colon) (prepends_then c.prepends (prepends_then (prepends_token r Arrow) u.prepends)));
+        prepends = prepends_then (prepends_token p (Name name))
+            (prepends_then (prepends_token q Colon) (prepends_then c.prepends (prepends_then (prepends_token r Arrow) u.prepends)));
         is = ap (λ o. at p (Name name) ∷ at q Colon ∷ o) (c.is ∙ ap (λ o. c.g (at r Arrow ∷ o)) u.is);
         moved = λ o. product (c.moved (at r Arrow ∷ u.g o)) (u.moved o);
       }
@@ -70,7 +85,8 @@ mutual
       let u = cut_term t in
       record {
         g = λ o. at p (Name name) ∷ at q Colon ∷ c.g (at r FatArrow ∷ u.g o);
-        prepends = prepends_then (prepends_token p (Name name)) (prepends_then (prepends_token q Colon) (prepends_then c.prepends (prepends_then (prepends_token r FatArrow) u.prepends)));
+        prepends = prepends_then (prepends_token p (Name name))
+            (prepends_then (prepends_token q Colon) (prepends_then c.prepends (prepends_then (prepends_token r FatArrow) u.prepends)));
         is = ap (λ o. at p (Name name) ∷ at q Colon ∷ o) (c.is ∙ ap (λ o. c.g (at r FatArrow ∷ o)) u.is);
         moved = λ o. abstraction (c.moved (at r FatArrow ∷ u.g o)) (u.moved o);
       }
@@ -153,8 +169,20 @@ module _ {all : List Placed} where
 
     cut_name : {names : List (List ℕ)} {form : Form} {tokens : List Placed} → NameStands all names form tokens → Cut (name_at names form) all tokens
     cut_name (of_symbol d) = let c = cut_declaration d in record { g = c.g; prepends = c.prepends; is = c.is; moved = λ r. of_symbol (c.moved r) }
-    cut_name (of_definition {p = p} d) = let c = cut_declaration d in record { g = λ r. c.g (at p DefWord ∷ r); prepends = prepends_then c.prepends (prepends_token p DefWord); is = c.is; moved = λ r. of_definition (c.moved (at p DefWord ∷ r)) }
-    cut_name (of_theorem {p = p} d) = let c = cut_declaration d in record { g = λ r. c.g (at p ThmWord ∷ r); prepends = prepends_then c.prepends (prepends_token p ThmWord); is = c.is; moved = λ r. of_theorem (c.moved (at p ThmWord ∷ r)) }
+    cut_name (of_definition {p = p} d) = let c = cut_declaration d in record {
+      g = λ r. c.g (at p DefWord ∷ r);
+      prepends = prepends_then c.prepends (prepends_token p DefWord);
+      is = c.is;
+      moved =
+          λ r. of_definition (c.moved (at p DefWord ∷ r));
+    }
+    cut_name (of_theorem {p = p} d) = let c = cut_declaration d in record {
+      g = λ r. c.g (at p ThmWord ∷ r);
+      prepends = prepends_then c.prepends (prepends_token p ThmWord);
+      is = c.is;
+      moved =
+          λ r. of_theorem (c.moved (at p ThmWord ∷ r));
+    }
 
     cut_whole : {names : List (List ℕ)} {name : List ℕ} {end : Token} {tokens : List Placed} → WholeBegins all names name end tokens
         → Cut (whole_at names name end) all tokens
@@ -189,13 +217,22 @@ module _ {all : List Placed} where
       place_term : {scope : Scope} {tokens : List Placed} → TermBegins all names scope tokens → Place (term_at names scope) BareTerm all tokens
       place_term (of_whole {end = end} w) =
           let c = cut_whole w in
-          record { g = c.g; prepends = c.prepends; is = c.is; moved = λ r. of_whole (c.moved r); tail = at 0 end ∷ rest_after end; text = λ tokens t. end_text 0 (c.moved tokens) t }
+          record {
+            g = c.g;
+            prepends = c.prepends;
+            is = c.is;
+            moved = λ r. of_whole (c.moved r);
+            tail = at 0 end ∷ rest_after end;
+            text =
+                λ tokens t. end_text 0 (c.moved tokens) t;
+          }
       place_term (after_product {name = name} {p = p} {q = q} {r = r} t y) =
           let c = place_term t in
           let u = cut_application y in
           record {
             g = λ o. c.g (at p (Name name) ∷ at q Colon ∷ u.g (at r Arrow ∷ o));
-            prepends = prepends_then c.prepends (prepends_then (prepends_token p (Name name)) (prepends_then (prepends_token q Colon) (prepends_then u.prepends (prepends_token r Arrow))));
+            prepends = prepends_then c.prepends
+                (prepends_then (prepends_token p (Name name)) (prepends_then (prepends_token q Colon) (prepends_then u.prepends (prepends_token r Arrow))));
             is = c.is ∙ ap (λ o. c.g (at p (Name name) ∷ at q Colon ∷ o)) u.is;
             moved = λ o. after_product (c.moved (at p (Name name) ∷ at q Colon ∷ u.g (at r Arrow ∷ o))) (u.moved (at r Arrow ∷ o));
             tail = c.tail;
@@ -206,7 +243,8 @@ module _ {all : List Placed} where
           let u = cut_application y in
           record {
             g = λ o. c.g (at p (Name name) ∷ at q Colon ∷ u.g (at r FatArrow ∷ o));
-            prepends = prepends_then c.prepends (prepends_then (prepends_token p (Name name)) (prepends_then (prepends_token q Colon) (prepends_then u.prepends (prepends_token r FatArrow))));
+            prepends = prepends_then c.prepends
+                (prepends_then (prepends_token p (Name name)) (prepends_then (prepends_token q Colon) (prepends_then u.prepends (prepends_token r FatArrow))));
             is = c.is ∙ ap (λ o. c.g (at p (Name name) ∷ at q Colon ∷ o)) u.is;
             moved = λ o. after_abstraction (c.moved (at p (Name name) ∷ at q Colon ∷ u.g (at r FatArrow ∷ o))) (u.moved (at r FatArrow ∷ o));
             tail = c.tail;
@@ -254,7 +292,15 @@ module _ {all : List Placed} where
           → Place (atom_at names scope binder) BareAtom all tokens
       place_atom (of_application a) =
           let c = place_application a in
-          record { g = c.g; prepends = c.prepends; is = c.is; moved = λ o. of_application (c.moved o); tail = c.tail; text = λ tokens x. c.text tokens (application x none) }
+          record {
+            g = c.g;
+            prepends = c.prepends;
+            is = c.is;
+            moved = λ o. of_application (c.moved o);
+            tail = c.tail;
+            text =
+                λ tokens x. c.text tokens (application x none);
+          }
       place_atom (further a y) =
           let c = place_application a in
           let u = cut_application y in
@@ -283,16 +329,50 @@ FollowCutAt all (at p token ∷ rest) = FollowCut all p token rest
 follow_cut : {all tokens : List Placed} → CanFollow all tokens → FollowCutAt all tokens
 follow_cut (definition_word {p = p} d) =
     let c = cut_declaration d in
-    record { g = c.g; prepends = c.prepends; is = c.is; moved = λ r. definition_word (c.moved (at p DefWord ∷ r)); more = at 0 (Name []) ∷ at 0 Colon ∷ rest_of Def; text = name_text Def [] 0 0 (of_definition (c.moved (at p DefWord ∷ at 0 (Name []) ∷ at 0 Colon ∷ rest_of Def))) }
+    record {
+      g = c.g;
+      prepends = c.prepends;
+      is = c.is;
+      moved = λ r. definition_word (c.moved (at p DefWord ∷ r));
+      more =
+          at 0 (Name []) ∷ at 0 Colon ∷ rest_of Def;
+      text = name_text Def [] 0 0
+          (of_definition (c.moved (at p DefWord ∷ at 0 (Name []) ∷ at 0 Colon ∷ rest_of Def)));
+    }
 follow_cut (theorem_word {p = p} d) =
     let c = cut_declaration d in
-    record { g = c.g; prepends = c.prepends; is = c.is; moved = λ r. theorem_word (c.moved (at p ThmWord ∷ r)); more = at 0 (Name []) ∷ at 0 Colon ∷ rest_of Thm; text = name_text Thm [] 0 0 (of_theorem (c.moved (at p ThmWord ∷ at 0 (Name []) ∷ at 0 Colon ∷ rest_of Thm))) }
+    record {
+      g = c.g;
+      prepends = c.prepends;
+      is = c.is;
+      moved = λ r. theorem_word (c.moved (at p ThmWord ∷ r));
+      more =
+          at 0 (Name []) ∷ at 0 Colon ∷ rest_of Thm;
+      text = name_text Thm [] 0 0 (of_theorem (c.moved (at p ThmWord ∷ at 0 (Name []) ∷ at 0 Colon ∷ rest_of Thm)));
+    }
 follow_cut (declared_name {form = form} {name = name} {p = p} n) =
     let c = cut_name n in
-    record { g = c.g; prepends = c.prepends; is = c.is; moved = λ r. declared_name (c.moved (at p (Name name) ∷ r)); more = at 0 Colon ∷ rest_of form; text = name_text form name p 0 (c.moved (at p (Name name) ∷ at 0 Colon ∷ rest_of form)) }
+    record {
+      g = c.g;
+      prepends = c.prepends;
+      is = c.is;
+      moved = λ r. declared_name (c.moved (at p (Name name) ∷ r));
+      more = at 0 Colon ∷ rest_of form;
+      text =
+          name_text form name p 0 (c.moved (at p (Name name) ∷ at 0 Colon ∷ rest_of form));
+    }
 follow_cut (declared_colon {form = form} {name = name} {p = p} {q = q} n) =
     let c = cut_name n in
-    record { g = λ r. c.g (at p (Name name) ∷ r); prepends = prepends_then c.prepends (prepends_token p (Name name)); is = c.is; moved = λ r. declared_colon (c.moved (at p (Name name) ∷ at q Colon ∷ r)); more = rest_of form; text = name_text form name p q (c.moved (at p (Name name) ∷ at q Colon ∷ rest_of form)) }
+    record {
+      g = λ r. c.g (at p (Name name) ∷ r);
+      prepends = prepends_then c.prepends (prepends_token p (Name name));
+      is = c.is;
+      moved =
+          λ r. declared_colon (c.moved (at p (Name name) ∷ at q Colon ∷ r));
+      more = rest_of form;
+      text =
+          name_text form name p q (c.moved (at p (Name name) ∷ at q Colon ∷ rest_of form));
+    }
 follow_cut (whole_end {end = end} {p = p} w t) =
     let c = cut_whole w in
     let u = cut_term t in
@@ -306,13 +386,37 @@ follow_cut (whole_end {end = end} {p = p} w t) =
     }
 follow_cut (identifier_atom {name = name} {p = p} a) =
     let c = place_atom a in
-    record { g = c.g; prepends = c.prepends; is = c.is; moved = λ r. identifier_atom (c.moved (at p (Name name) ∷ r)); more = c.tail; text = c.text (at p (Name name) ∷ c.tail) identifier }
+    record {
+      g = c.g;
+      prepends = c.prepends;
+      is = c.is;
+      moved = λ r. identifier_atom (c.moved (at p (Name name) ∷ r));
+      more = c.tail;
+      text =
+          c.text (at p (Name name) ∷ c.tail) identifier;
+    }
 follow_cut (sort_atom {p = p} a) =
     let c = place_atom a in
-    record { g = c.g; prepends = c.prepends; is = c.is; moved = λ r. sort_atom (c.moved (at p TypeWord ∷ r)); more = c.tail; text = c.text (at p TypeWord ∷ c.tail) sort }
+    record {
+      g = c.g;
+      prepends = c.prepends;
+      is = c.is;
+      moved = λ r. sort_atom (c.moved (at p TypeWord ∷ r));
+      more = c.tail;
+      text =
+          c.text (at p TypeWord ∷ c.tail) sort;
+    }
 follow_cut (left_parenthesis {p = p} a) =
     let c = place_atom a in
-    record { g = c.g; prepends = c.prepends; is = c.is; moved = λ r. left_parenthesis (c.moved (at p LeftParen ∷ r)); more = at 0 TypeWord ∷ at 0 RightParen ∷ c.tail; text = c.text (at p LeftParen ∷ at 0 TypeWord ∷ at 0 RightParen ∷ c.tail) (enclosed only_sort) }
+    record {
+      g = c.g;
+      prepends = c.prepends;
+      is = c.is;
+      moved = λ r. left_parenthesis (c.moved (at p LeftParen ∷ r));
+      more =
+          at 0 TypeWord ∷ at 0 RightParen ∷ c.tail;
+      text = c.text (at p LeftParen ∷ at 0 TypeWord ∷ at 0 RightParen ∷ c.tail) (enclosed only_sort);
+    }
 follow_cut (right_parenthesis {p = p} {q = q} a t) =
     let c = place_atom a in
     let u = cut_term t in
@@ -354,7 +458,8 @@ follow_cut (arrow_sign {p = o} (of_domain {name = name} {p = p} {q = q} t) y) =
       is = c.is ∙ ap (λ r. c.g (at p (Name name) ∷ at q Colon ∷ r)) u.is;
       moved = λ r. arrow_sign (of_domain (c.moved (at p (Name name) ∷ at q Colon ∷ u.g (at o Arrow ∷ r)))) (u.moved (at o Arrow ∷ r));
       more = at 0 TypeWord ∷ c.tail;
-      text = c.text (at p (Name name) ∷ at q Colon ∷ u.g (at o Arrow ∷ at 0 TypeWord ∷ c.tail)) (product (u.moved (at o Arrow ∷ at 0 TypeWord ∷ c.tail)) only_sort);
+      text = c.text (at p (Name name) ∷ at q Colon ∷ u.g (at o Arrow ∷ at 0 TypeWord ∷ c.tail))
+          (product (u.moved (at o Arrow ∷ at 0 TypeWord ∷ c.tail)) only_sort);
     }
 follow_cut (fat_arrow_sign {name = name} {p = p} {q = q} {r = o} t y) =
     let c = place_term t in
@@ -365,7 +470,8 @@ follow_cut (fat_arrow_sign {name = name} {p = p} {q = q} {r = o} t y) =
       is = c.is ∙ ap (λ r. c.g (at p (Name name) ∷ at q Colon ∷ r)) u.is;
       moved = λ r. fat_arrow_sign (c.moved (at p (Name name) ∷ at q Colon ∷ u.g (at o FatArrow ∷ r))) (u.moved (at o FatArrow ∷ r));
       more = at 0 TypeWord ∷ c.tail;
-      text = c.text (at p (Name name) ∷ at q Colon ∷ u.g (at o FatArrow ∷ at 0 TypeWord ∷ c.tail)) (abstraction (u.moved (at o FatArrow ∷ at 0 TypeWord ∷ c.tail)) only_sort);
+      text = c.text (at p (Name name) ∷ at q Colon ∷ u.g (at o FatArrow ∷ at 0 TypeWord ∷ c.tail))
+          (abstraction (u.moved (at o FatArrow ∷ at 0 TypeWord ∷ c.tail)) only_sort);
     }
 
 -- what is put before the same tokens is the same
@@ -376,12 +482,16 @@ same_front h all front tokens i k = append_cancel_right h.front front tokens (sy
 pub follows-text : (all front rest : List Placed) (p : ℕ) (token : Token) → all ≡ front ++ at p token ∷ rest → CanFollow all (at p token ∷ rest)
     → (more : List Placed) × IsText (front ++ at p token ∷ more)
 follows-text all front rest p token i c =
-    let f = follow_cut c in
-    (f.more, subst IsText (f.prepends.is (at p token ∷ f.more) ∙ ap (λ w. w ++ at p token ∷ f.more) (same_front f.prepends all front (at p token ∷ rest) f.is i)) f.text)
+    let f = follow_cut c in (
+      f.more,
+      subst IsText (f.prepends.is (at p token ∷ f.more)
+          ∙ ap (λ w. w ++ at p token ∷ f.more) (same_front f.prepends all front (at p token ∷ rest) f.is i)) f.text,
+    )
 
 -- a token that begins, with those before it, some text can follow them
 pub text-follows : (all front rest more : List Placed) (p : ℕ) (token : Token) → all ≡ front ++ at p token ∷ rest → IsText (front ++ at p token ∷ more)
     → CanFollow all (at p token ∷ rest)
 text-follows all front rest more p token i h =
     let f = follow_cut (text_follows front more p token h) in
-    subst (λ w. CanFollow w (at p token ∷ rest)) (f.prepends.is (at p token ∷ rest) ∙ ap (λ w. w ++ at p token ∷ rest) (same_front f.prepends (front ++ at p token ∷ more) front (at p token ∷ more) f.is refl) ∙ sym i) (f.moved rest)
+    subst (λ w. CanFollow w (at p token ∷ rest)) (f.prepends.is (at p token ∷ rest)
+    ∙ ap (λ w. w ++ at p token ∷ rest) (same_front f.prepends (front ++ at p token ∷ more) front (at p token ∷ more) f.is refl) ∙ sym i) (f.moved rest)

@@ -18,7 +18,8 @@ any_name (d ∷ ds) name = ap (λ b. bytes_eq d.name name || b) (any_name ds nam
 -- a name is declared where it is a symbol
 pub is_declared-is_symbol : (m : List Declaration) (names : List (List ℕ)) (name : List ℕ) → names_of m ≡ names
     → is_declared (signature ++ m) name ≡ is_symbol names name
-is_declared-is_symbol m names name h = any_name (signature ++ m) name ∙ ap (λ ns. list_any (λ other. bytes_eq other name) ns) (map-append (λ d. d.name) signature m ∙ ap (λ ns. names_of signature ++ ns) h)
+is_declared-is_symbol m names name h = any_name (signature ++ m) name ∙ ap (λ ns. list_any (λ other. bytes_eq other name) ns)
+    (map-append (λ d. d.name) signature m ∙ ap (λ ns. names_of signature ++ ns) h)
 
 any_step : (b c : Bool) (n l : ℕ) → c ≡ nat_lt n l → (b || c) ≡ nat_lt (cond (not b) (1 + n) 0) (suc l)
 any_step true c n l h = grind (arith, common_steps)
@@ -48,4 +49,5 @@ pub symbol_of-is_symbol : (m : List Declaration) (names : List (List ℕ)) (name
     → is_symbol names name ≡ false
 symbol_of-is_symbol m names name h k =
     sym (is_declared-is_symbol m names name h)
-    ∙ cond-None (is_declared (signature ++ m) name) (position_or_len (λ d. bytes_eq d.name name) (signature ++ m)) (sym (position-cond (λ d. bytes_eq d.name name) (signature ++ m)) ∙ k)
+    ∙ cond-None (is_declared (signature ++ m) name) (position_or_len (λ d. bytes_eq d.name name) (signature ++ m))
+    (sym (position-cond (λ d. bytes_eq d.name name) (signature ++ m)) ∙ k)

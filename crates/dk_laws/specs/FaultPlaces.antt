@@ -172,7 +172,8 @@ scan_after n (goes tokens pending) p (b ∷ bytes) k h =
 append_ascending : (e p : ℕ) (pending : Pending) (tokens rest : List Placed) → AreBeforePending p pending tokens
     → ((q : ℕ) → q < p → IsPendingAfter q pending → AreAfter e q rest) → AreAscending e rest → AreAscending e (tokens ++ rest)
 append_ascending e p pending [] rest h f a = a
-append_ascending e p pending (at q token ∷ tokens) rest h f a = (append_after e q tokens rest h.0 (f q h.2 h.1), append_ascending e p pending tokens rest h.3 f a)
+append_ascending e p pending (at q token ∷ tokens) rest h f a =
+    (append_after e q tokens rest h.0 (f q h.2 h.1), append_ascending e p pending tokens rest h.3 f a)
 
 before_ascending : (p : ℕ) (tokens : List Placed) → AreBefore p tokens → AreAscending p tokens
 before_ascending p [] h = tt
@@ -213,11 +214,13 @@ after_stuck p q token (sticks tokens r) h = h
 
 take_byte-stuck : (p b : ℕ) (pending : Pending) → IsPendingBefore p pending → IsStuckBefore (p + 1) (take_byte pending p b)
 take_byte-stuck p b Nothing h = begins_stuck p b
-take_byte-stuck p b (InWord q bytes) h = if-holds (IsStuckBefore (p + 1)) (is_word_byte b) (omega (arith, h)) (after_stuck (p + 1) q (word_token bytes) (begins p b) (begins_stuck p b))
+take_byte-stuck p b (InWord q bytes) h = if-holds (IsStuckBefore (p + 1)) (is_word_byte b) (omega (arith, h))
+    (after_stuck (p + 1) q (word_token bytes) (begins p b) (begins_stuck p b))
 take_byte-stuck p b (AfterColon q) h = if-holds (IsStuckBefore (p + 1)) (b == 61) tt (after_stuck (p + 1) q Colon (begins p b) (begins_stuck p b))
 take_byte-stuck p b (AfterMinus q) h = if-holds (IsStuckBefore (p + 1)) (b == 62) tt (omega (arith, h))
 take_byte-stuck p b (AfterEquals q) h = if-holds (IsStuckBefore (p + 1)) (b == 62) tt (omega (arith, h))
-take_byte-stuck p b (AfterParen q) h = if-holds (IsStuckBefore (p + 1)) (b == 59) (omega (arith, h)) (after_stuck (p + 1) q LeftParen (begins p b) (begins_stuck p b))
+take_byte-stuck p b (AfterParen q) h = if-holds (IsStuckBefore (p + 1)) (b == 59) (omega (arith, h))
+    (after_stuck (p + 1) q LeftParen (begins p b) (begins_stuck p b))
 take_byte-stuck p b (InComment q) h = comment_before (p + 1) q (b == 59) (omega (arith, h))
 take_byte-stuck p b (AfterSemicolon q) h = closing_before (p + 1) q (b == 41) (b == 59) (omega (arith, h))
 

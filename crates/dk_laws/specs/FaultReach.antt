@@ -42,8 +42,10 @@ module _ {P : List Placed → Type 0} (k : IsKept P) where
     application_keeps (application a args) h = arguments_keep args (atom_keeps a h)
 
     pub term_keeps : {tokens rest : List Placed} → BareTerm tokens rest → P tokens → P rest
-    term_keeps (product {tokens = tokens} {more = more} {p = p} {q = q} {r = r} {name = name} a t) h = term_keeps t (k.tail r Arrow more (application_keeps a (k.tail q Colon tokens (k.tail p (Name name) (at q Colon ∷ tokens) h))))
-    term_keeps (abstraction {tokens = tokens} {more = more} {p = p} {q = q} {r = r} {name = name} a t) h = term_keeps t (k.tail r FatArrow more (application_keeps a (k.tail q Colon tokens (k.tail p (Name name) (at q Colon ∷ tokens) h))))
+    term_keeps (product {tokens = tokens} {more = more} {p = p} {q = q} {r = r} {name = name} a t) h =
+        term_keeps t (k.tail r Arrow more (application_keeps a (k.tail q Colon tokens (k.tail p (Name name) (at q Colon ∷ tokens) h))))
+    term_keeps (abstraction {tokens = tokens} {more = more} {p = p} {q = q} {r = r} {name = name} a t) h =
+        term_keeps t (k.tail r FatArrow more (application_keeps a (k.tail q Colon tokens (k.tail p (Name name) (at q Colon ∷ tokens) h))))
     term_keeps (nameless {more = more} {r = r} a t) h = term_keeps t (k.tail r Arrow more (application_keeps a h))
     term_keeps (plain a) h = application_keeps a h
 
@@ -129,7 +131,8 @@ module _ (final : Outcome) (e : ℕ) (m : List Declaration) where
         → final ≡ run m (AtTerm head frames) tokens → Applied head frames rest
     first_atom_reaches (identifier {rest = rest} {p = p} {name = name}) head frames i a h = first_reaches head frames p name rest i a.0 h
     first_atom_reaches sort head frames i a h = reached SortType h
-    first_atom_reaches (enclosed t) head frames i a h = then_reaches (term_reaches t head (Enclosing None ∷ frames) tt tt a.1 h) (λ n k. k.1) (λ x k. reached x k)
+    first_atom_reaches (enclosed t) head frames i a h =
+        then_reaches (term_reaches t head (Enclosing None ∷ frames) tt tt a.1 h) (λ n k. k.1) (λ x k. reached x k)
 
     pub arguments_reach : {tokens rest : List Placed} → BareArguments tokens rest → (head : Head) (frames : List Frame) (f : Tree) → AreAscending e tokens
         → final ≡ run m (InApplication head frames (Some f)) tokens → Applied head frames rest
@@ -162,6 +165,7 @@ module _ (final : Outcome) (e : ℕ) (m : List Declaration) where
         (λ z l. reached (Lam y z) (l ∙ ended_abstraction head frames name y z rest i)))
     term_reaches {rest = rest} (nameless {more = more} {r = r} x t) head frames o i a h =
         then_reaches (first_application_reaches x head frames tt a h) (λ n k. term_keeps (after_kept e n) t k.1)
-        (λ y k. then_reaches (term_reaches t head (Product [] y ∷ frames) tt i (application_keeps (ascending_kept e) x a).1 (k ∙ arrow_opens head frames y r more o)) (λ n l. l)
+        (λ y k. then_reaches
+        (term_reaches t head (Product [] y ∷ frames) tt i (application_keeps (ascending_kept e) x a).1 (k ∙ arrow_opens head frames y r more o)) (λ n l. l)
         (λ z l. reached (Pi y z) (l ∙ ended_product head frames [] y z rest i)))
     term_reaches {rest = rest} (plain x) head frames o i a h = first_application_reaches x head frames (ended_applied rest i) a h

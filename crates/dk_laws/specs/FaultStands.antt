@@ -48,7 +48,8 @@ KeyReads all m Thm rest = (o : ℕ) × Declared all m (at o ThmWord ∷ rest)
 
 abbrev pub HeadReads : List Placed → List Declaration → Head → List Placed → Type 0
 HeadReads all m (TypeOf form name) tokens = NameReads all m form name tokens
-HeadReads all m (BodyOf form name ty) tokens = (start : List Placed) × (p : ℕ) × HasBody form × NameReads all m form name start × IsWhole m start (at p Assign ∷ tokens) ty
+HeadReads all m (BodyOf form name ty) tokens = (start : List Placed) × (p : ℕ) × HasBody form × NameReads all m form name start × IsWhole m start
+    (at p Assign ∷ tokens) ty
 
 key-NameReads : {all : List Placed} {m : List Declaration} (form : Form) (name : List ℕ) (p q : ℕ) (rest : List Placed)
     → KeyReads all m form (at p (Name name) ∷ at q Colon ∷ rest) → IsNew m name → NameReads all m form name rest
@@ -133,7 +134,8 @@ module _ {all : List Placed} {m : List Declaration} {h : Head} where
 abbrev pub HasRead : List Placed → List Declaration → State → List Placed → Type 0
 HasRead all m Between rest = DeclarationBegins all (names_of m) rest × Declared all m rest
 HasRead all m (AfterKeyword form) rest = NameStands all (names_of m) form rest × KeyReads all m form rest
-HasRead all m (AfterName form name) rest = (p : ℕ) × NameStands all (names_of m) form (at p (Name name) ∷ rest) × KeyReads all m form (at p (Name name) ∷ rest) × IsNew m name
+HasRead all m (AfterName form name) rest = (p : ℕ) × NameStands all (names_of m) form (at p (Name name) ∷ rest) × KeyReads all m form (at p (Name name) ∷ rest)
+    × IsNew m name
 HasRead all m (AtTerm h frames) rest = IsOpen frames × Framed all m h frames rest
 HasRead all m (AfterFirst h frames q name) rest = IsOpen frames × Framed all m h frames (at q (Name name) ∷ rest)
 HasRead all m (InApplication h frames None) rest = IsDomain frames × Framed all m h frames rest
@@ -161,7 +163,8 @@ le_shallow t h = grind (arith, common_steps, h)
 names-new : (m : List Declaration) (d : Declaration) → names_of m ++ d.name ∷ [] ≡ names_of (m ++ d ∷ [])
 names-new m d = sym (map-append (λ c. c.name) m (d ∷ []))
 
-symbol_declared : {all : List Placed} {m : List Declaration} {name : List ℕ} {start rest : List Placed} {p : ℕ} {t : Tree} → NameReads all m Symbol name start → IsWhole m start (at p Dot ∷ rest) t → Declared all (m ++ record { name = name; form = Symbol; ty = t; body = None } ∷ []) rest
+symbol_declared : {all : List Placed} {m : List Declaration} {name : List ℕ} {start rest : List Placed} {p : ℕ} {t : Tree} → NameReads all m Symbol name start
+    → IsWhole m start (at p Dot ∷ rest) t → Declared all (m ++ record { name = name; form = Symbol; ty = t; body = None } ∷ []) rest
 symbol_declared (symbol_name h new) w = one_more h (symbol_declaration new w)
 
 body_declared : {all : List Placed} {m : List Declaration} {name : List ℕ} {first start rest : List Placed} {p q : ℕ} {ty t : Tree} (form : Form) → HasBody form
@@ -203,25 +206,35 @@ module _ (e : ℕ) (all : List Placed) (ascending : AreAscending e all) (m : Lis
         → AtomStands all (names_of m) (scope_of frames) false (at p (Name name) ∷ rest) → Framed all m h frames (at p (Name name) ∷ rest)
         → Step all p (Name name) rest (atom m h frames None p name o)
     domain_name_step frames p name rest None i a f = shown (identifier_atom a) (unknown_shown frames a i tt)
-    domain_name_step frames p name rest (Some x) i a f = goes (identifier_atom a) (at p (Name name) ∷ rest, f, Application.application (identifier_of frames name x i) Arguments.none)
+    domain_name_step frames p name rest (Some x) i a f =
+        goes (identifier_atom a) (at p (Name name) ∷ rest, f, Application.application (identifier_of frames name x i) Arguments.none)
 
     -- an identifier as an argument
     argument_name_step : (frames : List Frame) (t : Tree) (p : ℕ) (name : List ℕ) (start rest : List Placed) (o : Option Tree) → meaning m frames name ≡ o
         → Framed all m h frames start → Application m (scope_of frames) start (at p (Name name) ∷ rest) t
         → Step all p (Name name) rest (atom m h frames (Some t) p name o)
-    argument_name_step frames t p name start rest None i f y = shown (identifier_atom (further (framed_application f) (application-bare y))) (unknown_shown frames (further (framed_application f) (application-bare y)) i tt)
-    argument_name_step frames t p name start rest (Some x) i f y = goes (identifier_atom (further (framed_application f) (application-bare y))) (start, f, application_read y (identifier_of frames name x i))
+    argument_name_step frames t p name start rest None i f y =
+        shown (identifier_atom (further (framed_application f) (application-bare y)))
+        (unknown_shown frames (further (framed_application f) (application-bare y)) i tt)
+    argument_name_step frames t p name start rest (Some x) i f y =
+        goes (identifier_atom (further (framed_application f) (application-bare y))) (start, f, application_read y (identifier_of frames name x i))
 
     -- a term ends by a `)`
     encloses_step : (frames : List Frame) (t : Tree) (p : ℕ) (start rest : List Placed) → Framed all m h frames start
         → Term m (scope_of frames) start (at p RightParen ∷ rest) t → Step all p RightParen rest (encloses m h frames t p)
     encloses_step [] t p start rest f u = cannot
-    encloses_step (Enclosing None ∷ frames) t p start rest (of_first {p = q} f) u = goes (right_parenthesis (of_application (framed_application f)) (term-bare u)) (at q LeftParen ∷ start, f, Application.application (Atom.enclosed u) Arguments.none)
-    encloses_step (Enclosing (Some g) ∷ frames) t p start rest (of_argument {start = before} f y) u = goes (right_parenthesis (further (framed_application f) (application-bare y)) (term-bare u)) (before, f, application_read y (Atom.enclosed u))
+    encloses_step (Enclosing None ∷ frames) t p start rest (of_first {p = q} f) u =
+        goes (right_parenthesis (of_application (framed_application f)) (term-bare u))
+        (at q LeftParen ∷ start, f, Application.application (Atom.enclosed u) Arguments.none)
+    encloses_step (Enclosing (Some g) ∷ frames) t p start rest (of_argument {start = before} f y) u =
+        goes (right_parenthesis (further (framed_application f) (application-bare y)) (term-bare u)) (before, f, application_read y (Atom.enclosed u))
     encloses_step (Domain name ∷ frames) t p start rest f u = cannot
-    encloses_step (Product name a ∷ frames) t p start rest (of_product {start = before} {p = o} {q = q} i f y) u = encloses_step frames (Pi a t) p (at o (Name name) ∷ at q Colon ∷ before) rest f (Term.product y u)
-    encloses_step (Product name a ∷ frames) t p start rest (of_nameless {start = before} i f y) u = encloses_step frames (Pi a t) p before rest f (Term.nameless y u)
-    encloses_step (Abstraction name a ∷ frames) t p start rest (of_abstraction {start = before} {p = o} {q = q} i f y) u = encloses_step frames (Lam a t) p (at o (Name name) ∷ at q Colon ∷ before) rest f (Term.abstraction y u)
+    encloses_step (Product name a ∷ frames) t p start rest (of_product {start = before} {p = o} {q = q} i f y) u =
+        encloses_step frames (Pi a t) p (at o (Name name) ∷ at q Colon ∷ before) rest f (Term.product y u)
+    encloses_step (Product name a ∷ frames) t p start rest (of_nameless {start = before} i f y) u =
+        encloses_step frames (Pi a t) p before rest f (Term.nameless y u)
+    encloses_step (Abstraction name a ∷ frames) t p start rest (of_abstraction {start = before} {p = o} {q = q} i f y) u =
+        encloses_step frames (Lam a t) p (at o (Name name) ∷ at q Colon ∷ before) rest f (Term.abstraction y u)
 
     -- a type or a body ends by a `.`
     dot_step : (state : State) (n : List Declaration) (t : Tree) (p : ℕ) (start rest : List Placed) (b : Bool) → nat_le (depth t) max_depth ≡ b
@@ -244,35 +257,46 @@ module _ (e : ℕ) (all : List Placed) (ascending : AreAscending e all) (m : Lis
       → Term m (scope_of frames) start (at p Dot ∷ rest) t → Step all p Dot rest (declares m h (whole frames t) p)
   declares_step (TypeOf Symbol name) [] t p start rest (of_head w r) u =
       let d : Declaration = record { name = name; form = Symbol; ty = t; body = None } in
-      dot_step (TypeOf Symbol name) Between (m ++ d ∷ []) t p start rest (nat_le (depth t) max_depth) refl w (WholeReads.symbol_type r) u (λ s. (more_stands (TypeOf Symbol name) d name p start rest refl w (term-bare u), symbol_declared r (record { term = u; shallow = s })))
+      dot_step (TypeOf Symbol name) Between (m ++ d ∷ []) t p start rest (nat_le (depth t) max_depth) refl w (WholeReads.symbol_type r) u
+      (λ s. (more_stands (TypeOf Symbol name) d name p start rest refl w (term-bare u), symbol_declared r (record { term = u; shallow = s })))
   declares_step (TypeOf Def name) [] t p start rest f u = cannot
   declares_step (TypeOf Thm name) [] t p start rest f u = cannot
   declares_step (BodyOf form name ty) [] t p start rest (of_head w r) u =
       let d : Declaration = record { name = name; form = form; ty = ty; body = Some t } in
-      dot_step (BodyOf form name ty) Between (m ++ d ∷ []) t p start rest (nat_le (depth t) max_depth) refl w (body_after r.2 r.3 r.4) u (λ s. (more_stands (BodyOf form name ty) d name p start rest refl w (term-bare u), body_declared form r.2 r.3 r.4 (record { term = u; shallow = s })))
+      dot_step (BodyOf form name ty) Between (m ++ d ∷ []) t p start rest (nat_le (depth t) max_depth) refl w (body_after r.2 r.3 r.4) u
+      (λ s. (more_stands (BodyOf form name ty) d name p start rest refl w (term-bare u), body_declared form r.2 r.3 r.4 (record { term = u; shallow = s })))
   declares_step h (Enclosing g ∷ frames) t p start rest f u = cannot
   declares_step h (Domain name ∷ frames) t p start rest f u = cannot
-  declares_step h (Product name a ∷ frames) t p start rest (of_product {start = before} {p = o} {q = q} i f y) u = declares_step h frames (Pi a t) p (at o (Name name) ∷ at q Colon ∷ before) rest f (Term.product y u)
-  declares_step h (Product name a ∷ frames) t p start rest (of_nameless {start = before} i f y) u = declares_step h frames (Pi a t) p before rest f (Term.nameless y u)
-  declares_step h (Abstraction name a ∷ frames) t p start rest (of_abstraction {start = before} {p = o} {q = q} i f y) u = declares_step h frames (Lam a t) p (at o (Name name) ∷ at q Colon ∷ before) rest f (Term.abstraction y u)
+  declares_step h (Product name a ∷ frames) t p start rest (of_product {start = before} {p = o} {q = q} i f y) u =
+      declares_step h frames (Pi a t) p (at o (Name name) ∷ at q Colon ∷ before) rest f (Term.product y u)
+  declares_step h (Product name a ∷ frames) t p start rest (of_nameless {start = before} i f y) u =
+      declares_step h frames (Pi a t) p before rest f (Term.nameless y u)
+  declares_step h (Abstraction name a ∷ frames) t p start rest (of_abstraction {start = before} {p = o} {q = q} i f y) u =
+      declares_step h frames (Lam a t) p (at o (Name name) ∷ at q Colon ∷ before) rest f (Term.abstraction y u)
 
   assigns_step : (h : Head) (frames : List Frame) (t : Tree) (p : ℕ) (start rest : List Placed) → Framed all m h frames start
       → Term m (scope_of frames) start (at p Assign ∷ rest) t → Step all p Assign rest (assigns m h (whole frames t) p)
   assigns_step (TypeOf Symbol name) [] t p start rest f u = cannot
   assigns_step (TypeOf Def name) [] t p start rest (of_head w r) u =
-      assign_step (TypeOf Def name) (AtTerm (BodyOf Def name t) []) t p start rest (nat_le (depth t) max_depth) refl w (bodied_type tt r) u (λ s. (tt, of_head (body w (term-bare u)) (start, p, tt, r, record { term = u; shallow = s })))
+      assign_step (TypeOf Def name) (AtTerm (BodyOf Def name t) []) t p start rest (nat_le (depth t) max_depth) refl w (bodied_type tt r) u
+      (λ s. (tt, of_head (body w (term-bare u)) (start, p, tt, r, record { term = u; shallow = s })))
   assigns_step (TypeOf Thm name) [] t p start rest (of_head w r) u =
-      assign_step (TypeOf Thm name) (AtTerm (BodyOf Thm name t) []) t p start rest (nat_le (depth t) max_depth) refl w (bodied_type tt r) u (λ s. (tt, of_head (body w (term-bare u)) (start, p, tt, r, record { term = u; shallow = s })))
+      assign_step (TypeOf Thm name) (AtTerm (BodyOf Thm name t) []) t p start rest (nat_le (depth t) max_depth) refl w (bodied_type tt r) u
+      (λ s. (tt, of_head (body w (term-bare u)) (start, p, tt, r, record { term = u; shallow = s })))
   assigns_step (BodyOf form name ty) [] t p start rest f u = cannot
   assigns_step h (Enclosing g ∷ frames) t p start rest f u = cannot
   assigns_step h (Domain name ∷ frames) t p start rest f u = cannot
-  assigns_step h (Product name a ∷ frames) t p start rest (of_product {start = before} {p = o} {q = q} i f y) u = assigns_step h frames (Pi a t) p (at o (Name name) ∷ at q Colon ∷ before) rest f (Term.product y u)
-  assigns_step h (Product name a ∷ frames) t p start rest (of_nameless {start = before} i f y) u = assigns_step h frames (Pi a t) p before rest f (Term.nameless y u)
-  assigns_step h (Abstraction name a ∷ frames) t p start rest (of_abstraction {start = before} {p = o} {q = q} i f y) u = assigns_step h frames (Lam a t) p (at o (Name name) ∷ at q Colon ∷ before) rest f (Term.abstraction y u)
+  assigns_step h (Product name a ∷ frames) t p start rest (of_product {start = before} {p = o} {q = q} i f y) u =
+      assigns_step h frames (Pi a t) p (at o (Name name) ∷ at q Colon ∷ before) rest f (Term.product y u)
+  assigns_step h (Product name a ∷ frames) t p start rest (of_nameless {start = before} i f y) u =
+      assigns_step h frames (Pi a t) p before rest f (Term.nameless y u)
+  assigns_step h (Abstraction name a ∷ frames) t p start rest (of_abstraction {start = before} {p = o} {q = q} i f y) u =
+      assigns_step h frames (Lam a t) p (at o (Name name) ∷ at q Colon ∷ before) rest f (Term.abstraction y u)
 
   arrow_step : (h : Head) (frames : List Frame) (a : Tree) (p : ℕ) (start rest : List Placed) → Framed all m h frames start
       → Application m (scope_of frames) start (at p Arrow ∷ rest) a → Step all p Arrow rest (arrow m h frames a)
-  arrow_step h (Domain name ∷ frames) a p start rest (of_binder i f) y = goes (arrow_sign (of_domain (framed_term i f)) (application-bare y)) (tt, of_product i f y)
+  arrow_step h (Domain name ∷ frames) a p start rest (of_binder i f) y =
+      goes (arrow_sign (of_domain (framed_term i f)) (application-bare y)) (tt, of_product i f y)
   arrow_step h [] a p start rest f y = goes (arrow_sign (framed_application f) (application-bare y)) (tt, of_nameless tt f y)
   arrow_step h (Enclosing g ∷ frames) a p start rest f y = goes (arrow_sign (framed_application f) (application-bare y)) (tt, of_nameless tt f y)
   arrow_step h (Product name b ∷ frames) a p start rest f y = goes (arrow_sign (framed_application f) (application-bare y)) (tt, of_nameless tt f y)
@@ -280,7 +304,8 @@ module _ (e : ℕ) (all : List Placed) (ascending : AreAscending e all) (m : Lis
 
   fat_arrow_step : (h : Head) (frames : List Frame) (a : Tree) (p : ℕ) (start rest : List Placed) → Framed all m h frames start
       → Application m (scope_of frames) start (at p FatArrow ∷ rest) a → Step all p FatArrow rest (fat_arrow m h frames a p)
-  fat_arrow_step h (Domain name ∷ frames) a p start rest (of_binder i f) y = goes (fat_arrow_sign (framed_term i f) (application-bare y)) (tt, of_abstraction i f y)
+  fat_arrow_step h (Domain name ∷ frames) a p start rest (of_binder i f) y =
+      goes (fat_arrow_sign (framed_term i f) (application-bare y)) (tt, of_abstraction i f y)
   fat_arrow_step h [] a p start rest f y = cannot
   fat_arrow_step h (Enclosing g ∷ frames) a p start rest f y = cannot
   fat_arrow_step h (Product name b ∷ frames) a p start rest f y = cannot
@@ -290,7 +315,8 @@ module _ (e : ℕ) (all : List Placed) (ascending : AreAscending e all) (m : Lis
   applied_step : (h : Head) (frames : List Frame) (t : Tree) (p : ℕ) (token : Token) (start rest : List Placed) → Framed all m h frames start
       → Application m (scope_of frames) start (at p token ∷ rest) t → Step all p token rest (applies m h frames (Some t) p token)
   applied_step h frames t p (Name name) start rest f y = argument_name_step h frames t p name start rest (meaning m frames name) refl f y
-  applied_step h frames t p TypeWord start rest f y = goes (sort_atom (further (framed_application f) (application-bare y))) (start, f, application_read y Atom.sort)
+  applied_step h frames t p TypeWord start rest f y =
+      goes (sort_atom (further (framed_application f) (application-bare y))) (start, f, application_read y Atom.sort)
   applied_step h frames t p LeftParen start rest f y = goes (left_parenthesis (further (framed_application f) (application-bare y))) (tt, of_argument f y)
   applied_step h frames t p RightParen start rest f y = encloses_step h frames t p start rest f (Term.plain y)
   applied_step h frames t p Arrow start rest f y = arrow_step h frames t p start rest f y
@@ -303,7 +329,8 @@ module _ (e : ℕ) (all : List Placed) (ascending : AreAscending e all) (m : Lis
   term_step : (h : Head) (frames : List Frame) (p : ℕ) (token : Token) (rest : List Placed) → IsOpen frames → Framed all m h frames (at p token ∷ rest)
       → Step all p token rest (advance m (AtTerm h frames) p token)
   term_step h frames p (Name name) rest o f = goes (identifier_atom (of_application (framed_application f))) (o, f)
-  term_step h frames p TypeWord rest o f = goes (sort_atom (of_application (framed_application f))) (at p TypeWord ∷ rest, f, Application.application Atom.sort Arguments.none)
+  term_step h frames p TypeWord rest o f = goes (sort_atom (of_application (framed_application f)))
+      (at p TypeWord ∷ rest, f, Application.application Atom.sort Arguments.none)
   term_step h frames p LeftParen rest o f = goes (left_parenthesis (of_application (framed_application f))) (tt, of_first f)
   term_step h frames p _ rest o f = cannot
 
@@ -318,7 +345,8 @@ module _ (e : ℕ) (all : List Placed) (ascending : AreAscending e all) (m : Lis
   domain_step : (h : Head) (frames : List Frame) (p : ℕ) (token : Token) (rest : List Placed) → IsDomain frames → Framed all m h frames (at p token ∷ rest)
       → Step all p token rest (advance m (InApplication h frames None) p token)
   domain_step h frames p (Name name) rest d f = domain_name_step h frames p name rest (meaning m frames name) refl (domain_atom h frames d f) f
-  domain_step h frames p TypeWord rest d f = goes (sort_atom (of_application (framed_application f))) (at p TypeWord ∷ rest, f, Application.application Atom.sort Arguments.none)
+  domain_step h frames p TypeWord rest d f = goes (sort_atom (of_application (framed_application f)))
+      (at p TypeWord ∷ rest, f, Application.application Atom.sort Arguments.none)
   domain_step h frames p LeftParen rest d f = goes (left_parenthesis (of_application (framed_application f))) (tt, of_first f)
   domain_step h frames p _ rest d f = cannot
 
@@ -328,7 +356,8 @@ module _ (e : ℕ) (all : List Placed) (ascending : AreAscending e all) (m : Lis
       → Step all p token rest (goes_on m h frames q name o p token)
   first_step h frames q name p token rest None i b o f =
       earlier (unknown_shown h frames (of_application (of_term (framed_term o f))) i b) (term_begins_keeps (ascending_kept e) ascending (framed_term o f)).0.0
-  first_step h frames q name p token rest (Some x) i b o f = applied_step h frames x p token (at q (Name name) ∷ at p token ∷ rest) rest f (Application.application (identifier_of h frames name x i) Arguments.none)
+  first_step h frames q name p token rest (Some x) i b o f =
+      applied_step h frames x p token (at q (Name name) ∷ at p token ∷ rest) rest f (Application.application (identifier_of h frames name x i) Arguments.none)
 
   pub advance_step : (state : State) (p : ℕ) (token : Token) (rest : List Placed) → HasRead all m state (at p token ∷ rest)
       → Step all p token rest (advance m state p token)
@@ -338,7 +367,8 @@ module _ (e : ℕ) (all : List Placed) (ascending : AreAscending e all) (m : Lis
   advance_step Between p _ rest s = cannot
   advance_step (AfterKeyword form) p (Name name) rest s = name_step form p name rest (is_declared (signature ++ m) name) refl s.0 s.1
   advance_step (AfterKeyword form) p _ rest s = cannot
-  advance_step (AfterName form name) p Colon rest s = goes (declared_colon s.1) (tt, of_head (type_begins form name s.0 p rest s.1) (key-NameReads form name s.0 p rest s.2 s.3))
+  advance_step (AfterName form name) p Colon rest s =
+      goes (declared_colon s.1) (tt, of_head (type_begins form name s.0 p rest s.1) (key-NameReads form name s.0 p rest s.2 s.3))
   advance_step (AfterName form name) p _ rest s = cannot
   advance_step (AtTerm h frames) p token rest s = term_step h frames p token rest s.0 s.1
   advance_step (AfterFirst h frames q name) p Colon rest s = goes (binder_colon (framed_term s.0 s.1)) (tt, of_binder s.0 s.1)

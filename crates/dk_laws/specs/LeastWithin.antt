@@ -22,7 +22,8 @@ no_later_place n r (inr h) = omega (arith, ap (λ s. s.place) h)
 limit_place : (n : ℕ) (bytes : List ℕ) (r : Refusal) (b : Bool) → nat_le (length bytes) n ≡ b
     → (if b then answer bytes else cut_at n (read_bytes unread (take n bytes))) ≡ refused r → answer_within (Some n) bytes ≡ refused r → r.place ≤ n
 limit_place n bytes r true e h k = let within : length bytes ≤ n = grind (arith, common_steps, e) in omega (arith, within, answer-place bytes r h)
-limit_place n bytes r false e h k = no_later_place n r ((answered-least (Some n) bytes r k).least (refusal n DkTooLong) (too_long (grind (arith, common_steps, e))))
+limit_place n bytes r false e h k = no_later_place n r
+    ((answered-least (Some n) bytes r k).least (refusal n DkTooLong) (too_long (grind (arith, common_steps, e))))
 
 -- It is refused at a byte within the limit, or at the first past it.
 pub answer_within-place : (n : ℕ) (bytes : List ℕ) (r : Refusal) → answer_within (Some n) bytes ≡ refused r → r.place ≤ n

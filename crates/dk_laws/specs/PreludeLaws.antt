@@ -14,5 +14,55 @@ says text m h = answer-Reads (prelude ++ text) m (ap read_end (prelude_read 0 pr
 
 -- the law of the prelude holds
 pub prelude_reads : PreludeReads
-prelude_reads =
-    (record { is = refl; says = says _ _ refl }, (record { is = refl; says = says _ _ refl }, (record { is = refl; says = says _ _ refl }, (record { is = refl; says = says _ _ refl }, (record { is = refl; says = says _ _ refl }, (record { from = says _ _ refl; to = says _ _ refl }, (record { is = refl; says = says _ _ refl }, (record { is = refl; says = says _ _ refl }, (record { is = refl; says = says _ _ refl }, (record { is = refl; says = says _ _ refl }, (record { is = refl; says = says _ _ refl }, (record { is = refl; says = says _ _ refl }, (record { is = refl; says = says _ _ refl }, (record { is = refl; says = says _ _ refl }, (record { is = refl; says = says _ _ refl }, (record { is = refl; says = says _ _ refl }, (record { is = refl; says = says _ _ refl }, (record { is = refl; says = says _ _ refl }, (record { is = refl; says = says _ _ refl }, tt {0})))))))))))))))))))
+prelude_reads = (
+  record { is = refl; says = says _ _ refl },
+  (
+    record { is = refl; says = says _ _ refl },
+    (
+      record { is = refl; says = says _ _ refl },
+      (
+        record { is = refl; says = says _ _ refl },
+        (
+          record { is = refl; says = says _ _ refl },
+          (
+            record { from = says _ _ refl; to = says _ _ refl },
+            (
+              record { is = refl; says = says _ _ refl },
+              (
+                record { is = refl; says = says _ _ refl },
+                (
+                  record { is = refl; says = says _ _ refl },
+                  (
+                    record { is = refl; says = says _ _ refl },
+                    (
+                      record { is = refl; says = says _ _ refl },
+                      (
+                        record { is = refl; says = says _ _ refl },
+                        (
+                          record { is = refl; says = says _ _ refl },
+                          (
+                            record { is = refl; says = says _ _ refl },
+                            (
+                              record { is = refl; says = says _ _ refl },
+                              (
+                                record { is = refl; says = says _ _ refl },
+                                (
+                                  record { is = refl; says = says _ _ refl },
+                                  (record { is = refl; says = says _ _ refl }, (record { is = refl; says = says _ _ refl }, tt {0})),
+                                ),
+                              ),
+                            ),
+                          ),
+                        ),
+                      ),
+                    ),
+                  ),
+                ),
+              ),
+            ),
+          ),
+        ),
+      ),
+    ),
+  ),
+)

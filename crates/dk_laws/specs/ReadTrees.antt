@@ -38,7 +38,10 @@ EachShort ds P = (s : ℕ) (d : Declaration) (t : Tree) → slice_get ds s ≡ S
 
 -- no name of the signature is short
 signature_symbols : AllByRecursion (λ (d : Declaration). short_body d ≡ None) signature
-signature_symbols = (refl, (refl, (refl, (refl, (refl, (refl, (refl, (refl, (refl, (refl, (refl, (refl, (refl, (refl, (refl, (refl, (refl, (refl, tt))))))))))))))))))
+signature_symbols = (
+  refl,
+  (refl, (refl, (refl, (refl, (refl, (refl, (refl, (refl, (refl, (refl, (refl, (refl, (refl, (refl, (refl, (refl, (refl, tt))))))))))))))))),
+)
 
 each_of : (P : Declaration → Type 0) (ds : List Declaration) (s : ℕ) (d : Declaration) → AllByRecursion P ds → slice_get ds s ≡ Some d → P d
 each_of P [] s d h e = absurd (cc)
@@ -80,8 +83,10 @@ declared-over before (d ∷ ds) h k =
     let size : length (before ++ d ∷ []) ≡ length before + 1 = length-append before (d ∷ []) in
     subst (λ l. EachShort l (IsOver (length l))) (append_assoc before (d ∷ []) ds)
     (declared-over (before ++ d ∷ []) ds h.1
-    (EachShort-more before d (IsOver (length before)) (IsOver (length (before ++ d ∷ []))) (λ t o. IsOver-more (length before) (length (before ++ d ∷ [])) t (omega (arith, size)) o) k
-    (λ t e. IsOver-more (length before) (length (before ++ d ∷ [])) t (omega (arith, size)) (body-over (length before) d.form d.body t h.0.body (short_body-Some d t e)))))
+    (EachShort-more before d (IsOver (length before)) (IsOver (length (before ++ d ∷ [])))
+    (λ t o. IsOver-more (length before) (length (before ++ d ∷ [])) t (omega (arith, size)) o) k
+    (λ t e. IsOver-more (length before) (length (before ++ d ∷ [])) t (omega (arith, size))
+    (body-over (length before) d.form d.body t h.0.body (short_body-Some d t e)))))
 
 -- Short names of a module are short for closed trees
 pub short-over : (m : List Declaration) → IsModule m → (s : ℕ) (t : Tree) → short_for m s ≡ Some t → IsOver (length (signature ++ m)) t
@@ -107,14 +112,16 @@ long-more m d (Sym s) h k = go (slice_get (signature ++ m) s) refl h
   where
     go : (o : Option Declaration) → slice_get (signature ++ m) s ≡ o → option_and_then short_body o ≡ None → short_for (m ++ d ∷ []) s ≡ None
     go None e f = absurd (slice_get-missing (signature ++ m) s e (omega (arith, k)))
-    go (Some x) e f = ap (λ l. option_and_then short_body (slice_get l s)) (sym (append_assoc signature m (d ∷ []))) ∙ ap (option_and_then short_body) (slice_get-append (signature ++ m) (d ∷ []) s x e) ∙ f
+    go (Some x) e f = ap (λ l. option_and_then short_body (slice_get l s)) (sym (append_assoc signature m (d ∷ []))) ∙ ap (option_and_then short_body)
+        (slice_get-append (signature ++ m) (d ∷ []) s x e) ∙ f
 long-more m d (App f x) h k = (long-more m d f h.0 (omega (arith, k)), long-more m d x h.1 (omega (arith, k)))
 long-more m d (Lam a b) h k = (long-more m d a h.0 (omega (arith, k)), long-more m d b h.1 (omega (arith, k)))
 long-more m d (Pi a b) h k = (long-more m d a h.0 (omega (arith, k)), long-more m d b h.1 (omega (arith, k)))
 
 IsLongOver-more : (m : List Declaration) (d : Declaration) (t : Tree) → IsLongOver m t → IsLongOver (m ++ d ∷ []) t
 IsLongOver-more m d t h =
-    let size : length (signature ++ m ++ d ∷ []) ≡ length (signature ++ m) + 1 = ap length (sym (append_assoc signature m (d ∷ []))) ∙ length-append (signature ++ m) (d ∷ []) in
+    let size : length (signature ++ m ++ d ∷ []) ≡ length (signature ++ m) + 1 =
+    ap length (sym (append_assoc signature m (d ∷ []))) ∙ length-append (signature ++ m) (d ∷ []) in
     record { long = long-more m d t h.long h.known; known = omega (arith, size, h.known) }
 
 module _ (m : List Declaration) (shorts : EachShort (signature ++ m) (IsLongOver m)) where
@@ -134,14 +141,16 @@ module _ (m : List Declaration) (shorts : EachShort (signature ++ m) (IsLongOver
 
     arguments_long : {scope : Scope} {f : Tree} {tokens rest : List Placed} {t : Tree} → IsLongOver m f → Arguments m scope f tokens rest t → IsLongOver m t
     arguments_long h none = h
-    arguments_long h (argument x args) = let k = atom_long x in arguments_long (record { long = (h.long, k.long); known = omega (arith, h.known, k.known) }) args
+    arguments_long h (argument x args) = let k = atom_long x in arguments_long (record { long = (h.long, k.long); known = omega (arith, h.known, k.known) })
+        args
 
     application_long : {scope : Scope} {tokens rest : List Placed} {t : Tree} → Application m scope tokens rest t → IsLongOver m t
     application_long (application f args) = arguments_long (atom_long f) args
 
     term_long : {scope : Scope} {tokens rest : List Placed} {t : Tree} → Term m scope tokens rest t → IsLongOver m t
     term_long (product a b) = let h = application_long a in let k = term_long b in record { long = (h.long, k.long); known = omega (arith, h.known, k.known) }
-    term_long (abstraction a b) = let h = application_long a in let k = term_long b in record { long = (h.long, k.long); known = omega (arith, h.known, k.known) }
+    term_long (abstraction a b) = let h = application_long a in let k =
+        term_long b in record { long = (h.long, k.long); known = omega (arith, h.known, k.known) }
     term_long (nameless a b) = let h = application_long a in let k = term_long b in record { long = (h.long, k.long); known = omega (arith, h.known, k.known) }
     term_long (plain a) = application_long a
 
@@ -159,7 +168,8 @@ module _ (m : List Declaration) (shorts : EachShort (signature ++ m) (IsLongOver
   }
 
   declares_long : {tokens rest : List Placed} {d : Declaration} → Declares m tokens rest d → IsDeclarationLong d
-  declares_long (a_symbol {name = name} {ty = ty} n t) = record { ty = term_long t.term; body = tt; short = λ u f. absurd (let e = short_body-Some (symbol name ty) u f in cc) }
+  declares_long (a_symbol {name = name} {ty = ty} n t) =
+      record { ty = term_long t.term; body = tt; short = λ u f. absurd (let e = short_body-Some (symbol name ty) u f in cc) }
   declares_long (definition n t b) = bodied_long _ _ refl (term_long t.term) (term_long b.term)
   declares_long (theorem n t b) = bodied_long _ _ refl (term_long t.term) (term_long b.term)
 
@@ -167,8 +177,12 @@ module _ (m : List Declaration) (shorts : EachShort (signature ++ m) (IsLongOver
 AreLong-snoc : (before ds : List Declaration) (d : Declaration) → AreLong before ds → IsLong (before ++ ds) d.ty → IsBodyLong (before ++ ds) d.body
     → AreLong before (ds ++ d ∷ [])
 AreLong-snoc before [] d h k l = (subst (λ w. IsLong w d.ty) (append-nil before) k, subst (λ w. IsBodyLong w d.body) (append-nil before) l, tt)
-AreLong-snoc before (x ∷ ds) d h k l =
-    (h.0, h.1, AreLong-snoc (before ++ x ∷ []) ds d h.2 (subst (λ w. IsLong w d.ty) (sym (append_assoc before (x ∷ []) ds)) k) (subst (λ w. IsBodyLong w d.body) (sym (append_assoc before (x ∷ []) ds)) l))
+AreLong-snoc before (x ∷ ds) d h k l = (
+  h.0,
+  h.1,
+  AreLong-snoc (before ++ x ∷ []) ds d h.2 (subst (λ w. IsLong w d.ty) (sym (append_assoc before (x ∷ []) ds)) k)
+      (subst (λ w. IsBodyLong w d.body) (sym (append_assoc before (x ∷ []) ds)) l),
+)
 
 completes_long : {m all : List Declaration} {tokens : List Placed} → AreLong [] m → EachShort (signature ++ m) (IsLongOver m) → Completes m tokens all
     → AreLong [] all
@@ -186,7 +200,10 @@ reads_long bytes m h = completes_long {m = []} tt (signature-EachShort (IsLongOv
 
 -- Where no name is short, every tree is long
 pub signature_unshort : NoneShort signature
-signature_unshort = (refl, (refl, (refl, (refl, (refl, (refl, (refl, (refl, (refl, (refl, (refl, (refl, (refl, (refl, (refl, (refl, (refl, (refl, tt))))))))))))))))))
+signature_unshort = (
+  refl,
+  (refl, (refl, (refl, (refl, (refl, (refl, (refl, (refl, (refl, (refl, (refl, (refl, (refl, (refl, (refl, (refl, (refl, tt))))))))))))))))),
+)
 
 pub NoneShort-append : (xs ys : List Declaration) → NoneShort xs → NoneShort ys → NoneShort (xs ++ ys)
 NoneShort-append [] ys h k = k
@@ -219,8 +236,11 @@ long_body-everywhere m h (Some t) = long-everywhere m h t
 
 unshort-AreLong-after : (before ds : List Declaration) → NoneShort before → NoneShort ds → AreLong before ds
 unshort-AreLong-after before [] h k = tt
-unshort-AreLong-after before (d ∷ ds) h k =
-    (long-everywhere before h d.ty, long_body-everywhere before h d.body, unshort-AreLong-after (before ++ d ∷ []) ds (NoneShort-append before (d ∷ []) h (k.0, tt)) k.1)
+unshort-AreLong-after before (d ∷ ds) h k = (
+  long-everywhere before h d.ty,
+  long_body-everywhere before h d.body,
+  unshort-AreLong-after (before ++ d ∷ []) ds (NoneShort-append before (d ∷ []) h (k.0, tt)) k.1,
+)
 
 pub unshort-AreLong : (m : List Declaration) → NoneShort m → AreLong [] m
 unshort-AreLong m h = unshort-AreLong-after [] m tt h

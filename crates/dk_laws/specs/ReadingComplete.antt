@@ -74,15 +74,19 @@ module _ (m : List Declaration) where
   mutual
     atom_runs : {scope : Scope} {tokens rest : List Placed} {x : Tree} → Atom m scope tokens rest x → (head : Head) (frames : List Frame) (f : Option Tree)
         → scope_of frames ≡ scope → run (InApplication head frames f) tokens ≡ run (InApplication head frames (Some (argued f x))) rest
-    atom_runs {scope = scope} {rest = rest} (variable {p = p} {n = n} {name = name} e) head frames f s = name_runs head frames f p name (Var n) rest (variable_meant frames scope name n s e)
-    atom_runs {scope = scope} {rest = rest} (symbol {p = p} {s = n} {name = name} e g) head frames f s = name_runs head frames f p name (named_tree m n) rest (symbol_meant frames scope name n s e g)
+    atom_runs {scope = scope} {rest = rest} (variable {p = p} {n = n} {name = name} e) head frames f s =
+        name_runs head frames f p name (Var n) rest (variable_meant frames scope name n s e)
+    atom_runs {scope = scope} {rest = rest} (symbol {p = p} {s = n} {name = name} e g) head frames f s =
+        name_runs head frames f p name (named_tree m n) rest (symbol_meant frames scope name n s e g)
     atom_runs sort head frames f s = refl
     atom_runs (enclosed t) head frames f s = term_runs t head (Enclosing f ∷ frames) s tt tt
 
     first_atom_runs : {scope : Scope} {tokens rest : List Placed} {x : Tree} → Atom m scope tokens rest x → (head : Head) (frames : List Frame)
         → scope_of frames ≡ scope → IsApplied rest → run (AtTerm head frames) tokens ≡ run (InApplication head frames (Some x)) rest
-    first_atom_runs {scope = scope} {rest = rest} (variable {p = p} {n = n} {name = name} e) head frames s h = first_runs head frames p name (Var n) rest (variable_meant frames scope name n s e) h
-    first_atom_runs {scope = scope} {rest = rest} (symbol {p = p} {s = n} {name = name} e g) head frames s h = first_runs head frames p name (named_tree m n) rest (symbol_meant frames scope name n s e g) h
+    first_atom_runs {scope = scope} {rest = rest} (variable {p = p} {n = n} {name = name} e) head frames s h =
+        first_runs head frames p name (Var n) rest (variable_meant frames scope name n s e) h
+    first_atom_runs {scope = scope} {rest = rest} (symbol {p = p} {s = n} {name = name} e g) head frames s h =
+        first_runs head frames p name (named_tree m n) rest (symbol_meant frames scope name n s e g) h
     first_atom_runs sort head frames s h = refl
     first_atom_runs (enclosed t) head frames s h = term_runs t head (Enclosing None ∷ frames) s tt tt
 
@@ -101,9 +105,15 @@ module _ (m : List Declaration) where
 
     pub term_runs : {scope : Scope} {tokens rest : List Placed} {t : Tree} → Term m scope tokens rest t → (head : Head) (frames : List Frame)
         → scope_of frames ≡ scope → IsOpen frames → IsEnded rest → run (AtTerm head frames) tokens ≡ run (InApplication head frames (Some t)) rest
-    term_runs {rest = rest} (product {name = name} {a = a} {b = b} d t) head frames s o h = application_runs d head (Domain name ∷ frames) s ∙ term_runs t head (Product name a ∷ frames) (ap (λ w. name ∷ w) s) tt h ∙ ended_product head frames name a b rest h
-    term_runs {rest = rest} (abstraction {name = name} {a = a} {b = b} d t) head frames s o h = application_runs d head (Domain name ∷ frames) s ∙ term_runs t head (Abstraction name a ∷ frames) (ap (λ w. name ∷ w) s) tt h ∙ ended_abstraction head frames name a b rest h
-    term_runs {rest = rest} (nameless {more = more} {r = r} {a = a} {b = b} d t) head frames s o h = first_application_runs d head frames s tt ∙ arrow_opens head frames a r more o ∙ term_runs t head (Product [] a ∷ frames) (ap (λ w. [] ∷ w) s) tt h ∙ ended_product head frames [] a b rest h
+    term_runs {rest = rest} (product {name = name} {a = a} {b = b} d t) head frames s o h =
+        application_runs d head (Domain name ∷ frames) s ∙ term_runs t head (Product name a ∷ frames) (ap (λ w. name ∷ w) s) tt h
+        ∙ ended_product head frames name a b rest h
+    term_runs {rest = rest} (abstraction {name = name} {a = a} {b = b} d t) head frames s o h =
+        application_runs d head (Domain name ∷ frames) s ∙ term_runs t head (Abstraction name a ∷ frames) (ap (λ w. name ∷ w) s) tt h
+        ∙ ended_abstraction head frames name a b rest h
+    term_runs {rest = rest} (nameless {more = more} {r = r} {a = a} {b = b} d t) head frames s o h =
+        first_application_runs d head frames s tt ∙ arrow_opens head frames a r more o ∙ term_runs t head (Product [] a ∷ frames) (ap (λ w. [] ∷ w) s) tt h
+        ∙ ended_product head frames [] a b rest h
     term_runs {rest = rest} (plain d) head frames s o h = first_application_runs d head frames s (ended_applied rest h)
 
   pub names_run : (state : State) (o : Outcome) (name : List ℕ) (p : ℕ) (tokens : List Placed) (b : Bool) → b ≡ false

@@ -43,7 +43,8 @@ last_read (Stops r) pending p = sym (answers-Stops r (end_at pending p))
 
 -- the next byte, where what it does is read as its tokens are
 byte_read : (o : Outcome) (pending : Pending) (p b : ℕ) (bytes : List ℕ) (rest : Scanned)
-    → ((m : List Declaration) (state : State) → read_end (read_bytes (after_byte (p + 1) m state (take_byte pending p b)) bytes) ≡ answers (advance_all (Goes m state) rest.tokens) rest.end)
+    → ((m : List Declaration) (state : State) → read_end (read_bytes (after_byte (p + 1) m state (take_byte pending p b)) bytes)
+    ≡ answers (advance_all (Goes m state) rest.tokens) rest.end)
     → read_end (read_bytes (read_byte (progress p pending o) b) bytes) ≡ answers (advance_all o rest.tokens) rest.end
 byte_read (Goes m state) pending p b bytes rest h = h m state
 byte_read (Stops r) pending p b bytes rest h = ap read_end (read_bytes-Refused r bytes) ∙ sym (answers-Stops r rest.end)
@@ -56,8 +57,10 @@ scan-read (goes tokens pending) p [] m state =
     last_read (advance_all (Goes m state) tokens) pending p
     ∙ ap (λ o. answers o (end_at pending p)) (sym (advance_all-append (Goes m state) tokens (last_tokens pending)))
 scan-read (goes tokens pending) p (b ∷ bytes) m state =
-    byte_read (advance_all (Goes m state) tokens) pending p b bytes (scan (take_byte pending p b) (p + 1) bytes) (λ n s. scan-read (take_byte pending p b) (p + 1) bytes n s)
-    ∙ ap (λ o. answers o (scan (take_byte pending p b) (p + 1) bytes).end) (sym (advance_all-append (Goes m state) tokens (scan (take_byte pending p b) (p + 1) bytes).tokens))
+    byte_read (advance_all (Goes m state) tokens) pending p b bytes (scan (take_byte pending p b) (p + 1) bytes)
+    (λ n s. scan-read (take_byte pending p b) (p + 1) bytes n s)
+    ∙ ap (λ o. answers o (scan (take_byte pending p b) (p + 1) bytes).end)
+    (sym (advance_all-append (Goes m state) tokens (scan (take_byte pending p b) (p + 1) bytes).tokens))
 
 -- the text after the signature's own
 text_read : (p : ℕ) (bytes : List ℕ)
@@ -118,7 +121,8 @@ has_end o (stuck p) m h = absurd (cc (h, answers-stuck o p))
 pub answer-Reads : (bytes : List ℕ) (m : List Declaration) → answer bytes ≡ reads m → Reads bytes m
 answer-Reads bytes m h =
     let o = is_opened 0 prelude bytes m h in
-    let found : answers (advance_all (Goes [] Between) (tokens_from (length prelude) o.text).tokens) (tokens_from (length prelude) o.text).end ≡ reads m = sym (answer_is o.text) ∙ ap answer (sym o.is) ∙ h in
+    let found : answers (advance_all (Goes [] Between) (tokens_from (length prelude) o.text).tokens) (tokens_from (length prelude) o.text).end ≡ reads m =
+    sym (answer_is o.text) ∙ ap answer (sym o.is) ∙ h in
     let e = has_end (advance_all (Goes [] Between) (tokens_from (length prelude) o.text).tokens) (tokens_from (length prelude) o.text).end m found in
     record {
       text = o.text;

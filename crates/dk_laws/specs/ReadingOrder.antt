@@ -49,7 +49,8 @@ IsState m (AfterKeyword form) = Unit {0}
 IsState m (AfterName form name) = IsNew m name
 IsState m (AtTerm head frames) = IsHead m head × AreFrames (length (signature ++ m)) frames
 IsState m (AfterFirst head frames p name) = IsHead m head × AreFrames (length (signature ++ m)) frames
-IsState m (InApplication head frames f) = IsHead m head × AreFrames (length (signature ++ m)) frames × IsAppliedUnder (length (signature ++ m)) (length (scope_of frames)) f
+IsState m (InApplication head frames f) = IsHead m head × AreFrames (length (signature ++ m)) frames × IsAppliedUnder (length (signature ++ m))
+    (length (scope_of frames)) f
 
 position_below : {X : Type 0} (p : X → Bool) (xs : List X) (n : ℕ) (d : X) → position p xs ≡ Some n → n < length xs
 position_below p xs n d e = (position-Some p xs n d e).0
@@ -81,13 +82,16 @@ meaning-IsUnder m frames name x in_order h = meant_under m frames name x (variab
 
 pub argued-IsUnder : (count d : ℕ) (f : Option Tree) (x : Tree) → IsAppliedUnder count d f → IsUnder count d x → IsUnder count d (argued f x)
 argued-IsUnder count d None x h k = k
-argued-IsUnder count d (Some f) x h k = record { bound = omega (arith, h.bound, k.bound); kindless = or_from (has_kind f) (has_kind x) h.kindless k.kindless; known = omega (arith, h.known, k.known) }
+argued-IsUnder count d (Some f) x h k = record
+    { bound = omega (arith, h.bound, k.bound); kindless = or_from (has_kind f) (has_kind x) h.kindless k.kindless; known = omega (arith, h.known, k.known) }
 
 pub Pi-IsUnder : (count d : ℕ) (a b : Tree) → IsUnder count d a → IsUnder count (suc d) b → IsUnder count d (Pi a b)
-Pi-IsUnder count d a b h k = record { bound = omega (arith, h.bound, k.bound); kindless = or_from (has_kind a) (has_kind b) h.kindless k.kindless; known = omega (arith, h.known, k.known) }
+Pi-IsUnder count d a b h k = record
+    { bound = omega (arith, h.bound, k.bound); kindless = or_from (has_kind a) (has_kind b) h.kindless k.kindless; known = omega (arith, h.known, k.known) }
 
 pub Lam-IsUnder : (count d : ℕ) (a b : Tree) → IsUnder count d a → IsUnder count (suc d) b → IsUnder count d (Lam a b)
-Lam-IsUnder count d a b h k = record { bound = omega (arith, h.bound, k.bound); kindless = or_from (has_kind a) (has_kind b) h.kindless k.kindless; known = omega (arith, h.known, k.known) }
+Lam-IsUnder count d a b h k = record
+    { bound = omega (arith, h.bound, k.bound); kindless = or_from (has_kind a) (has_kind b) h.kindless k.kindless; known = omega (arith, h.known, k.known) }
 
 -- a whole type or body is closed
 pub whole-IsUnder : (count : ℕ) (frames : List Frame) (t u : Tree) → AreFrames count frames → IsUnder count (length (scope_of frames)) t
@@ -96,13 +100,15 @@ whole-IsUnder count [] t u h k e = let is : t ≡ u = cc in subst (IsUnder count
 whole-IsUnder count (Enclosing f ∷ frames) t u h k e = absurd (cc)
 whole-IsUnder count (Domain name ∷ frames) t u h k e = absurd (cc)
 whole-IsUnder count (Product name a ∷ frames) t u h k e = whole-IsUnder count frames (Pi a t) u h.1 (Pi-IsUnder count (length (scope_of frames)) a t h.0 k) e
-whole-IsUnder count (Abstraction name a ∷ frames) t u h k e = whole-IsUnder count frames (Lam a t) u h.1 (Lam-IsUnder count (length (scope_of frames)) a t h.0 k) e
+whole-IsUnder count (Abstraction name a ∷ frames) t u h k e =
+    whole-IsUnder count frames (Lam a t) u h.1 (Lam-IsUnder count (length (scope_of frames)) a t h.0 k) e
 
 pub IsUnder-IsOver : (count : ℕ) (t : Tree) → IsUnder count 0 t → IsOver count t
 IsUnder-IsOver count t h = record { closed = omega (arith, h.bound); kindless = h.kindless; known = h.known }
 
 -- the declaration that a type or a body ends can come after the others
-pub symbol_follows : (m : List Declaration) (name : List ℕ) (ty : Tree) → IsNew m name → IsUnder (length (signature ++ m)) 0 ty → MayFollow (signature ++ m) (record { name = name; form = Symbol; ty = ty; body = None })
+pub symbol_follows : (m : List Declaration) (name : List ℕ) (ty : Tree) → IsNew m name → IsUnder (length (signature ++ m)) 0 ty
+    → MayFollow (signature ++ m) (record { name = name; form = Symbol; ty = ty; body = None })
 symbol_follows m name ty new h = record { new_name = new; ty = IsUnder-IsOver (length (signature ++ m)) ty h; body = refl }
 
 body_over : (count : ℕ) (form : Form) (t : Tree) → HasBody form → IsOver count t → IsBodyOver count form (Some t)
@@ -110,8 +116,14 @@ body_over count Symbol t h k = absurd h
 body_over count Def t h k = k
 body_over count Thm t h k = k
 
-pub body_follows : (m : List Declaration) (form : Form) (name : List ℕ) (ty body : Tree) → IsHead m (BodyOf form name ty) → IsUnder (length (signature ++ m)) 0 body → MayFollow (signature ++ m) (record { name = name; form = form; ty = ty; body = Some body })
-body_follows m form name ty body h k = record { new_name = h.0; ty = IsUnder-IsOver (length (signature ++ m)) ty h.2; body = body_over (length (signature ++ m)) form body h.1 (IsUnder-IsOver (length (signature ++ m)) body k) }
+pub body_follows : (m : List Declaration) (form : Form) (name : List ℕ) (ty body : Tree) → IsHead m (BodyOf form name ty)
+    → IsUnder (length (signature ++ m)) 0 body → MayFollow (signature ++ m) (record { name = name; form = form; ty = ty; body = Some body })
+body_follows m form name ty body h k = record {
+  new_name = h.0;
+  ty = IsUnder-IsOver (length (signature ++ m)) ty h.2;
+  body =
+      body_over (length (signature ++ m)) form body h.1 (IsUnder-IsOver (length (signature ++ m)) body k);
+}
 
 -- the state that a token leads to is one that a reading can come to
 abbrev pub IsOrdered : Outcome → Type 0
@@ -131,15 +143,18 @@ module _ (m : List Declaration) (in_order : IsModule m) where
   atom_ordered : (head : Head) (frames : List Frame) (f : Option Tree) (p : ℕ) (name : List ℕ) (o : Option Tree) → meaning m frames name ≡ o
       → IsState m (InApplication head frames f) → IsOrdered (atom m head frames f p name o)
   atom_ordered head frames f p name None e h = tt
-  atom_ordered head frames f p name (Some x) e h = (h.0, h.1, argued-IsUnder (length (signature ++ m)) (length (scope_of frames)) f x h.2 (meaning-IsUnder m frames name x in_order e))
+  atom_ordered head frames f p name (Some x) e h =
+      (h.0, h.1, argued-IsUnder (length (signature ++ m)) (length (scope_of frames)) f x h.2 (meaning-IsUnder m frames name x in_order e))
 
   encloses_ordered : (head : Head) (frames : List Frame) (t : Tree) (p : ℕ) → IsState m (InApplication head frames (Some t))
       → IsOrdered (encloses m head frames t p)
   encloses_ordered head [] t p h = tt
   encloses_ordered head (Enclosing f ∷ frames) t p h = (h.0, h.1.1, argued-IsUnder (length (signature ++ m)) (length (scope_of frames)) f t h.1.0 h.2)
   encloses_ordered head (Domain name ∷ frames) t p h = tt
-  encloses_ordered head (Product name a ∷ frames) t p h = encloses_ordered head frames (Pi a t) p (h.0, h.1.1, Pi-IsUnder (length (signature ++ m)) (length (scope_of frames)) a t h.1.0 h.2)
-  encloses_ordered head (Abstraction name a ∷ frames) t p h = encloses_ordered head frames (Lam a t) p (h.0, h.1.1, Lam-IsUnder (length (signature ++ m)) (length (scope_of frames)) a t h.1.0 h.2)
+  encloses_ordered head (Product name a ∷ frames) t p h =
+      encloses_ordered head frames (Pi a t) p (h.0, h.1.1, Pi-IsUnder (length (signature ++ m)) (length (scope_of frames)) a t h.1.0 h.2)
+  encloses_ordered head (Abstraction name a ∷ frames) t p h =
+      encloses_ordered head frames (Lam a t) p (h.0, h.1.1, Lam-IsUnder (length (signature ++ m)) (length (scope_of frames)) a t h.1.0 h.2)
 
   arrow_ordered : (head : Head) (frames : List Frame) (a : Tree) → IsState m (InApplication head frames (Some a)) → IsOrdered (arrow m head frames a)
   arrow_ordered head (Domain name ∷ frames) a h = (h.0, (h.2, h.1))
@@ -155,10 +170,12 @@ module _ (m : List Declaration) (in_order : IsModule m) where
 
   declares_ordered : (head : Head) (o : Option Tree) (p : ℕ) → IsOrdered (declares m head o p)
   declares_ordered head None p = tt
-  declares_ordered (TypeOf Symbol name) (Some t) p = if_ordered (nat_le (depth t) max_depth) (Goes (m ++ record { name = name; form = Symbol; ty = t; body = None } ∷ []) Between) p tt
+  declares_ordered (TypeOf Symbol name) (Some t) p =
+      if_ordered (nat_le (depth t) max_depth) (Goes (m ++ record { name = name; form = Symbol; ty = t; body = None } ∷ []) Between) p tt
   declares_ordered (TypeOf Def name) (Some t) p = tt
   declares_ordered (TypeOf Thm name) (Some t) p = tt
-  declares_ordered (BodyOf form name ty) (Some t) p = if_ordered (nat_le (depth t) max_depth) (Goes (m ++ record { name = name; form = form; ty = ty; body = Some t } ∷ []) Between) p tt
+  declares_ordered (BodyOf form name ty) (Some t) p =
+      if_ordered (nat_le (depth t) max_depth) (Goes (m ++ record { name = name; form = form; ty = ty; body = Some t } ∷ []) Between) p tt
 
   assigns_ordered : (head : Head) (o : Option Tree) (p : ℕ) → IsHead m head → ((u : Tree) → o ≡ Some u → IsUnder (length (signature ++ m)) 0 u)
       → IsOrdered (assigns m head o p)
@@ -171,13 +188,19 @@ module _ (m : List Declaration) (in_order : IsModule m) where
   applies_ordered : (head : Head) (frames : List Frame) (f : Option Tree) (p : ℕ) (token : Token) → IsState m (InApplication head frames f)
       → IsOrdered (applies m head frames f p token)
   applies_ordered head frames f p (Name name) h = atom_ordered head frames f p name (meaning m frames name) refl h
-  applies_ordered head frames f p TypeWord h = (h.0, h.1, argued-IsUnder (length (signature ++ m)) (length (scope_of frames)) f SortType h.2 (record { bound = omega arith; kindless = refl; known = omega arith }))
+  applies_ordered head frames f p TypeWord h = (
+    h.0,
+    h.1,
+    argued-IsUnder (length (signature ++ m)) (length (scope_of frames)) f SortType h.2
+        (record { bound = omega arith; kindless = refl; known = omega arith }),
+  )
   applies_ordered head frames f p LeftParen h = (h.0, (h.2, h.1))
   applies_ordered head frames (Some t) p RightParen h = encloses_ordered head frames t p h
   applies_ordered head frames (Some t) p Arrow h = arrow_ordered head frames t h
   applies_ordered head frames (Some t) p FatArrow h = fat_arrow_ordered head frames t p h
   applies_ordered head frames (Some t) p Dot h = declares_ordered head (whole frames t) p
-  applies_ordered head frames (Some t) p Assign h = assigns_ordered head (whole frames t) p h.0 (λ u e. whole-IsUnder (length (signature ++ m)) frames t u h.1 h.2 e)
+  applies_ordered head frames (Some t) p Assign h =
+      assigns_ordered head (whole frames t) p h.0 (λ u e. whole-IsUnder (length (signature ++ m)) frames t u h.1 h.2 e)
   applies_ordered head frames f p _ h = tt
 
   first_ordered : (head : Head) (frames : List Frame) (q : ℕ) (name : List ℕ) (p : ℕ) (token : Token) (o : Option Tree) → meaning m frames name ≡ o

@@ -14,12 +14,14 @@ use Rattle.lp_spec.specs.ReadingFaults.{Frame, Enclosing, Domain, Product, Abstr
 -- After a term t, or after what an application is so far, or after an application, these tokens go on to all declarations.
 mutual
   data Ends (m all : List Declaration) : Head → List Frame → Tree → List Placed → Type 0 where
-    ends_symbol : {name : List ℕ} {t : Tree} {p : ℕ} {rest : List Placed} → depth t ≤ max_depth → Completes (m ++ record { name = name; form = Symbol; ty = t; body = None } ∷ []) rest all → Ends m all (TypeOf Symbol name) [] t (at p Dot ∷ rest)
+    ends_symbol : {name : List ℕ} {t : Tree} {p : ℕ} {rest : List Placed} → depth t ≤ max_depth
+        → Completes (m ++ record { name = name; form = Symbol; ty = t; body = None } ∷ []) rest all → Ends m all (TypeOf Symbol name) [] t (at p Dot ∷ rest)
     ends_definition : {name : List ℕ} {t b : Tree} {p : ℕ} {tokens rest : List Placed} → depth t ≤ max_depth → Term m [] tokens rest b
         → Ends m all (BodyOf Def name t) [] b rest → Ends m all (TypeOf Def name) [] t (at p Assign ∷ tokens)
     ends_theorem : {name : List ℕ} {t b : Tree} {p : ℕ} {tokens rest : List Placed} → depth t ≤ max_depth → Term m [] tokens rest b
         → Ends m all (BodyOf Thm name t) [] b rest → Ends m all (TypeOf Thm name) [] t (at p Assign ∷ tokens)
-    ends_body : {form : Form} {name : List ℕ} {ty t : Tree} {p : ℕ} {rest : List Placed} → depth t ≤ max_depth → Completes (m ++ record { name = name; form = form; ty = ty; body = Some t } ∷ []) rest all → Ends m all (BodyOf form name ty) [] t (at p Dot ∷ rest)
+    ends_body : {form : Form} {name : List ℕ} {ty t : Tree} {p : ℕ} {rest : List Placed} → depth t ≤ max_depth
+        → Completes (m ++ record { name = name; form = form; ty = ty; body = Some t } ∷ []) rest all → Ends m all (BodyOf form name ty) [] t (at p Dot ∷ rest)
     ends_product : {head : Head} {frames : List Frame} {name : List ℕ} {a t : Tree} {tokens : List Placed} → Ends m all head frames (Pi a t) tokens
         → Ends m all head (Product name a ∷ frames) t tokens
     ends_abstraction : {head : Head} {frames : List Frame} {name : List ℕ} {a t : Tree} {tokens : List Placed} → Ends m all head frames (Lam a t) tokens
@@ -170,8 +172,10 @@ module _ (m all : List Declaration) where
   assigns_goes : (head : Head) (frames : List Frame) (t : Tree) (p : ℕ) (tokens : List Placed) → GoesFrom all (assigns m head (whole frames t) p) tokens
       → Ends m all head frames t (at p Assign ∷ tokens)
   assigns_goes (TypeOf Symbol name) [] t p tokens h = absurd h
-  assigns_goes (TypeOf Def name) [] t p tokens h = let r = shallow all t p (Goes m (AtTerm (BodyOf Def name t) [])) tokens (nat_le (depth t) max_depth) refl h in definition_goes r.0 r.1
-  assigns_goes (TypeOf Thm name) [] t p tokens h = let r = shallow all t p (Goes m (AtTerm (BodyOf Thm name t) [])) tokens (nat_le (depth t) max_depth) refl h in theorem_goes r.0 r.1
+  assigns_goes (TypeOf Def name) [] t p tokens h = let r =
+      shallow all t p (Goes m (AtTerm (BodyOf Def name t) [])) tokens (nat_le (depth t) max_depth) refl h in definition_goes r.0 r.1
+  assigns_goes (TypeOf Thm name) [] t p tokens h = let r =
+      shallow all t p (Goes m (AtTerm (BodyOf Thm name t) [])) tokens (nat_le (depth t) max_depth) refl h in theorem_goes r.0 r.1
   assigns_goes (BodyOf form name ty) [] t p tokens h = absurd h
   assigns_goes head (Enclosing f ∷ frames) t p tokens h = absurd h
   assigns_goes head (Domain name ∷ frames) t p tokens h = absurd h
@@ -225,7 +229,8 @@ module _ (m all : List Declaration) where
       → meaning m frames name ≡ o → GoesFrom all (goes_on m head frames q name o p token) tokens
       → Begun m all head frames (at q (Name name) ∷ at p token ∷ tokens)
   first_goes head frames q name p token tokens None e h = absurd h
-  first_goes head frames q name p token tokens (Some x) e h = begun_by (named_atom m frames name q (at p token ∷ tokens) x e) (applies_goes head frames (Some x) p token tokens h)
+  first_goes head frames q name p token tokens (Some x) e h =
+      begun_by (named_atom m frames name q (at p token ∷ tokens) x e) (applies_goes head frames (Some x) p token tokens h)
 
   key_goes : {form : Form} {name : List ℕ} {p : ℕ} {tokens : List Placed} → IsNew m name × Named m all form name tokens
       → Keyed m all form (at p (Name name) ∷ tokens)
@@ -241,14 +246,16 @@ module _ (m all : List Declaration) where
 
   definition_begun : {name : List ℕ} {o p q : ℕ} {tokens : List Placed} → IsNew m name → Begun m all (TypeOf Def name) [] tokens
       → Completes m (at o DefWord ∷ at p (Name name) ∷ at q Colon ∷ tokens) all
-  definition_begun new (term_then t (ends_definition d b (ends_body e h))) = next (definition new (record { term = t; shallow = d }) (record { term = b; shallow = e })) h
+  definition_begun new (term_then t (ends_definition d b (ends_body e h))) =
+      next (definition new (record { term = t; shallow = d }) (record { term = b; shallow = e })) h
 
   definition_keyed : {o : ℕ} {tokens : List Placed} → Keyed m all Def tokens → Completes m (at o DefWord ∷ tokens) all
   definition_keyed (name_then new (colon_then h)) = definition_begun new h
 
   theorem_begun : {name : List ℕ} {o p q : ℕ} {tokens : List Placed} → IsNew m name → Begun m all (TypeOf Thm name) [] tokens
       → Completes m (at o ThmWord ∷ at p (Name name) ∷ at q Colon ∷ tokens) all
-  theorem_begun new (term_then t (ends_theorem d b (ends_body e h))) = next (theorem new (record { term = t; shallow = d }) (record { term = b; shallow = e })) h
+  theorem_begun new (term_then t (ends_theorem d b (ends_body e h))) =
+      next (theorem new (record { term = t; shallow = d }) (record { term = b; shallow = e })) h
 
   theorem_keyed : {o : ℕ} {tokens : List Placed} → Keyed m all Thm tokens → Completes m (at o ThmWord ∷ tokens) all
   theorem_keyed (name_then new (colon_then h)) = theorem_begun new h

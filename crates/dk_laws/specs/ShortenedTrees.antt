@@ -37,7 +37,8 @@ short-IsShortFor m t s e =
     let found = position-Some (λ d. is_tree (short_body d) t) (signature ++ m) s none e in
     record {
       below = found.0;
-      for = ap (option_and_then short_body) (slice_get-get_or (signature ++ m) s none found.0) ∙ is_tree-Some (short_body (get_or (signature ++ m) s none)) t found.1;
+      for = ap (option_and_then short_body) (slice_get-get_or (signature ++ m) s none found.0)
+          ∙ is_tree-Some (short_body (get_or (signature ++ m) s none)) t found.1;
     }
 
 module _ (m : List Declaration) where
@@ -52,9 +53,12 @@ module _ (m : List Declaration) where
   expanded-shortened SortKind h = by_name-expanded SortKind SortKind (short m SortKind) refl refl
   expanded-shortened (Var n) h = by_name-expanded (Var n) (Var n) (short m (Var n)) refl refl
   expanded-shortened (Sym s) h = by_name-expanded (Sym s) (Sym s) (short m (Sym s)) refl (ap (λ o. unwrap_or o (Sym s)) h)
-  expanded-shortened (App f x) h = by_name-expanded (App f x) (App (shortened m f) (shortened m x)) (short m (App f x)) refl (ap₂ App (expanded-shortened f h.0) (expanded-shortened x h.1))
-  expanded-shortened (Lam a b) h = by_name-expanded (Lam a b) (Lam (shortened m a) (shortened m b)) (short m (Lam a b)) refl (ap₂ Lam (expanded-shortened a h.0) (expanded-shortened b h.1))
-  expanded-shortened (Pi a b) h = by_name-expanded (Pi a b) (Pi (shortened m a) (shortened m b)) (short m (Pi a b)) refl (ap₂ Pi (expanded-shortened a h.0) (expanded-shortened b h.1))
+  expanded-shortened (App f x) h = by_name-expanded (App f x) (App (shortened m f) (shortened m x)) (short m (App f x)) refl
+      (ap₂ App (expanded-shortened f h.0) (expanded-shortened x h.1))
+  expanded-shortened (Lam a b) h = by_name-expanded (Lam a b) (Lam (shortened m a) (shortened m b)) (short m (Lam a b)) refl
+      (ap₂ Lam (expanded-shortened a h.0) (expanded-shortened b h.1))
+  expanded-shortened (Pi a b) h = by_name-expanded (Pi a b) (Pi (shortened m a) (shortened m b)) (short m (Pi a b)) refl
+      (ap₂ Pi (expanded-shortened a h.0) (expanded-shortened b h.1))
 
   both_kindless : (f x g y : Bool) → (IsFalse f → IsFalse g) → (IsFalse x → IsFalse y) → IsFalse (f || x) → IsFalse (g || y)
   both_kindless false false g y h k e = or_from g y (h refl) (k refl)

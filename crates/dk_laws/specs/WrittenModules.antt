@@ -42,8 +42,10 @@ module _ (m ds : List Declaration) where
       → Says (λ tokens rest. IsWhole ds tokens rest t) (short_text t)
   whole_said n t o l h =
       let k = shortened-IsNoMore ds t in
-      let w : IsWritable m ds 0 (shortened ds t) = record { bound = omega (arith, k.bound, o.closed); kindless = k.kindless o.kindless; known = k.known o.known; few = omega (arith, k.shallow, h) } in
-      found_as m ds (λ tokens rest a. record { term = subst (Term ds [] tokens rest) (expanded-shortened ds t l) a; shallow = h }) (tree_said m ds n 0 (shortened ds t) w).term
+      let w : IsWritable m ds 0 (shortened ds t) =
+      record { bound = omega (arith, k.bound, o.closed); kindless = k.kindless o.kindless; known = k.known o.known; few = omega (arith, k.shallow, h) } in
+      found_as m ds (λ tokens rest a. record { term = subst (Term ds [] tokens rest) (expanded-shortened ds t l) a; shallow = h })
+      (tree_said m ds n 0 (shortened ds t) w).term
 
   symbol_parts : (name ty rest : List ℕ) → [] ++ name ++ codes " : " ++ ty ++ [] ++ codes ".\n" ++ rest ≡ name ++ (32 ∷ 58 ∷ 32 ∷ (ty ++ (46 ∷ 10 ∷ rest)))
   symbol_parts name ty rest = simp (append_assoc, append-nil)
@@ -53,7 +55,8 @@ module _ (m ds : List Declaration) where
     front : Front
     colon : ℕ
     place : ℕ
-    is : tokens_from p (name ++ (32 ∷ 58 ∷ 32 ∷ (short_text t ++ rest))) ≡ put (λ tokens. at p (Name name) ∷ at colon Colon ∷ front tokens) (tokens_from place rest)
+    is : tokens_from p (name ++ (32 ∷ 58 ∷ 32 ∷ (short_text t ++ rest)))
+        ≡ put (λ tokens. at p (Name name) ∷ at colon Colon ∷ front tokens) (tokens_from place rest)
     holds : (tokens : List Placed) → IsWhole ds (front tokens) tokens t
 
   typed_at : (name : List ℕ) (t : Tree) (p : ℕ) (rest : List ℕ) → IsPlainName name → Says (λ tokens rest. IsWhole ds tokens rest t) (short_text t) → IsStop rest
@@ -73,7 +76,10 @@ module _ (m ds : List Declaration) where
       }
 
   -- what is read of a declaration's text
-  symbol_found : (name : List ℕ) (ty : Tree) (p : ℕ) (rest : List ℕ) → IsPlainName name → IsNew ds name → Says (λ tokens rest. IsWhole ds tokens rest ty) (short_text ty) → Found (λ tokens rest. Declares ds tokens rest (record { name = name; form = Symbol; ty = ty; body = None })) p ([] ++ name ++ codes " : " ++ short_text ty ++ [] ++ codes ".\n") rest
+  symbol_found : (name : List ℕ) (ty : Tree) (p : ℕ) (rest : List ℕ) → IsPlainName name → IsNew ds name
+      → Says (λ tokens rest. IsWhole ds tokens rest ty) (short_text ty)
+      → Found (λ tokens rest. Declares ds tokens rest (record { name = name; form = Symbol; ty = ty; body = None })) p
+      ([] ++ name ++ codes " : " ++ short_text ty ++ [] ++ codes ".\n") rest
   symbol_found name ty p rest plain new h =
       let r = typed_at name ty p (46 ∷ 10 ∷ rest) plain h refl in
       record {
@@ -118,12 +124,17 @@ module _ (m ds : List Declaration) where
         body_holds = s.holds;
       }
 
-  definition_parts : (name ty body rest : List ℕ) → codes "def " ++ name ++ codes " : " ++ ty ++ (codes " := " ++ body) ++ codes ".\n" ++ rest ≡ codes "def" ++ (32 ∷ (name ++ (32 ∷ 58 ∷ 32 ∷ (ty ++ (32 ∷ 58 ∷ 61 ∷ 32 ∷ (body ++ (46 ∷ 10 ∷ rest)))))))
+  definition_parts : (name ty body rest : List ℕ) → codes "def " ++ name ++ codes " : " ++ ty ++ (codes " := " ++ body) ++ codes ".\n" ++ rest ≡ codes "def"
+      ++ (32 ∷ (name ++ (32 ∷ 58 ∷ 32 ∷ (ty ++ (32 ∷ 58 ∷ 61 ∷ 32 ∷ (body ++ (46 ∷ 10 ∷ rest)))))))
   definition_parts name ty body rest = grouped (codes "def ") name (codes " : ") ty (codes " := ") body (codes ".\n") rest
 
-  definition_found : (name : List ℕ) (ty body : Tree) (p : ℕ) (rest : List ℕ) → IsPlainName name → IsNew ds name → Says (λ tokens rest. IsWhole ds tokens rest ty) (short_text ty) → Says (λ tokens rest. IsWhole ds tokens rest body) (short_text body) → Found (λ tokens rest. Declares ds tokens rest (record { name = name; form = Def; ty = ty; body = Some body })) p (codes "def " ++ name ++ codes " : " ++ short_text ty ++ (codes " := " ++ short_text body) ++ codes ".\n") rest
+  definition_found : (name : List ℕ) (ty body : Tree) (p : ℕ) (rest : List ℕ) → IsPlainName name → IsNew ds name
+      → Says (λ tokens rest. IsWhole ds tokens rest ty) (short_text ty) → Says (λ tokens rest. IsWhole ds tokens rest body) (short_text body)
+      → Found (λ tokens rest. Declares ds tokens rest (record { name = name; form = Def; ty = ty; body = Some body })) p
+      (codes "def " ++ name ++ codes " : " ++ short_text ty ++ (codes " := " ++ short_text body) ++ codes ".\n") rest
   definition_found name ty body p rest plain new h k =
-      let w = word_at p (codes "def") (32 ∷ (name ++ (32 ∷ 58 ∷ 32 ∷ (short_text ty ++ (32 ∷ 58 ∷ 61 ∷ 32 ∷ (short_text body ++ (46 ∷ 10 ∷ rest))))))) (record { first = 100; more = codes "ef"; is = refl; letter = refl; bytes = refl }) refl in
+      let w = word_at p (codes "def") (32 ∷ (name ++ (32 ∷ 58 ∷ 32 ∷ (short_text ty ++ (32 ∷ 58 ∷ 61 ∷ 32 ∷ (short_text body ++ (46 ∷ 10 ∷ rest)))))))
+      (record { first = 100; more = codes "ef"; is = refl; letter = refl; bytes = refl }) refl in
       let r = bodied_at name ty body (w.place + 1) rest plain h k in
       record {
         front = λ tokens. at p DefWord ∷ at (w.place + 1) (Name name) ∷ at r.colon Colon ∷ r.front (at r.assign Assign ∷ r.between (at r.dot Dot ∷ tokens));
@@ -132,24 +143,35 @@ module _ (m ds : List Declaration) where
         holds = λ tokens. definition new (r.ty_holds (at r.assign Assign ∷ r.between (at r.dot Dot ∷ tokens))) (r.body_holds (at r.dot Dot ∷ tokens));
       }
 
-  theorem_parts : (number name ty body rest : List ℕ) → codes "(; bound " ++ number ++ codes " ;)\nthm " ++ name ++ codes " : " ++ ty ++ (codes " := " ++ body) ++ codes ".\n" ++ rest ≡ codes "(; bound " ++ (number ++ (codes " ;)\n" ++ (codes "thm" ++ (32 ∷ (name ++ (32 ∷ 58 ∷ 32 ∷ (ty ++ (32 ∷ 58 ∷ 61 ∷ 32 ∷ (body ++ (46 ∷ 10 ∷ rest))))))))))
-  theorem_parts number name ty body rest = grouped_after (codes "(; bound ") number (codes " ;)\nthm ") name (codes " : ") ty (codes " := ") body (codes ".\n") rest
+  theorem_parts : (number name ty body rest : List ℕ) → codes "(; bound " ++ number ++ codes " ;)\nthm " ++ name ++ codes " : " ++ ty ++ (codes " := " ++ body)
+      ++ codes ".\n" ++ rest ≡ codes "(; bound "
+      ++ (number ++ (codes " ;)\n" ++ (codes "thm" ++ (32 ∷ (name ++ (32 ∷ 58 ∷ 32 ∷ (ty ++ (32 ∷ 58 ∷ 61 ∷ 32 ∷ (body ++ (46 ∷ 10 ∷ rest))))))))))
+  theorem_parts number name ty body rest = grouped_after (codes "(; bound ") number (codes " ;)\nthm ") name (codes " : ") ty (codes " := ") body (codes ".\n")
+      rest
 
-  theorem_found : (bound : ℕ) (name : List ℕ) (ty body : Tree) (p : ℕ) (rest : List ℕ) → IsPlainName name → IsNew ds name → Says (λ tokens rest. IsWhole ds tokens rest ty) (short_text ty) → Says (λ tokens rest. IsWhole ds tokens rest body) (short_text body) → Found (λ tokens rest. Declares ds tokens rest (record { name = name; form = Thm; ty = ty; body = Some body })) p (codes "(; bound " ++ decimal bound ++ codes " ;)\nthm " ++ name ++ codes " : " ++ short_text ty ++ (codes " := " ++ short_text body) ++ codes ".\n") rest
+  theorem_found : (bound : ℕ) (name : List ℕ) (ty body : Tree) (p : ℕ) (rest : List ℕ) → IsPlainName name → IsNew ds name
+      → Says (λ tokens rest. IsWhole ds tokens rest ty) (short_text ty) → Says (λ tokens rest. IsWhole ds tokens rest body) (short_text body)
+      → Found (λ tokens rest. Declares ds tokens rest (record { name = name; form = Thm; ty = ty; body = Some body })) p
+      (codes "(; bound " ++ decimal bound ++ codes " ;)\nthm " ++ name ++ codes " : " ++ short_text ty ++ (codes " := " ++ short_text body) ++ codes ".\n") rest
   theorem_found bound name ty body p rest plain new h k =
       let more = 32 ∷ (name ++ (32 ∷ 58 ∷ 32 ∷ (short_text ty ++ (32 ∷ 58 ∷ 61 ∷ 32 ∷ (short_text body ++ (46 ∷ 10 ∷ rest)))))) in
       let c = bound_scan p (decimal bound) (codes "thm" ++ more) (decimal-bytes bound) in
       let w = word_at c.place (codes "thm") more (record { first = 116; more = codes "hm"; is = refl; letter = refl; bytes = refl }) refl in
       let r = bodied_at name ty body (w.place + 1) rest plain h k in
       record {
-        front = λ tokens. at c.place ThmWord ∷ at (w.place + 1) (Name name) ∷ at r.colon Colon ∷ r.front (at r.assign Assign ∷ r.between (at r.dot Dot ∷ tokens));
+        front = λ tokens. at c.place ThmWord ∷ at (w.place + 1) (Name name) ∷ at r.colon Colon ∷ r.front
+            (at r.assign Assign ∷ r.between (at r.dot Dot ∷ tokens));
         place = r.place;
-        is = ap (tokens_from p) (theorem_parts (decimal bound) name (short_text ty) (short_text body) rest) ∙ c.is ∙ w.is ∙ ap (before (at c.place ThmWord ∷ [])) r.is;
+        is = ap (tokens_from p) (theorem_parts (decimal bound) name (short_text ty) (short_text body) rest) ∙ c.is ∙ w.is
+            ∙ ap (before (at c.place ThmWord ∷ [])) r.is;
         holds = λ tokens. theorem new (r.ty_holds (at r.assign Assign ∷ r.between (at r.dot Dot ∷ tokens))) (r.body_holds (at r.dot Dot ∷ tokens));
       }
 
   -- what is read of any declaration's text
-  by_form : AreNamed m ds → (form : Form) (name : List ℕ) (ty : Tree) (body : Option Tree) (bound p : ℕ) (rest : List ℕ) → IsPlainName name → IsNew ds name → Says (λ tokens rest. IsWhole ds tokens rest ty) (short_text ty) → IsBodyOver (length (signature ++ ds)) form body → IsBodyLong ds body → IsBodyShallow body → Found (λ tokens rest. Declares ds tokens rest (record { name = name; form = form; ty = ty; body = body })) p (declaration_text m (shortened_declaration ds (record { name = name; form = form; ty = ty; body = body })) bound) rest
+  by_form : AreNamed m ds → (form : Form) (name : List ℕ) (ty : Tree) (body : Option Tree) (bound p : ℕ) (rest : List ℕ) → IsPlainName name → IsNew ds name
+      → Says (λ tokens rest. IsWhole ds tokens rest ty) (short_text ty) → IsBodyOver (length (signature ++ ds)) form body → IsBodyLong ds body
+      → IsBodyShallow body → Found (λ tokens rest. Declares ds tokens rest (record { name = name; form = form; ty = ty; body = body })) p
+      (declaration_text m (shortened_declaration ds (record { name = name; form = form; ty = ty; body = body })) bound) rest
   by_form n Symbol name ty None bound p rest plain new h o l k = symbol_found name ty p rest plain new h
   by_form n Symbol name ty (Some t) bound p rest plain new h o l k = absurd (cc)
   by_form n Def name ty None bound p rest plain new h o l k = absurd o
@@ -201,7 +223,8 @@ NewNames before (d ∷ ds) = IsFalse (is_declared before d.name) × NewNames (be
 
 distinct_after : (before ds : List Declaration) → AreDistinct before → NewNames before ds → AreDistinct (before ++ ds)
 distinct_after before [] h n = subst AreDistinct (sym (append-nil before)) h
-distinct_after before (d ∷ ds) h n = subst AreDistinct (append_assoc before (d ∷ []) ds) (distinct_after (before ++ d ∷ []) ds (distinct_push before d h n.0) n.1)
+distinct_after before (d ∷ ds) h n = subst AreDistinct (append_assoc before (d ∷ []) ds)
+    (distinct_after (before ++ d ∷ []) ds (distinct_push before d h n.0) n.1)
 
 signature_distinct : AreDistinct signature
 signature_distinct =
@@ -213,7 +236,8 @@ first_place : (ds : List Declaration) (s : ℕ) → AreDistinct ds → s < lengt
 first_place ds s h within =
     let name = (get_or ds s no_declaration).name in
     let e : position_or_len (λ (d : Declaration). bytes_eq d.name name) ds ≡ s =
-    position_or_len_is (λ (d : Declaration). bytes_eq d.name name) ds s no_declaration (omega arith) (λ k below. h.each k s below within) (λ w. (bytes_eq-Decides name name).1 refl) in
+    position_or_len_is (λ (d : Declaration). bytes_eq d.name name) ds s no_declaration (omega arith) (λ k below. h.each k s below within)
+    (λ w. (bytes_eq-Decides name name).1 refl) in
     let t : nat_lt s (length ds) ≡ true = grind (arith, common_steps) in
     ap (λ i. cond (nat_lt i (length ds)) (Some i) None) e ∙ ap (λ b. cond b (Some s) None) t
 
@@ -257,7 +281,19 @@ signature_plain = (
                       safe_plain (codes "app_thm") refl refl,
                       (
                         safe_plain (codes "prop_ext") refl refl,
-                        (safe_plain (codes "eq_mp") refl refl, (safe_plain (codes "sub") refl refl, (safe_plain (codes "sub_abs") refl refl, (safe_plain (codes "sub_rep") refl refl, (safe_plain (codes "sub_abs_rep") refl refl, (safe_plain (codes "sub_rep_abs") refl refl, tt)))))),
+                        (
+                          safe_plain (codes "eq_mp") refl refl,
+                          (
+                            safe_plain (codes "sub") refl refl,
+                            (
+                              safe_plain (codes "sub_abs") refl refl,
+                              (
+                                safe_plain (codes "sub_rep") refl refl,
+                                (safe_plain (codes "sub_abs_rep") refl refl, (safe_plain (codes "sub_rep_abs") refl refl, tt)),
+                              ),
+                            ),
+                          ),
+                        ),
                       ),
                     ),
                   ),
@@ -318,11 +354,13 @@ read_after m ds d p text more f h =
 read_rest : (m ds rest : List Declaration) (bounds : List ℕ) → m ≡ ds ++ rest → AreDistinct (signature ++ ds) → ArePlain (signature ++ ds) → ArePlain rest
     → AreShallow rest → AreLong ds rest → AreDeclared (signature ++ ds) rest → length bounds ≡ length rest → (p : ℕ)
     → IsRead p (declarations_text m (shortened_after ds rest) bounds) ds m
-read_rest m ds [] bounds e h k plain shallow long f size p = record { place = p; whole = refl; declares = subst (Completes ds []) (sym (e ∙ append-nil ds)) complete }
+read_rest m ds [] bounds e h k plain shallow long f size p =
+    record { place = p; whole = refl; declares = subst (Completes ds []) (sym (e ∙ append-nil ds)) complete }
 read_rest m ds (d ∷ rest) [] e h k plain shallow long f size p = absurd (omega (arith, size))
 read_rest m ds (d ∷ rest) (bound ∷ bounds) e h k plain shallow long f size p =
     read_after m ds d p (declaration_text m (shortened_declaration ds d) bound) (declarations_text m (shortened_after (ds ++ d ∷ []) rest) bounds)
-    (declaration_found m ds (named_in m ds (d ∷ rest) e h k) d bound p (declarations_text m (shortened_after (ds ++ d ∷ []) rest) bounds) plain.0 f.0 long.0 long.1 shallow.0 shallow.1)
+    (declaration_found m ds (named_in m ds (d ∷ rest) e h k) d bound p (declarations_text m (shortened_after (ds ++ d ∷ []) rest) bounds) plain.0 f.0 long.0
+    long.1 shallow.0 shallow.1)
     (read_rest m (ds ++ d ∷ []) rest bounds (e ∙ sym (append_assoc ds (d ∷ []) rest))
     (subst AreDistinct (append_assoc signature ds (d ∷ [])) (distinct_push (signature ++ ds) d h f.0.new_name))
     (subst ArePlain (append_assoc signature ds (d ∷ [])) (plain_append (signature ++ ds) (d ∷ []) k (plain.0, tt)))
@@ -334,5 +372,6 @@ read_rest m ds (d ∷ rest) (bound ∷ bounds) e h k plain shallow long f size p
 pub written_reads : WrittenReads
 written_reads m bounds f long plain shallow size =
     let r = read_rest m [] m bounds refl signature_distinct signature_plain plain shallow long f size (length prelude) in
-    let read : Reads (written m bounds) m = record { text = declarations_text m (shortened_after [] m) bounds; begins = refl; place = r.place; whole = r.whole; declares = r.declares } in
+    let read : Reads (written m bounds) m = record
+    { text = declarations_text m (shortened_after [] m) bounds; begins = refl; place = r.place; whole = r.whole; declares = r.declares } in
     record { read = read; only = λ other h. cc (Reads-answer (written m bounds) other h, Reads-answer (written m bounds) m read) }

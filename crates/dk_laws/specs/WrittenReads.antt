@@ -39,16 +39,20 @@ module _ (m ds : List Declaration) where
     pub few : d + depth t ≤ 2 ^ 32
 
   writable_function : {d : ℕ} (f x : Tree) → IsWritable d (App f x) → IsWritable d f
-  writable_function f x w = record { bound = omega (arith, w.bound); kindless = grind (arith, w.kindless); known = omega (arith, w.known); few = omega (arith, w.few) }
+  writable_function f x w = record
+      { bound = omega (arith, w.bound); kindless = grind (arith, w.kindless); known = omega (arith, w.known); few = omega (arith, w.few) }
 
   writable_argument : {d : ℕ} (f x : Tree) → IsWritable d (App f x) → IsWritable d x
-  writable_argument f x w = record { bound = omega (arith, w.bound); kindless = grind (arith, w.kindless); known = omega (arith, w.known); few = omega (arith, w.few) }
+  writable_argument f x w = record
+      { bound = omega (arith, w.bound); kindless = grind (arith, w.kindless); known = omega (arith, w.known); few = omega (arith, w.few) }
 
   writable_domain : {d : ℕ} (a b : Tree) → IsWritable d (Pi a b) → IsWritable d a
-  writable_domain a b w = record { bound = omega (arith, w.bound); kindless = grind (arith, w.kindless); known = omega (arith, w.known); few = omega (arith, w.few) }
+  writable_domain a b w = record
+      { bound = omega (arith, w.bound); kindless = grind (arith, w.kindless); known = omega (arith, w.known); few = omega (arith, w.few) }
 
   writable_body : {d : ℕ} (a b : Tree) → IsWritable d (Pi a b) → IsWritable (suc d) b
-  writable_body a b w = record { bound = omega (arith, w.bound); kindless = grind (arith, w.kindless); known = omega (arith, w.known); few = omega (arith, w.few) }
+  writable_body a b w = record
+      { bound = omega (arith, w.bound); kindless = grind (arith, w.kindless); known = omega (arith, w.known); few = omega (arith, w.few) }
 
   writable_product : {d : ℕ} (a b : Tree) → IsWritable d (Lam a b) → IsWritable d (Pi a b)
   writable_product a b w = record { bound = w.bound; kindless = w.kindless; known = w.known; few = w.few }
@@ -56,7 +60,8 @@ module _ (m ds : List Declaration) where
   -- what is read of a text at some place
   pub found_as : {K L : List Placed → List Placed → Type 0} {text : List ℕ} → ((tokens rest : List Placed) → K tokens rest → L tokens rest) → Says K text
       → Says L text
-  found_as f h p rest stop = let r = h p rest stop in record { front = r.front; place = r.place; is = r.is; holds = λ tokens. f (r.front tokens) tokens (r.holds tokens) }
+  found_as f h p rest stop = let r = h p rest stop in record
+      { front = r.front; place = r.place; is = r.is; holds = λ tokens. f (r.front tokens) tokens (r.holds tokens) }
 
   -- a tree's text is read as a term, and as an application or an atom where it is none with binders, or a single word
   pub record IsSaid (d : ℕ) (t : Tree) : Type 0 where
@@ -112,7 +117,8 @@ module _ (m ds : List Declaration) where
   domain_says false text o h term = h refl
 
   -- a tree of one word
-  word_said : {d : ℕ} {t : Tree} → IsOpener (tree_text m d t) → Says (λ tokens rest. Atom ds (binders d) tokens rest (expanded ds t)) (tree_text m d t) → IsSaid d t
+  word_said : {d : ℕ} {t : Tree} → IsOpener (tree_text m d t) → Says (λ tokens rest. Atom ds (binders d) tokens rest (expanded ds t)) (tree_text m d t)
+      → IsSaid d t
   word_said o h = record {
     opener = o;
     term = found_as (λ tokens rest a. plain (application a none)) h;
@@ -190,13 +196,15 @@ module _ (m ds : List Declaration) where
       word_said {d = d} {t = Var n} (word_opener w) (name_says (binder_name (d - suc n)) w refl (λ p rest. variable (binder_found d n h small)))
 
   symbol_said : (d s : ℕ) → IsNamed s → IsSaid d (Sym s)
-  symbol_said d s h = word_said {d = d} {t = Sym s} (word_opener h.plain.word) (name_says (symbol_name m s) h.plain.word h.plain.no_key (λ p rest. symbol (binder_missed d (symbol_name m s) h.plain) h.found))
+  symbol_said d s h = word_said {d = d} {t = Sym s} (word_opener h.plain.word)
+      (name_says (symbol_name m s) h.plain.word h.plain.no_key (λ p rest. symbol (binder_missed d (symbol_name m s) h.plain) h.found))
 
   -- an application
   apart_by_space : (f x rest : List ℕ) → f ++ codes " " ++ x ++ rest ≡ f ++ (32 ∷ (x ++ rest))
   apart_by_space f x rest = simp append_assoc
 
-  application_says : {scope : Scope} {f x : Tree} (one two : List ℕ) → Says (λ tokens rest. Application ds scope tokens rest f) one → Says (λ tokens rest. Atom ds scope tokens rest x) two → Says (λ tokens rest. Application ds scope tokens rest (App f x)) (one ++ codes " " ++ two)
+  application_says : {scope : Scope} {f x : Tree} (one two : List ℕ) → Says (λ tokens rest. Application ds scope tokens rest f) one
+      → Says (λ tokens rest. Atom ds scope tokens rest x) two → Says (λ tokens rest. Application ds scope tokens rest (App f x)) (one ++ codes " " ++ two)
   application_says one two h k p rest stop =
       let r = h p (32 ∷ (two ++ rest)) refl in
       let s = k (r.place + 1) rest stop in
@@ -215,7 +223,9 @@ module _ (m ds : List Declaration) where
       → name ++ codes " : " ++ domain ++ sign ++ body ++ rest ≡ name ++ (32 ∷ 58 ∷ 32 ∷ (domain ++ (sign ++ (body ++ rest))))
   binder_parts name domain sign body rest = simp append_assoc
 
-  product_says : (d : ℕ) {a b : Tree} (one two : List ℕ) → Says (λ tokens rest. Application ds (binders d) tokens rest a) one → Says (λ tokens rest. Term ds (binders (suc d)) tokens rest b) two → Says (λ tokens rest. Term ds (binders d) tokens rest (Pi a b)) (binder_name d ++ codes " : " ++ one ++ codes " -> " ++ two)
+  product_says : (d : ℕ) {a b : Tree} (one two : List ℕ) → Says (λ tokens rest. Application ds (binders d) tokens rest a) one
+      → Says (λ tokens rest. Term ds (binders (suc d)) tokens rest b) two
+      → Says (λ tokens rest. Term ds (binders d) tokens rest (Pi a b)) (binder_name d ++ codes " : " ++ one ++ codes " -> " ++ two)
   product_says d one two h k p rest stop =
       let w = word_at p (binder_name d) (32 ∷ 58 ∷ 32 ∷ (one ++ (codes " -> " ++ (two ++ rest)))) (binder_name-IsWordText d) refl in
       let r = h (w.place + 1 + 1 + 1) (codes " -> " ++ (two ++ rest)) refl in
@@ -232,7 +242,9 @@ module _ (m ds : List Declaration) where
         holds = λ tokens. product (r.holds (at (r.place + 1) Arrow ∷ s.front tokens)) (s.holds tokens);
       }
 
-  abstraction_says : (d : ℕ) {a b : Tree} (one two : List ℕ) → Says (λ tokens rest. Application ds (binders d) tokens rest a) one → Says (λ tokens rest. Term ds (binders (suc d)) tokens rest b) two → Says (λ tokens rest. Term ds (binders d) tokens rest (Lam a b)) (binder_name d ++ codes " : " ++ one ++ codes " => " ++ two)
+  abstraction_says : (d : ℕ) {a b : Tree} (one two : List ℕ) → Says (λ tokens rest. Application ds (binders d) tokens rest a) one
+      → Says (λ tokens rest. Term ds (binders (suc d)) tokens rest b) two
+      → Says (λ tokens rest. Term ds (binders d) tokens rest (Lam a b)) (binder_name d ++ codes " : " ++ one ++ codes " => " ++ two)
   abstraction_says d one two h k p rest stop =
       let w = word_at p (binder_name d) (32 ∷ 58 ∷ 32 ∷ (one ++ (codes " => " ++ (two ++ rest)))) (binder_name-IsWordText d) refl in
       let r = h (w.place + 1 + 1 + 1) (codes " => " ++ (two ++ rest)) refl in
@@ -272,8 +284,14 @@ module _ (m ds : List Declaration) where
       let one = tree_said n d a (writable_domain a b (writable_product a b w)) in
       let two = tree_said n (suc d) b (writable_body a b (writable_product a b w)) in
       record {
-        opener = record { first = 118; more = decimal d ++ codes " : " ++ enclosed (is_binder a) (tree_text m d a) ++ codes " => " ++ tree_text m (suc d) b; is = refl; other = refl };
-        term = abstraction_says d (enclosed (is_binder a) (tree_text m d a)) (tree_text m (suc d) b) (domain_says (is_binder a) (tree_text m d a) one.opener one.as_application one.term) two.term;
+        opener = record {
+          first = 118;
+          more = decimal d ++ codes " : " ++ enclosed (is_binder a) (tree_text m d a) ++ codes " => " ++ tree_text m (suc d) b;
+          is = refl;
+          other = refl;
+        };
+        term = abstraction_says d (enclosed (is_binder a) (tree_text m d a)) (tree_text m (suc d) b)
+            (domain_says (is_binder a) (tree_text m d a) one.opener one.as_application one.term) two.term;
         as_application = λ e. absurd (cc);
         as_atom = λ e. absurd (cc);
       }
@@ -281,8 +299,14 @@ module _ (m ds : List Declaration) where
       let one = tree_said n d a (writable_domain a b w) in
       let two = tree_said n (suc d) b (writable_body a b w) in
       record {
-        opener = record { first = 118; more = decimal d ++ codes " : " ++ enclosed (is_binder a) (tree_text m d a) ++ codes " -> " ++ tree_text m (suc d) b; is = refl; other = refl };
-        term = product_says d (enclosed (is_binder a) (tree_text m d a)) (tree_text m (suc d) b) (domain_says (is_binder a) (tree_text m d a) one.opener one.as_application one.term) two.term;
+        opener = record {
+          first = 118;
+          more = decimal d ++ codes " : " ++ enclosed (is_binder a) (tree_text m d a) ++ codes " -> " ++ tree_text m (suc d) b;
+          is = refl;
+          other = refl;
+        };
+        term = product_says d (enclosed (is_binder a) (tree_text m d a)) (tree_text m (suc d) b)
+            (domain_says (is_binder a) (tree_text m d a) one.opener one.as_application one.term) two.term;
         as_application = λ e. absurd (cc);
         as_atom = λ e. absurd (cc);
       }

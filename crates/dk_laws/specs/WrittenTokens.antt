@@ -61,13 +61,16 @@ close_at p text = scan-goes (at p RightParen ∷ []) Nothing (p + 1) text
 pub colon_at : (p : ℕ) (text : List ℕ) → tokens_from p (32 ∷ 58 ∷ 32 ∷ text) ≡ put (λ tokens. at (p + 1) Colon ∷ tokens) (tokens_from (p + 1 + 1 + 1) text)
 colon_at p text = scan-goes (at (p + 1) Colon ∷ []) Nothing (p + 1 + 1 + 1) text
 
-pub assign_at : (p : ℕ) (text : List ℕ) → tokens_from p (32 ∷ 58 ∷ 61 ∷ 32 ∷ text) ≡ put (λ tokens. at (p + 1) Assign ∷ tokens) (tokens_from (p + 1 + 1 + 1 + 1) text)
+pub assign_at : (p : ℕ) (text : List ℕ) → tokens_from p (32 ∷ 58 ∷ 61 ∷ 32 ∷ text)
+    ≡ put (λ tokens. at (p + 1) Assign ∷ tokens) (tokens_from (p + 1 + 1 + 1 + 1) text)
 assign_at p text = refl
 
-pub arrow_at : (p : ℕ) (text : List ℕ) → tokens_from p (32 ∷ 45 ∷ 62 ∷ 32 ∷ text) ≡ put (λ tokens. at (p + 1) Arrow ∷ tokens) (tokens_from (p + 1 + 1 + 1 + 1) text)
+pub arrow_at : (p : ℕ) (text : List ℕ) → tokens_from p (32 ∷ 45 ∷ 62 ∷ 32 ∷ text)
+    ≡ put (λ tokens. at (p + 1) Arrow ∷ tokens) (tokens_from (p + 1 + 1 + 1 + 1) text)
 arrow_at p text = refl
 
-pub fat_arrow_at : (p : ℕ) (text : List ℕ) → tokens_from p (32 ∷ 61 ∷ 62 ∷ 32 ∷ text) ≡ put (λ tokens. at (p + 1) FatArrow ∷ tokens) (tokens_from (p + 1 + 1 + 1 + 1) text)
+pub fat_arrow_at : (p : ℕ) (text : List ℕ) → tokens_from p (32 ∷ 61 ∷ 62 ∷ 32 ∷ text)
+    ≡ put (λ tokens. at (p + 1) FatArrow ∷ tokens) (tokens_from (p + 1 + 1 + 1 + 1) text)
 fat_arrow_at p text = refl
 
 pub dot_at : (p : ℕ) (text : List ℕ) → tokens_from p (46 ∷ 10 ∷ text) ≡ put (λ tokens. at p Dot ∷ tokens) (tokens_from (p + 1 + 1) text)
@@ -86,7 +89,8 @@ word_ended q word p b text e =
 -- and one that goes on with it
 word_longer : (q : ℕ) (word : List ℕ) (p b : ℕ) (text : List ℕ) → is_word_byte b ≡ true
     → scan (goes [] (InWord q word)) p (b ∷ text) ≡ scan (goes [] (InWord q (word ++ b ∷ []))) (p + 1) text
-word_longer q word p b text e = ap (λ (c : Bool). scan (if c then goes [] (InWord q (word ++ b ∷ [])) else after (at q (word_token word)) (begins p b)) (p + 1) text) e
+word_longer q word p b text e = ap
+    (λ (c : Bool). scan (if c then goes [] (InWord q (word ++ b ∷ [])) else after (at q (word_token word)) (begins p b)) (p + 1) text) e
 
 -- the place behind a word and the tokens from there
 pub record WordScan (q : ℕ) (word : List ℕ) (p : ℕ) (text rest : List ℕ) : Type 0 where
@@ -95,13 +99,15 @@ pub record WordScan (q : ℕ) (word : List ℕ) (p : ℕ) (text rest : List ℕ)
 
 word_scan : (q : ℕ) (word : List ℕ) (p : ℕ) (text rest : List ℕ) → list_all is_word_byte text ≡ true → IsStop rest → WordScan q word p text rest
 word_scan q word p [] [] e h = absurd h
-word_scan q word p [] (b ∷ rest) e h = record { place = p; is = word_ended q word p b rest h ∙ ap (λ w. before (at q (word_token w) ∷ []) (tokens_from p (b ∷ rest))) (sym (append-nil word)) }
+word_scan q word p [] (b ∷ rest) e h = record
+    { place = p; is = word_ended q word p b rest h ∙ ap (λ w. before (at q (word_token w) ∷ []) (tokens_from p (b ∷ rest))) (sym (append-nil word)) }
 word_scan q word p (b ∷ text) rest e h =
     let t = and_parts (is_word_byte b) (list_all is_word_byte text) e in
     let r = word_scan q (word ++ b ∷ []) (p + 1) text rest t.1 h in
     record {
       place = r.place;
-      is = word_longer q word p b (text ++ rest) t.0 ∙ r.is ∙ ap (λ w. before (at q (word_token w) ∷ []) (tokens_from r.place rest)) (append_assoc word (b ∷ []) text);
+      is = word_longer q word p b (text ++ rest) t.0 ∙ r.is
+          ∙ ap (λ w. before (at q (word_token w) ∷ []) (tokens_from r.place rest)) (append_assoc word (b ∷ []) text);
     }
 
 letter_apart : (b : ℕ) → is_letter b ≡ true → is_space b ≡ false
@@ -168,7 +174,8 @@ digits_bytes (suc k) n acc h =
     let glyph = digit_glyph false (n % 10) in
     let small : n % 10 < 10 = omega arith in
     let here = glyph_byte (n % 10) small in
-    digits_step (n / 10 == 0) glyph acc (digits_onto k 10 false (n / 10) (glyph ∷ acc)) here h (digits_bytes k (n / 10) (glyph ∷ acc) (and_from (is_digit_byte glyph) (list_all is_digit_byte acc) here h))
+    digits_step (n / 10 == 0) glyph acc (digits_onto k 10 false (n / 10) (glyph ∷ acc)) here h
+    (digits_bytes k (n / 10) (glyph ∷ acc) (and_from (is_digit_byte glyph) (list_all is_digit_byte acc) here h))
 
 -- the digits of a number are word bytes, and no `;`
 pub decimal-bytes : (n : ℕ) → list_all is_digit_byte (decimal n) ≡ true
@@ -197,4 +204,8 @@ pub bound_scan : (p : ℕ) (number rest : List ℕ) → list_all is_digit_byte n
 bound_scan p number rest e =
     let start = p + 1 + 1 + 1 + 1 + 1 + 1 + 1 + 1 + 1 in
     let r = comment_scan p start number (codes " ;)\n" ++ rest) e in
-    record { place = r.place + 1 + 1 + 1 + 1; is = before-nil (scan (goes [] (InComment p)) start (number ++ (codes " ;)\n" ++ rest))) ∙ r.is ∙ before-nil (tokens_from (r.place + 1 + 1 + 1 + 1) rest) }
+    record {
+      place = r.place + 1 + 1 + 1 + 1;
+      is =
+          before-nil (scan (goes [] (InComment p)) start (number ++ (codes " ;)\n" ++ rest))) ∙ r.is ∙ before-nil (tokens_from (r.place + 1 + 1 + 1 + 1) rest);
+    }

@@ -27,7 +27,9 @@ cut_reads n (reading.Refused r) m h = absurd (cc (h))
 cut_reads n (reading.Opening p wanted) m h = absurd (cc (h))
 cut_reads n (reading.Inside p pending d s) m h = long_reads n (reading.cut_token d s pending) m h
 
-limited : (n : ℕ) (text : List ℕ) (b : Bool) (m : List Declaration) → (if b then reading.answer text else reading.cut_at n (reading.read_bytes reading.unread (take n text))) ≡ reading.reads m → reading.answer text ≡ reading.reads m
+limited : (n : ℕ) (text : List ℕ) (b : Bool) (m : List Declaration)
+    → (if b then reading.answer text else reading.cut_at n (reading.read_bytes reading.unread (take n text))) ≡ reading.reads m → reading.answer text
+    ≡ reading.reads m
 limited n text true m h = h
 limited n text false m h = absurd (cut_reads n (reading.read_bytes reading.unread (take n text)) m h)
 
@@ -35,7 +37,8 @@ read_by : (limit : Option ℕ) (text : List ℕ) (m : List Declaration) → read
 read_by None text m h = h
 read_by (Some n) text m h = limited n text (nat_le (length text) n) m h
 
-kept_within : (n : ℕ) (text : List ℕ) (b : Bool) (m : List Declaration) → nat_le (length text) n ≡ b → (if b then reading.answer text else reading.cut_at n (reading.read_bytes reading.unread (take n text))) ≡ reading.reads m → length text ≤ n
+kept_within : (n : ℕ) (text : List ℕ) (b : Bool) (m : List Declaration) → nat_le (length text) n ≡ b
+    → (if b then reading.answer text else reading.cut_at n (reading.read_bytes reading.unread (take n text))) ≡ reading.reads m → length text ≤ n
 kept_within n text true m e h = grind (arith, common_steps, e)
 kept_within n text false m e h = absurd (cut_reads n (reading.read_bytes reading.unread (take n text)) m h)
 
@@ -68,7 +71,8 @@ read_is a m (Err (fault.Refused p k)) e h = absurd (cc (e, h.is))
 read_is a m (Err fault.Memory) e h = refl
 
 pub text_accepted : (r : Reading) (result : Result Module DkFault) → EndsWith r result → Accepts r result
-text_accepted r result h = λ text m fed within reads. read_is (reading.answer_within r.limit text) m result (within_answer r.limit text within ∙ Reads-answer text m reads) (h text fed)
+text_accepted r result h = λ text m fed within reads. read_is (reading.answer_within r.limit text) m result
+    (within_answer r.limit text within ∙ Reads-answer text m reads) (h text fed)
 
 -- no fault of an answer without a limit is the text's length
 kind_is : (k : DkKind) (f : reading.Fault) → fault_of k ≡ f → unlimited.IsOfText f → IsNoLength k
@@ -79,9 +83,11 @@ refusal_is : (a : reading.Answer) (r : reading.Refusal) → a ≡ reading.refuse
 refusal_is a r e h = subst unlimited.AnswersByText e h
 
 refuses_unlimited : (text : List ℕ) (limit : Option ℕ) (p : ℕ) (k : DkKind) → limit ≡ None → Refuses (reading.answer_within limit text) p k → IsNoLength k
-refuses_unlimited text limit p k e h = kind_is k h.r.fault h.fault (refusal_is (reading.answer text) h.r (ap (λ l. reading.answer_within l text) (sym e) ∙ h.is) (unlimited.answer_text text))
+refuses_unlimited text limit p k e h = kind_is k h.r.fault h.fault
+    (refusal_is (reading.answer text) h.r (ap (λ l. reading.answer_within l text) (sym e) ∙ h.is) (unlimited.answer_text text))
 
-ends_unlimited : (text : List ℕ) (limit : Option ℕ) (result : Result Module DkFault) → limit ≡ None → Ends (reading.answer_within limit text) result → IsNotTooLong result
+ends_unlimited : (text : List ℕ) (limit : Option ℕ) (result : Result Module DkFault) → limit ≡ None → Ends (reading.answer_within limit text) result
+    → IsNotTooLong result
 ends_unlimited text limit (Ok m) e h = tt
 ends_unlimited text limit (Err (fault.Refused p k)) e h = refuses_unlimited text limit p k e h
 ends_unlimited text limit (Err fault.Memory) e h = tt
@@ -90,19 +96,22 @@ pub never_too_long : (r : Reading) (result : Result Module DkFault) → EndsWith
 never_too_long r result h = λ text fed free. ends_unlimited text r.limit result free (h text fed)
 
 -- what a piece is answered with
-refused_reads : (limit : Option ℕ) (text : List ℕ) (p : ℕ) (k : DkKind) (m : List Declaration) → Refuses (reading.answer_within limit text) p k → IsWithin limit text → Reads text m → ⊥
+refused_reads : (limit : Option ℕ) (text : List ℕ) (p : ℕ) (k : DkKind) (m : List Declaration) → Refuses (reading.answer_within limit text) p k
+    → IsWithin limit text → Reads text m → ⊥
 refused_reads limit text p k m h within reads =
     let is : reading.answer_within limit text ≡ reading.reads m = within_answer limit text within ∙ Reads-answer text m reads in
     absurd (cc (is, h.is))
 
-hopeless : (limit : Option ℕ) (text : List ℕ) (p : ℕ) (k : DkKind) → ((more : List ℕ) → Refuses (reading.answer_within limit (text ++ more)) p k) → IsHopeless limit text p k
+hopeless : (limit : Option ℕ) (text : List ℕ) (p : ℕ) (k : DkKind) → ((more : List ℕ) → Refuses (reading.answer_within limit (text ++ more)) p k)
+    → IsHopeless limit text p k
 hopeless limit text p k h = record { refuses = h; unread = λ more m within reads. refused_reads limit (text ++ more) p k m (h more) within reads }
 
 answered_fault : (f e : DkFault) (p : ℕ) (k : DkKind) → e ≡ fault.Refused p k → Answers (Some f) (Err e) → f ≡ fault.Refused p k
 answered_fault f e p k is (inl same) = cc (is, same)
 answered_fault f e p k is (inr (memory, named)) = absurd (cc (is, memory))
 
-judged : (limit : Option ℕ) (new : Reading) (o : Option DkFault) (text : List ℕ) (result : Result (Unit {0}) DkFault) → new.limit ≡ limit → new.fault ≡ o → IsFed new text → Answers o result → IsJudged limit text result
+judged : (limit : Option ℕ) (new : Reading) (o : Option DkFault) (text : List ℕ) (result : Result (Unit {0}) DkFault) → new.limit ≡ limit → new.fault ≡ o
+    → IsFed new text → Answers o result → IsJudged limit text result
 judged limit new None text (Ok u) l e fed h = subst (λ w. IsWithin w text) l (subst (λ w. fed_with w new text) e fed).1
 judged limit new None text (Err f) l e fed h = absurd h
 judged limit new (Some g) text (Ok u) l e fed h = absurd h
@@ -112,7 +121,8 @@ judged limit new (Some g) text (Err (fault.Refused p k)) l e fed h =
     let refuses : (more : List ℕ) → Refuses (reading.answer_within new.limit (text ++ more)) p k = subst (λ w. fed_with w new text) (e ∙ ap Some is) fed in
     hopeless limit text p k (subst (λ w. (more : List ℕ) → Refuses (reading.answer_within w (text ++ more)) p k) l refuses)
 
-pub piece_judged : (old new : Reading) (piece : List ℕ) (result : Result (Unit {0}) DkFault) → new.limit ≡ old.limit → Feeds old piece new → Answers new.fault result → Judges old piece result
+pub piece_judged : (old new : Reading) (piece : List ℕ) (result : Result (Unit {0}) DkFault) → new.limit ≡ old.limit → Feeds old piece new
+    → Answers new.fault result → Judges old piece result
 piece_judged old new piece result l feeds h = λ text fed. judged old.limit new new.fault (text ++ piece) result l refl (feeds text fed) h
 
 judged_unlimited : (limit : Option ℕ) (text : List ℕ) (result : Result (Unit {0}) DkFault) → limit ≡ None → IsJudged limit text result → IsNotTooLong result

@@ -47,7 +47,8 @@ module _ (m : Module) (ns : List Named) (z : ℕ) (vs : Atoms) (b : ℕ) (h : He
   plain_scope (frame.Abstraction n a w) p = absurd p
 
   -- a frame of no binder opens
-  pub plain_in : (f : Frame) → IsPlain f → IsFrameKnown m.table ns (signature ++ declarations_of m) (reading.scope_of (frames_in m.table ns fs)) f → IsSoundIn m ns z vs b h fs → IsSoundIn m ns z vs b h (f ∷ fs)
+  pub plain_in : (f : Frame) → IsPlain f → IsFrameKnown m.table ns (signature ++ declarations_of m) (reading.scope_of (frames_in m.table ns fs)) f
+      → IsSoundIn m ns z vs b h fs → IsSoundIn m ns z vs b h (f ∷ fs)
   plain_in f p k s =
       let e = plain_scope f p in
       record {
@@ -90,15 +91,24 @@ module _ (m : Module) (ns : List Named) (z : ℕ) (vs : Atoms) (b : ℕ) (h : He
     outer-Keeps k = ap reading.scope_of (frames_in-Keeps m.table m.table (Keeps-refl m.table) ns ms j ds fs k)
 
     -- a binder opens
-    pub bind_in : (f : Frame) (a : LpId) (w : Meaning) → ((ts : List Tree) (l : List Named) (scope : Scope) → IsBinding ts l ds scope n a w → IsFrameKnown ts l ds scope f) → ((l : List Named) → reading.scope_of (frames_in m.table l (f ∷ fs)) ≡ name_at l n ∷ reading.scope_of (frames_in m.table l fs)) → n < length ns → a.0 < length m.table → w ≡ looked ns (name_at ns n) → Puts ns (name_at ns n) (meaning.Binder b) ms → IsSoundIn m ns z vs b h fs → IsSoundIn m ms z vs (b + 1) h (f ∷ fs)
+    pub bind_in : (f : Frame) (a : LpId) (w : Meaning)
+        → ((ts : List Tree) (l : List Named) (scope : Scope) → IsBinding ts l ds scope n a w → IsFrameKnown ts l ds scope f)
+        → ((l : List Named) → reading.scope_of (frames_in m.table l (f ∷ fs)) ≡ name_at l n ∷ reading.scope_of (frames_in m.table l fs)) → n < length ns
+        → a.0 < length m.table → w ≡ looked ns (name_at ns n) → Puts ns (name_at ns n) (meaning.Binder b) ms → IsSoundIn m ns z vs b h fs
+        → IsSoundIn m ms z vs (b + 1) h (f ∷ fs)
     bind_in f a w known scope name domain hidden puts s =
         let same = outer-Keeps s.frames in
         let one : reading.scope_of (frames_in m.table ms (f ∷ fs)) ≡ name_at ns n ∷ outer = scope ms ∙ cc (j.stays n name, same) in
-        let binding : IsBinding m.table ms ds outer n a w = IsBinding-Keeps m.table m.table (Keeps-refl m.table) ns ms j ds outer n a w (record { name = name; domain = domain; hides = hidden ∙ s.meanings (name_at ns n) }) in
+        let binding : IsBinding m.table ms ds outer n a w =
+        IsBinding-Keeps m.table m.table (Keeps-refl m.table) ns ms j ds outer n a w
+        (record { name = name; domain = domain; hides = hidden ∙ s.meanings (name_at ns n) }) in
         record {
           held = s.held;
           is_module = s.is_module;
-          frames = (subst (λ c. IsFrameKnown m.table ms ds c f) (sym same) (known m.table ms outer binding), AreFramesKnown-Keeps m.table m.table (Keeps-refl m.table) ns ms j ds fs s.frames);
+          frames = (
+            subst (λ c. IsFrameKnown m.table ms ds c f) (sym same) (known m.table ms outer binding),
+            AreFramesKnown-Keeps m.table m.table (Keeps-refl m.table) ns ms j ds fs s.frames,
+          );
           head = IsHeadKnown-Keeps m.table m.table (Keeps-refl m.table) ns ms j h s.head;
           meanings = λ x.
               puts.each x
@@ -112,11 +122,13 @@ module _ (m : Module) (ns : List Named) (z : ℕ) (vs : Atoms) (b : ℕ) (h : He
         }
 
     -- and closes: its name means again what it hid
-    out_by : (f : Frame) (w : Meaning) (b2 : ℕ) (x : List ℕ) (t : Bool) → bytes_eq x (name_at ns n) ≡ t → w ≡ bound ds outer (name_at ns n) → looked ns x ≡ bound ds (name_at ns n ∷ outer) x → (if t then w else looked ns x) ≡ bound ds outer x
+    out_by : (f : Frame) (w : Meaning) (b2 : ℕ) (x : List ℕ) (t : Bool) → bytes_eq x (name_at ns n) ≡ t → w ≡ bound ds outer (name_at ns n) → looked ns x
+        ≡ bound ds (name_at ns n ∷ outer) x → (if t then w else looked ns x) ≡ bound ds outer x
     out_by f w b2 x true e hides means = hides ∙ ap (bound ds outer) (sym (same_text x (name_at ns n) (sym e)))
     out_by f w b2 x false e hides means = means ∙ ap (λ (c : Bool). if c then meaning.Binder (length outer) else bound ds outer x) e
 
-    pub bind_out : (f : Frame) (a : LpId) (w : Meaning) → IsBinding m.table ns ds outer n a w → reading.scope_of (frames_in m.table ns (f ∷ fs)) ≡ name_at ns n ∷ outer → Puts ns (name_at ns n) w ms → IsSoundIn m ns z vs b h (f ∷ fs) → IsSoundIn m ms z vs (b - 1) h fs
+    pub bind_out : (f : Frame) (a : LpId) (w : Meaning) → IsBinding m.table ns ds outer n a w → reading.scope_of (frames_in m.table ns (f ∷ fs))
+        ≡ name_at ns n ∷ outer → Puts ns (name_at ns n) w ms → IsSoundIn m ns z vs b h (f ∷ fs) → IsSoundIn m ms z vs (b - 1) h fs
     bind_out f a w binding one puts s =
         let same = outer-Keeps s.frames.1 in
         let depth : b - 1 ≡ length outer = omega (arith, s.depth, ap length one) in
@@ -136,16 +148,19 @@ module _ (m : Module) (ns : List Named) (z : ℕ) (vs : Atoms) (b : ℕ) (h : He
         }
 
 -- the meaning of a symbol's name where one more symbol is declared
-last_of_one : (k : ℕ) (t : Bool) → symbol_meaning (option_map (λ n. k + n) (cond t (Some 0) (option_map suc None))) ≡ (if t then meaning.Symbol k else meaning.Nothing)
+last_of_one : (k : ℕ) (t : Bool) → symbol_meaning (option_map (λ n. k + n) (cond t (Some 0) (option_map suc None)))
+    ≡ (if t then meaning.Symbol k else meaning.Nothing)
 last_of_one k true = ap meaning.Symbol (omega arith)
 last_of_one k false = refl
 
 module _ (p : Declaration → Bool) where
-  last_by : (ds : List Declaration) (d : Declaration) (o : Option ℕ) → first p ds ≡ o → symbol_meaning (first p (ds ++ d ∷ [])) ≡ first_meaning (symbol_meaning o) (if p d then meaning.Symbol (length ds) else meaning.Nothing)
+  last_by : (ds : List Declaration) (d : Declaration) (o : Option ℕ) → first p ds ≡ o → symbol_meaning (first p (ds ++ d ∷ []))
+      ≡ first_meaning (symbol_meaning o) (if p d then meaning.Symbol (length ds) else meaning.Nothing)
   last_by ds d (Some n) e = ap symbol_meaning (first-append-Some p ds (d ∷ []) n e)
   last_by ds d None e = ap symbol_meaning (first-append-None p ds (d ∷ []) e) ∙ last_of_one (length ds) (p d)
 
-  pub position_last : (ds : List Declaration) (d : Declaration) → symbol_meaning (position p (ds ++ d ∷ [])) ≡ first_meaning (symbol_meaning (position p ds)) (if p d then meaning.Symbol (length ds) else meaning.Nothing)
+  pub position_last : (ds : List Declaration) (d : Declaration) → symbol_meaning (position p (ds ++ d ∷ []))
+      ≡ first_meaning (symbol_meaning (position p ds)) (if p d then meaning.Symbol (length ds) else meaning.Nothing)
   position_last ds d =
       ap symbol_meaning (position-first p (ds ++ d ∷ [])) ∙ last_by ds d (first p ds) refl
       ∙ ap (λ o. first_meaning (symbol_meaning o) (if p d then meaning.Symbol (length ds) else meaning.Nothing)) (sym (position-first p ds))
@@ -165,26 +180,35 @@ first_nothing meaning.Nothing = refl
 first_nothing (meaning.Symbol s) = refl
 first_nothing (meaning.Binder d) = refl
 
-module _ (m m2 : Module) (ns ms : List Named) (z : ℕ) (vs : Atoms) (b : ℕ) (h : Head) (j : naming.Keeps ns ms) (n : ℕ) (d : Declaration) (is : d.name ≡ name_at ns n) where
-  declared_by : (x : List ℕ) (t : Bool) (v : Meaning) → bytes_eq x (name_at ns n) ≡ t → IsFalse (is_declared (signature ++ declarations_of m) d.name) → v ≡ bound (signature ++ declarations_of m) [] x
+module _ (m m2 : Module) (ns ms : List Named) (z : ℕ) (vs : Atoms) (b : ℕ) (h : Head) (j : naming.Keeps ns ms) (n : ℕ) (d : Declaration)
+    (is : d.name ≡ name_at ns n) where
+  declared_by : (x : List ℕ) (t : Bool) (v : Meaning) → bytes_eq x (name_at ns n) ≡ t → IsFalse (is_declared (signature ++ declarations_of m) d.name) → v
+      ≡ bound (signature ++ declarations_of m) [] x
       → (if t then meaning.Symbol (length (signature ++ declarations_of m)) else v) ≡ bound ((signature ++ declarations_of m) ++ d ∷ []) [] x
   declared_by x true v e new f =
       let same : x ≡ d.name = same_text x (name_at ns n) (sym e) ∙ sym is in
-      let none : position (λ y. bytes_eq y.name x) (signature ++ declarations_of m) ≡ None = position_none (λ y. bytes_eq y.name x) (signature ++ declarations_of m) (subst (λ w. is_declared (signature ++ declarations_of m) w ≡ false) (sym same) new) in
+      let none : position (λ y. bytes_eq y.name x) (signature ++ declarations_of m) ≡ None =
+      position_none (λ y. bytes_eq y.name x) (signature ++ declarations_of m)
+      (subst (λ w. is_declared (signature ++ declarations_of m) w ≡ false) (sym same) new) in
       let here : bytes_eq d.name x ≡ true = subst (λ w. bytes_eq d.name w ≡ true) (sym same) (bytes_eq-refl d.name) in
       sym (position_last (λ y. bytes_eq y.name x) (signature ++ declarations_of m) d
-      ∙ ap (λ o. first_meaning (symbol_meaning o) (if bytes_eq d.name x then meaning.Symbol (length (signature ++ declarations_of m)) else meaning.Nothing)) none
+      ∙ ap (λ o. first_meaning (symbol_meaning o) (if bytes_eq d.name x then meaning.Symbol (length (signature ++ declarations_of m)) else meaning.Nothing))
+      none
       ∙ ap (λ (c : Bool). if c then meaning.Symbol (length (signature ++ declarations_of m)) else meaning.Nothing) here)
   declared_by x false v e new f =
       let past : bytes_eq d.name x ≡ false = ap (λ w. bytes_eq w x) is ∙ bytes_eq-symm (name_at ns n) x ∙ e in
       f ∙ sym (position_last (λ y. bytes_eq y.name x) (signature ++ declarations_of m) d
-      ∙ ap (λ (c : Bool). first_meaning (symbol_meaning (position (λ y. bytes_eq y.name x) (signature ++ declarations_of m))) (if c then meaning.Symbol (length (signature ++ declarations_of m)) else meaning.Nothing)) past
+      ∙ ap (λ (c : Bool). first_meaning (symbol_meaning (position (λ y. bytes_eq y.name x) (signature ++ declarations_of m)))
+      (if c then meaning.Symbol (length (signature ++ declarations_of m)) else meaning.Nothing)) past
       ∙ first_nothing (symbol_meaning (position (λ y. bytes_eq y.name x) (signature ++ declarations_of m))))
 
   -- a declaration ends
-  pub declared_in : m2.table ≡ m.table → IsHeld m2 → IsModule (declarations_of m2) → declarations_of m2 ≡ declarations_of m ++ d ∷ [] → IsFalse (is_declared (signature ++ declarations_of m) d.name) → (s : ℕ) → s ≡ length (signature ++ declarations_of m) → Puts ns (name_at ns n) (meaning.Symbol s) ms → IsSoundIn m ns z vs b h [] → IsSoundIn m2 ms z vs b h []
+  pub declared_in : m2.table ≡ m.table → IsHeld m2 → IsModule (declarations_of m2) → declarations_of m2 ≡ declarations_of m ++ d ∷ []
+      → IsFalse (is_declared (signature ++ declarations_of m) d.name) → (s : ℕ) → s ≡ length (signature ++ declarations_of m)
+      → Puts ns (name_at ns n) (meaning.Symbol s) ms → IsSoundIn m ns z vs b h [] → IsSoundIn m2 ms z vs b h []
   declared_in table held module_is declared new s number puts k =
-      let all : signature ++ declarations_of m2 ≡ (signature ++ declarations_of m) ++ d ∷ [] = ap (λ l. signature ++ l) declared ∙ sym (append_assoc signature (declarations_of m) (d ∷ [])) in
+      let all : signature ++ declarations_of m2 ≡ (signature ++ declarations_of m) ++ d ∷ [] =
+      ap (λ l. signature ++ l) declared ∙ sym (append_assoc signature (declarations_of m) (d ∷ [])) in
       record {
         held = held;
         is_module = module_is;
@@ -216,17 +240,22 @@ split_last (x ∷ xs) new f e h =
     ap reverse (last_split x xs f (ap (slice_get (x ∷ xs)) (sym at) ∙ h) ∙ ap (λ k. take k (x ∷ xs) ++ f ∷ []) (sym at) ∙ ap (λ l. l ++ f ∷ []) (sym e))
     ∙ reverse_last new f
 
-pub popped : (old new seen : List Frame) (k : ℕ) (f : Frame) → seen ≡ old → k ≡ length old → new ≡ take (k - 1) old → slice_get seen (length seen - 1) ≡ Some f → reverse old ≡ f ∷ reverse new
+pub popped : (old new seen : List Frame) (k : ℕ) (f : Frame) → seen ≡ old → k ≡ length old → new ≡ take (k - 1) old → slice_get seen (length seen - 1) ≡ Some f
+    → reverse old ≡ f ∷ reverse new
 popped old new seen k f same count e h =
     split_last old new f (e ∙ ap (λ i. take (i - 1) old) count) (ap (λ l. slice_get l (length l - 1)) (sym same) ∙ h)
 
 -- a binder that closes leaves the frames outside
-pub binds_out : (ts : List Tree) (ns ms : List Named) (j : naming.Keeps ns ms) (ds : List Declaration) (fs all : List Frame) (f : Frame) (b : Binder) (name : List ℕ) → frame_in ts ns f ≡ bound_frame ts b name → AreFramesKnown ts ns ds fs → all ≡ f ∷ fs → Binds (frames_in ts ns all) ts b (frames_in ts ms fs)
+pub binds_out : (ts : List Tree) (ns ms : List Named) (j : naming.Keeps ns ms) (ds : List Declaration) (fs all : List Frame) (f : Frame) (b : Binder)
+    (name : List ℕ) → frame_in ts ns f ≡ bound_frame ts b name → AreFramesKnown ts ns ds fs → all ≡ f ∷ fs
+    → Binds (frames_in ts ns all) ts b (frames_in ts ms fs)
 binds_out ts ns ms j ds fs all f b name e k same = record {
   name = name;
-  is = ap (frames_in ts ns) same ∙ ap (λ x. x ∷ frames_in ts ns fs) e ∙ ap (λ l. bound_frame ts b name ∷ l) (sym (frames_in-Keeps ts ts (Keeps-refl ts) ns ms j ds fs k));
+  is = ap (frames_in ts ns) same ∙ ap (λ x. x ∷ frames_in ts ns fs) e
+      ∙ ap (λ l. bound_frame ts b name ∷ l) (sym (frames_in-Keeps ts ts (Keeps-refl ts) ns ms j ds fs k));
 }
 
 -- and one that opens adds its own
-pub binds_in : (ts : List Tree) (ns ms : List Named) (j : naming.Keeps ns ms) (ds : List Declaration) (fs all : List Frame) (f : Frame) (x : reading.Frame) → frame_in ts ms f ≡ x → AreFramesKnown ts ns ds fs → all ≡ f ∷ fs → frames_in ts ms all ≡ x ∷ frames_in ts ns fs
+pub binds_in : (ts : List Tree) (ns ms : List Named) (j : naming.Keeps ns ms) (ds : List Declaration) (fs all : List Frame) (f : Frame) (x : reading.Frame)
+    → frame_in ts ms f ≡ x → AreFramesKnown ts ns ds fs → all ≡ f ∷ fs → frames_in ts ms all ≡ x ∷ frames_in ts ns fs
 binds_in ts ns ms j ds fs all f x e k same = ap (frames_in ts ms) same ∙ cc (e, frames_in-Keeps ts ts (Keeps-refl ts) ns ms j ds fs k)

@@ -53,8 +53,10 @@ module _ (old new : List Tree) (k : Keeps old new) (ns ms : List Named) (j : nam
   IsHeadKnown-Keeps (head.TypeOf form n) h = omega (arith, j.longer, h)
   IsHeadKnown-Keeps (head.BodyOf form n ty) h = (omega (arith, j.longer, h.0), omega (arith, k.longer, h.1))
 
-  pub IsBinding-Keeps : (ds : List Declaration) (scope : Scope) (n : ℕ) (a : LpId) (w : Meaning) → IsBinding old ns ds scope n a w → IsBinding new ms ds scope n a w
-  IsBinding-Keeps ds scope n a w h = record { name = omega (arith, j.longer, h.name); domain = omega (arith, k.longer, h.domain); hides = h.hides ∙ ap (bound ds scope) (sym (j.stays n h.name)) }
+  pub IsBinding-Keeps : (ds : List Declaration) (scope : Scope) (n : ℕ) (a : LpId) (w : Meaning) → IsBinding old ns ds scope n a w
+      → IsBinding new ms ds scope n a w
+  IsBinding-Keeps ds scope n a w h = record
+      { name = omega (arith, j.longer, h.name); domain = omega (arith, k.longer, h.domain); hides = h.hides ∙ ap (bound ds scope) (sym (j.stays n h.name)) }
 
   IsFrameKnown-Keeps : (ds : List Declaration) (scope : Scope) (f : Frame) → IsFrameKnown old ns ds scope f → IsFrameKnown new ms ds scope f
   IsFrameKnown-Keeps ds scope (frame.Enclosing f) h = IsIdKnown-Keeps f h
@@ -64,8 +66,11 @@ module _ (old new : List Tree) (k : Keeps old new) (ns ms : List Named) (j : nam
 
   pub AreFramesKnown-Keeps : (ds : List Declaration) (fs : List Frame) → AreFramesKnown old ns ds fs → AreFramesKnown new ms ds fs
   AreFramesKnown-Keeps ds [] h = tt
-  AreFramesKnown-Keeps ds (f ∷ fs) h =
-      (subst (λ s. IsFrameKnown new ms ds (reading.scope_of s) f) (sym (frames_in-Keeps ds fs h.1)) (IsFrameKnown-Keeps ds (reading.scope_of (frames_in old ns fs)) f h.0), AreFramesKnown-Keeps ds fs h.1)
+  AreFramesKnown-Keeps ds (f ∷ fs) h = (
+    subst (λ s. IsFrameKnown new ms ds (reading.scope_of s) f) (sym (frames_in-Keeps ds fs h.1))
+        (IsFrameKnown-Keeps ds (reading.scope_of (frames_in old ns fs)) f h.0),
+    AreFramesKnown-Keeps ds fs h.1,
+  )
 
 -- kept numbers stay those of their trees
 AreOf-Keeps : (tree : ℕ → Tree) (old new : List Tree) → Keeps old new → (ids : List LpId) → AreOf tree old ids → AreOf tree new ids
@@ -81,22 +86,27 @@ push_at [] id x (suc n) e = absurd (cc)
 push_at (v ∷ vs) id x zero e = inl e
 push_at (v ∷ vs) id x (suc n) e = elim (push_at vs id x n e) [ inl f ↦ inl f | inr f ↦ inr (ap suc f.0, f.1) ]
 
-pub AreOf-push : (tree : ℕ → Tree) (trees : List Tree) (ids : List LpId) (id : LpId) → AreOf tree trees ids → Holds trees id.0 (tree (length ids)) → AreOf tree trees (ids ++ id ∷ [])
-AreOf-push tree trees ids id h k = λ n x e. elim (push_at ids id x n e) [ inl f ↦ h n x f | inr f ↦ subst (λ (y : LpId). Holds trees y.0 (tree n)) f.1 (subst (λ i. Holds trees id.0 (tree i)) (sym f.0) k) ]
+pub AreOf-push : (tree : ℕ → Tree) (trees : List Tree) (ids : List LpId) (id : LpId) → AreOf tree trees ids → Holds trees id.0 (tree (length ids))
+    → AreOf tree trees (ids ++ id ∷ [])
+AreOf-push tree trees ids id h k = λ n x e. elim (push_at ids id x n e)
+    [ inl f ↦ h n x f | inr f ↦ subst (λ (y : LpId). Holds trees y.0 (tree n)) f.1 (subst (λ i. Holds trees id.0 (tree i)) (sym f.0) k) ]
 
 -- one more place for a symbol, and a place that is filled
 pub AreOfSymbols-push : (trees : List Tree) (ids : List (Option LpId)) → AreOfSymbols trees ids → AreOfSymbols trees (ids ++ None ∷ [])
 AreOfSymbols-push trees ids h = λ n x e. elim (push_at ids None (Some x) n e) [ inl f ↦ h n x f | inr f ↦ absurd (let g = f.1 in cc) ]
 
-set_at : (ids : List (Option LpId)) (k n : ℕ) (id x : LpId) → slice_get (slice_set ids k (Some id)) n ≡ Some (Some x) → (slice_get ids n ≡ Some (Some x)) ⊎ ((n ≡ k) × (id ≡ x))
+set_at : (ids : List (Option LpId)) (k n : ℕ) (id x : LpId) → slice_get (slice_set ids k (Some id)) n ≡ Some (Some x) → (slice_get ids n ≡ Some (Some x))
+    ⊎ ((n ≡ k) × (id ≡ x))
 set_at [] k n id x e = inl e
 set_at (v ∷ ids) zero zero id x e = inr (refl, same_Some id x (same_Some (Some id) (Some x) e))
 set_at (v ∷ ids) zero (suc n) id x e = inl e
 set_at (v ∷ ids) (suc k) zero id x e = inl e
 set_at (v ∷ ids) (suc k) (suc n) id x e = elim (set_at ids k n id x e) [ inl f ↦ inl f | inr f ↦ inr (ap suc f.0, f.1) ]
 
-pub AreOfSymbols-set : (trees : List Tree) (ids : List (Option LpId)) (k : ℕ) (id : LpId) → AreOfSymbols trees ids → Holds trees id.0 (Sym k) → AreOfSymbols trees (slice_set ids k (Some id))
-AreOfSymbols-set trees ids k id h at = λ n x e. elim (set_at ids k n id x e) [ inl f ↦ h n x f | inr f ↦ subst (λ (y : LpId). Holds trees y.0 (Sym n)) f.1 (subst (λ i. Holds trees id.0 (Sym i)) (sym f.0) at) ]
+pub AreOfSymbols-set : (trees : List Tree) (ids : List (Option LpId)) (k : ℕ) (id : LpId) → AreOfSymbols trees ids → Holds trees id.0 (Sym k)
+    → AreOfSymbols trees (slice_set ids k (Some id))
+AreOfSymbols-set trees ids k id h at = λ n x e. elim (set_at ids k n id x e)
+    [ inl f ↦ h n x f | inr f ↦ subst (λ (y : LpId). Holds trees y.0 (Sym n)) f.1 (subst (λ i. Holds trees id.0 (Sym i)) (sym f.0) at) ]
 
 -- the node that is read from a place stands there
 pub unwrap_or-at : (o : Option (Option LpId)) (id : LpId) → Some id ≡ unwrap_or o None → o ≡ Some (Some id)
@@ -110,7 +120,9 @@ slice_get-slice_set (v ∷ ids) zero x few = refl
 slice_get-slice_set (v ∷ ids) (suc n) x few = slice_get-slice_set ids n x (omega arith)
 
 -- the same reading over a table or names that have grown
-pub grown_in : (m : Module) (new : List Tree) (ns ms : List Named) (z : ℕ) (vs : Atoms) (b : ℕ) (h : Head) (fs : List Frame) → Keeps m.table new → naming.Keeps ns ms → ((x : List ℕ) → looked ms x ≡ looked ns x) → IsSoundIn m ns z vs b h fs → IsSoundIn (record { table = new; decls = m.decls }) ms z vs b h fs
+pub grown_in : (m : Module) (new : List Tree) (ns ms : List Named) (z : ℕ) (vs : Atoms) (b : ℕ) (h : Head) (fs : List Frame) → Keeps m.table new
+    → naming.Keeps ns ms → ((x : List ℕ) → looked ms x ≡ looked ns x) → IsSoundIn m ns z vs b h fs
+    → IsSoundIn (record { table = new; decls = m.decls }) ms z vs b h fs
 grown_in m new ns ms z vs b h fs k j same s =
     let ds = signature ++ declarations_of m in
     let one : signature ++ declarations_of (record { table = new; decls = m.decls }) ≡ ds = ap (λ l. signature ++ l) (declarations_of-Keeps m new k s.held) in
@@ -120,15 +132,27 @@ grown_in m new ns ms z vs b h fs k j same s =
       is_module = subst IsModule (sym (declarations_of-Keeps m new k s.held)) s.is_module;
       frames = subst (λ l. AreFramesKnown new ms l fs) (sym one) (AreFramesKnown-Keeps m.table new k ns ms j ds fs s.frames);
       head = IsHeadKnown-Keeps m.table new k ns ms j h s.head;
-      meanings = λ x. same x ∙ s.meanings x ∙ ap (λ l. bound l (reading.scope_of (frames_in m.table ns fs)) x) (sym one) ∙ ap (λ l. bound (signature ++ declarations_of (record { table = new; decls = m.decls })) (reading.scope_of l) x) (sym frames);
+      meanings = λ x. same x ∙ s.meanings x ∙ ap (λ l. bound l (reading.scope_of (frames_in m.table ns fs)) x) (sym one)
+          ∙ ap (λ l. bound (signature ++ declarations_of (record { table = new; decls = m.decls })) (reading.scope_of l) x) (sym frames);
       empty = (omega (arith, j.longer, s.empty.0), j.stays z s.empty.0 ∙ s.empty.1);
       depth = s.depth ∙ ap (λ l. length (reading.scope_of l)) (sym frames);
       few = s.few;
       atoms = AreAtoms-Keeps m.table new k vs s.atoms;
     }
 
-pub grown : (p : Parser) (new : List Tree) (ms : List Named) → Keeps p.module.table new → naming.Keeps p.names ms → ((x : List ℕ) → looked ms x ≡ looked p.names x) → IsSound p
-    → Grows p (record { alloc = p.alloc; «module» = record { table = new; decls = p.module.decls }; names = ms; nameless = p.nameless; frames = p.frames; atoms = p.atoms; binders = p.binders; head = p.head; state = p.state })
+pub grown : (p : Parser) (new : List Tree) (ms : List Named) → Keeps p.module.table new → naming.Keeps p.names ms
+    → ((x : List ℕ) → looked ms x ≡ looked p.names x) → IsSound p
+    → Grows p (record {
+      alloc = p.alloc;
+      «module» = record { table = new; decls = p.module.decls };
+      names = ms;
+      nameless = p.nameless;
+      frames = p.frames;
+      atoms = p.atoms;
+      binders = p.binders;
+      head = p.head;
+      state = p.state;
+    })
 grown p new ms k j same s =
     record {
       keeps = k;
@@ -142,7 +166,8 @@ grown p new ms k j same s =
     }
 
 -- and with other nodes that are kept
-pub with_atoms : (m : Module) (ns : List Named) (z : ℕ) (vs ws : Atoms) (b : ℕ) (h : Head) (fs : List Frame) → AreAtoms m.table ws → IsSoundIn m ns z vs b h fs → IsSoundIn m ns z ws b h fs
+pub with_atoms : (m : Module) (ns : List Named) (z : ℕ) (vs ws : Atoms) (b : ℕ) (h : Head) (fs : List Frame) → AreAtoms m.table ws → IsSoundIn m ns z vs b h fs
+    → IsSoundIn m ns z ws b h fs
 with_atoms m ns z vs ws b h fs are s = record {
   held = s.held;
   is_module = s.is_module;
@@ -156,7 +181,17 @@ with_atoms m ns z vs ws b h fs are s = record {
 }
 
 pub grown_atoms : (p : Parser) (atoms : Atoms) → (IsSound p → AreAtoms p.module.table atoms)
-    → Grows p (record { alloc = p.alloc; «module» = p.module; names = p.names; nameless = p.nameless; frames = p.frames; atoms = atoms; binders = p.binders; head = p.head; state = p.state })
+    → Grows p (record {
+      alloc = p.alloc;
+      «module» = p.module;
+      names = p.names;
+      nameless = p.nameless;
+      frames = p.frames;
+      atoms = atoms;
+      binders = p.binders;
+      head = p.head;
+      state = p.state;
+    })
 grown_atoms p atoms h = record {
   keeps = Keeps-refl p.module.table;
   names = record { longer = omega arith; stays = λ n k. refl };
@@ -172,7 +207,11 @@ grown_atoms p atoms h = record {
 pub Grows-then : (p q r : Parser) → Grows p q → Grows q r → Grows p r
 Grows-then p q r g h = record {
   keeps = Keeps-trans g.keeps h.keeps;
-  names = record { longer = omega (arith, g.names.longer, h.names.longer); stays = λ n k. h.names.stays n (omega (arith, k, g.names.longer)) ∙ g.names.stays n k };
+  names = record {
+    longer = omega (arith, g.names.longer, h.names.longer);
+    stays =
+        λ n k. h.names.stays n (omega (arith, k, g.names.longer)) ∙ g.names.stays n k;
+  };
   declared = h.declared ∙ g.declared;
   frames = h.frames ∙ g.frames;
   head = h.head ∙ g.head;

@@ -60,7 +60,8 @@ AreDistinct-push (y ∷ es) e h k =
     (is_named-push es e y.0 h.0 (bytes_eq-symm y.0 e.0 ∙ t.0), AreDistinct-push es e h.1 t.1)
 
 -- the names of a set with their meanings
-pub names_of-push : (xs : List (List ℕ)) (ms : List Meaning) (x : List ℕ) (m : Meaning) → length ms ≡ length xs → names_of (xs ++ x ∷ []) (ms ++ m ∷ []) ≡ names_of xs ms ++ (x, m) ∷ []
+pub names_of-push : (xs : List (List ℕ)) (ms : List Meaning) (x : List ℕ) (m : Meaning) → length ms ≡ length xs → names_of (xs ++ x ∷ []) (ms ++ m ∷ [])
+    ≡ names_of xs ms ++ (x, m) ∷ []
 names_of-push [] [] x m h = refl
 names_of-push [] (n ∷ ms) x m h = absurd (omega (arith, h))
 names_of-push (y ∷ xs) [] x m h = absurd (omega (arith, h))
@@ -78,7 +79,8 @@ is_named-names_of (y ∷ xs) [] x h = absurd (omega (arith, h))
 is_named-names_of (y ∷ xs) (m ∷ ms) x h = ap (λ b. bytes_eq x y || b) (is_named-names_of xs ms x (omega (arith, h)))
 
 -- the name of a number is the set's key
-pub name_at-key : (xs : List (List ℕ)) (ms : List Meaning) (n : ℕ) (x : List ℕ) → length ms ≡ length xs → slice_get xs n ≡ Some x → name_at (names_of xs ms) n ≡ x
+pub name_at-key : (xs : List (List ℕ)) (ms : List Meaning) (n : ℕ) (x : List ℕ) → length ms ≡ length xs → slice_get xs n ≡ Some x → name_at (names_of xs ms) n
+    ≡ x
 name_at-key [] ms n x h e = absurd (cc)
 name_at-key (y ∷ xs) [] n x h e = absurd (omega (arith, h))
 name_at-key (y ∷ xs) (m ∷ ms) zero x h e = same_Some y x e
@@ -91,10 +93,12 @@ name_at-names_of (x ∷ xs) [] n h = absurd (omega (arith, h))
 name_at-names_of (x ∷ xs) (m ∷ ms) zero h = refl
 name_at-names_of (x ∷ xs) (m ∷ ms) (suc n) h = name_at-names_of xs ms n (omega (arith, h))
 
-pub AreNames-push : (xs : List (List ℕ)) (ms : List Meaning) (x : List ℕ) (m : Meaning) → AreNames xs ms → list_any (bytes_eq x) xs ≡ false → AreNames (xs ++ x ∷ []) (ms ++ m ∷ [])
+pub AreNames-push : (xs : List (List ℕ)) (ms : List Meaning) (x : List ℕ) (m : Meaning) → AreNames xs ms → list_any (bytes_eq x) xs ≡ false
+    → AreNames (xs ++ x ∷ []) (ms ++ m ∷ [])
 AreNames-push xs ms x m n h = record {
   each = omega (arith, n.each, length-append xs (x ∷ []), length-append ms (m ∷ []));
-  distinct = subst AreDistinct (sym (names_of-push xs ms x m n.each)) (AreDistinct-push (names_of xs ms) (x, m) n.distinct (is_named-names_of xs ms x n.each ∙ h));
+  distinct = subst AreDistinct (sym (names_of-push xs ms x m n.each))
+      (AreDistinct-push (names_of xs ms) (x, m) n.distinct (is_named-names_of xs ms x n.each ∙ h));
 }
 
 or_true : (b : Bool) → (b || true) ≡ true
@@ -143,7 +147,8 @@ module _ (xs new : List (List ℕ)) (x : List ℕ) (n : ℕ) (at : slice_get new
           (push_at xs x x n (ap (λ l. slice_get l n) (sym (with_name-by false e)) ∙ at))
 
 -- the names with their meanings, where the table has the name x at n and each name a meaning
-module _ (xs new : List (List ℕ)) (ms more : List Meaning) (x : List ℕ) (n : ℕ) (names : AreNames xs ms) (at : slice_get new n ≡ Some x) (made : new ≡ with_name xs x) where
+module _ (xs new : List (List ℕ)) (ms more : List Meaning) (x : List ℕ) (n : ℕ) (names : AreNames xs ms) (at : slice_get new n ≡ Some x)
+    (made : new ≡ with_name xs x) where
   -- the name was there
   pub names_of-old : n < length ms → more ≡ ms → names_of new more ≡ names_of xs ms
   names_of-old h e = ap₂ names_of (stays_same xs new x n at made (omega (arith, h, names.each))) e
@@ -160,7 +165,8 @@ module _ (xs new : List (List ℕ)) (ms more : List Meaning) (x : List ℕ) (n :
 
   pub AreNames-new : length ms ≤ n → more ≡ ms ++ meaning.Nothing ∷ [] → AreNames new more
   AreNames-new h e =
-      subst (AreNames new) (sym e) (subst (λ l. AreNames l (ms ++ meaning.Nothing ∷ [])) (sym (lacked h).added) (AreNames-push xs ms x meaning.Nothing names (lacked h).lacks))
+      subst (AreNames new) (sym e)
+      (subst (λ l. AreNames l (ms ++ meaning.Nothing ∷ [])) (sym (lacked h).added) (AreNames-push xs ms x meaning.Nothing names (lacked h).lacks))
 
   -- and either way it has the number n
   pub number-known : AreNames new more → n < length (names_of new more)
@@ -170,7 +176,8 @@ module _ (xs new : List (List ℕ)) (ms more : List Meaning) (x : List ℕ) (n :
   number-named after = name_at-key new more n x after.each at
 
 -- a number of a name is one of a meaning
-pub within_meanings : (xs : List (List ℕ)) (ms : List Meaning) (now : List Named) (n : ℕ) → names_of xs ms ≡ now → n < length now → length ms ≡ length xs → n < length ms
+pub within_meanings : (xs : List (List ℕ)) (ms : List Meaning) (now : List Named) (n : ℕ) → names_of xs ms ≡ now → n < length now → length ms ≡ length xs
+    → n < length ms
 within_meanings xs ms now n e h l = omega (arith, ap length e, h, l, length-names_of xs ms l)
 
 -- a name that gets another meaning
@@ -226,7 +233,8 @@ put_by false b v w m h = refl
 apart : (es : List Named) (e : Named) (n : ℕ) (y : List ℕ) → is_named es e.0 ≡ false → n < length es → bytes_eq y e.0 ≡ true → bytes_eq y (name_at es n) ≡ false
 apart es e n y h l k = subst (λ z. bytes_eq z (name_at es n) ≡ false) (sym (same_text y e.0 (sym k))) (not_named es e.0 n h l)
 
-looked-put : (es : List Named) (n : ℕ) (w : Meaning) (y : List ℕ) → AreDistinct es → n < length es → looked (put_at es n w) y ≡ (if bytes_eq y (name_at es n) then w else looked es y)
+looked-put : (es : List Named) (n : ℕ) (w : Meaning) (y : List ℕ) → AreDistinct es → n < length es → looked (put_at es n w) y
+    ≡ (if bytes_eq y (name_at es n) then w else looked es y)
 looked-put [] n w y h l = absurd (omega arith)
 looked-put (e ∷ es) zero w y h l = put_first (bytes_eq y e.0) w e.1 (looked es y)
 looked-put (e ∷ es) (suc n) w y h l =
@@ -245,7 +253,8 @@ past : (a : Bool) (v m : Meaning) → a ≡ false → (if a then v else m) ≡ m
 past true v m h = absurd (cc)
 past false v m h = refl
 
-pub looked-at : (xs : List (List ℕ)) (ms : List Meaning) (n : ℕ) (w : Meaning) → length ms ≡ length xs → AreDistinct (names_of xs ms) → slice_get ms n ≡ Some w → looked (names_of xs ms) (name_at (names_of xs ms) n) ≡ w
+pub looked-at : (xs : List (List ℕ)) (ms : List Meaning) (n : ℕ) (w : Meaning) → length ms ≡ length xs → AreDistinct (names_of xs ms) → slice_get ms n ≡ Some w
+    → looked (names_of xs ms) (name_at (names_of xs ms) n) ≡ w
 looked-at [] [] n w l h e = absurd (cc)
 looked-at [] (m ∷ ms) n w l h e = absurd (omega (arith, l))
 looked-at (x ∷ xs) [] n w l h e = absurd (cc)

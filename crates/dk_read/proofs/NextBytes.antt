@@ -12,7 +12,9 @@ use Rattle.dk_read.specs.Texts.{inside, pending_in, Takes}
 use Rattle.dk_read.proofs.Bytes.{takes_as, OnRefusal-map}
 
 -- a byte that does this where this is pending
-pub next_does : (t new : Text) (x : Pending) (b : ℕ) (taken : tokens.Taken) (r : Result (Unit {0}) Stop) → t.pending ≡ x → tokens.take_byte (pending_in t.word.items x) t.place b ≡ taken → Takes (reading.after_byte (t.place + 1) (before t.parser) (state_of t.parser) taken) new r → Takes (reading.read_byte (inside t) b) new r
+pub next_does : (t new : Text) (x : Pending) (b : ℕ) (taken : tokens.Taken) (r : Result (Unit {0}) Stop) → t.pending ≡ x
+    → tokens.take_byte (pending_in t.word.items x) t.place b ≡ taken
+    → Takes (reading.after_byte (t.place + 1) (before t.parser) (state_of t.parser) taken) new r → Takes (reading.read_byte (inside t) b) new r
 next_does t new x b taken r e f h =
     takes_as _ _ new r
     (ap (λ (y : Pending). reading.read_byte (reading.Inside t.place (pending_in t.word.items y) (before t.parser) (state_of t.parser)) b) e
@@ -20,8 +22,11 @@ next_does t new x b taken r e f h =
     h
 
 -- a byte that begins no token
-pub next_sticks : (t new : Text) (x : Pending) (b q : ℕ) (f : Stop) → t.pending ≡ x → tokens.take_byte (pending_in t.word.items x) t.place b ≡ tokens.sticks [] q → Breaks (reading.broken (reading.Goes (before t.parser) (state_of t.parser)) q) new.parser.names f → Takes (reading.read_byte (inside t) b) new (Err f)
-next_sticks t new x b q f e k h = next_does t new x b (tokens.sticks [] q) (Err f) e k (OnRefusal-map (refused_by new.parser.names f) (λ r i. ap reading.Refused i) h)
+pub next_sticks : (t new : Text) (x : Pending) (b q : ℕ) (f : Stop) → t.pending ≡ x → tokens.take_byte (pending_in t.word.items x) t.place b
+    ≡ tokens.sticks [] q → Breaks (reading.broken (reading.Goes (before t.parser) (state_of t.parser)) q) new.parser.names f
+    → Takes (reading.read_byte (inside t) b) new (Err f)
+next_sticks t new x b q f e k h = next_does t new x b (tokens.sticks [] q) (Err f) e k
+    (OnRefusal-map (refused_by new.parser.names f) (λ r i. ap reading.Refused i) h)
 
 other_byte : (b k : ℕ) → (b ≡ k → ⊥) → (b == k) ≡ false
 other_byte b k h = grind (arith, common_steps, h)
@@ -31,7 +36,9 @@ module _ (q p b : ℕ) where
   AfterColon-assign e = ap (tokens.take_byte (tokens.AfterColon q) p) e
 
   pub AfterColon-other : (b ≡ 61 → ⊥) → tokens.take_byte (tokens.AfterColon q) p b ≡ tokens.after (tokens.at q tokens.Colon) (tokens.begins p b)
-  AfterColon-other h = ap (λ (c : Bool). if c then tokens.goes (tokens.at q tokens.Assign ∷ []) tokens.Nothing else tokens.after (tokens.at q tokens.Colon) (tokens.begins p b)) (other_byte b 61 h)
+  AfterColon-other h = ap
+      (λ (c : Bool). if c then tokens.goes (tokens.at q tokens.Assign ∷ []) tokens.Nothing else tokens.after (tokens.at q tokens.Colon) (tokens.begins p b))
+      (other_byte b 61 h)
 
   pub AfterMinus-arrow : b ≡ 62 → tokens.take_byte (tokens.AfterMinus q) p b ≡ tokens.goes (tokens.at q tokens.Arrow ∷ []) tokens.Nothing
   AfterMinus-arrow e = ap (tokens.take_byte (tokens.AfterMinus q) p) e
@@ -49,7 +56,8 @@ module _ (q p b : ℕ) where
   AfterParen-comment e = ap (tokens.take_byte (tokens.AfterParen q) p) e
 
   pub AfterParen-other : (b ≡ 59 → ⊥) → tokens.take_byte (tokens.AfterParen q) p b ≡ tokens.after (tokens.at q tokens.LeftParen) (tokens.begins p b)
-  AfterParen-other h = ap (λ (c : Bool). if c then tokens.goes [] (tokens.InComment q) else tokens.after (tokens.at q tokens.LeftParen) (tokens.begins p b)) (other_byte b 59 h)
+  AfterParen-other h = ap (λ (c : Bool). if c then tokens.goes [] (tokens.InComment q) else tokens.after (tokens.at q tokens.LeftParen) (tokens.begins p b))
+      (other_byte b 59 h)
 
   pub InComment-semicolon : b ≡ 59 → tokens.take_byte (tokens.InComment q) p b ≡ tokens.goes [] (tokens.AfterSemicolon q)
   InComment-semicolon e = ap (tokens.take_byte (tokens.InComment q) p) e

@@ -18,7 +18,8 @@ not_any p [] k d e h = absurd (omega arith)
 not_any p (x ∷ ds) zero d e h = grind (arith, e)
 not_any p (x ∷ ds) (suc k) d e h = not_any p ds k d (grind (arith, e)) (omega (arith, h))
 
-found_any : (p : Declaration → Bool) (ds : List Declaration) (k : ℕ) (d : Declaration) → k < length ds → p (get_or ds k d) ≡ true → (b : Bool) → list_any p ds ≡ b → b ≡ true
+found_any : (p : Declaration → Bool) (ds : List Declaration) (k : ℕ) (d : Declaration) → k < length ds → p (get_or ds k d) ≡ true → (b : Bool) → list_any p ds
+    ≡ b → b ≡ true
 found_any p ds k d h e true f = refl
 found_any p ds k d h e false f = absurd (cc (not_any p ds k d f h, e))
 
@@ -29,11 +30,15 @@ declared m name s e =
     found_any (λ d. bytes_eq d.name name) (signature ++ m) s none t.0 t.1 (list_any (λ d. bytes_eq d.name name) (signature ++ m)) refl
 
 -- a name that is a symbol already, and one that is new
-pub name_twice : (m : List Declaration) (form : Form) (p : ℕ) (name : List ℕ) (s : ℕ) → symbol_number m name ≡ Some s → reading.names m form p name ≡ reading.stops p (reading.NameTwice name)
-name_twice m form p name s e = ap (λ b. if b then reading.stops p (reading.NameTwice name) else reading.Goes m (reading.AfterName form name)) (declared m name s e)
+pub name_twice : (m : List Declaration) (form : Form) (p : ℕ) (name : List ℕ) (s : ℕ) → symbol_number m name ≡ Some s → reading.names m form p name
+    ≡ reading.stops p (reading.NameTwice name)
+name_twice m form p name s e = ap (λ b. if b then reading.stops p (reading.NameTwice name) else reading.Goes m (reading.AfterName form name))
+    (declared m name s e)
 
-pub name_new : (m : List Declaration) (form : Form) (p : ℕ) (name : List ℕ) → symbol_number m name ≡ None → reading.names m form p name ≡ reading.Goes m (reading.AfterName form name)
-name_new m form p name e = ap (λ b. if b then reading.stops p (reading.NameTwice name) else reading.Goes m (reading.AfterName form name)) (symbol_number-None m name e)
+pub name_new : (m : List Declaration) (form : Form) (p : ℕ) (name : List ℕ) → symbol_number m name ≡ None → reading.names m form p name
+    ≡ reading.Goes m (reading.AfterName form name)
+name_new m form p name e = ap (λ b. if b then reading.stops p (reading.NameTwice name) else reading.Goes m (reading.AfterName form name))
+    (symbol_number-None m name e)
 
 pub position_here : {X : Type 0} (p : X → Bool) (x : X) (xs : List X) → p x ≡ true → position p (x ∷ xs) ≡ Some 0
 position_here p x xs e = grind (arith, common_steps)

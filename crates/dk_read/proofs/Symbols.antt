@@ -34,13 +34,16 @@ module _ (k : ℕ) (few : k < length signature) where
   next_name : symbol_name [] k ≡ next.name
   next_name = ap (λ o. option_map_or (λ (d : Declaration). d.name) o []) (slice_get-get_or signature k (symbol [] SortType) few)
 
-  one_more : (x : List ℕ) → bound (take (k + 1) signature) [] x ≡ first_meaning (bound (take k signature) [] x) (if bytes_eq next.name x then meaning.Symbol k else meaning.Nothing)
+  one_more : (x : List ℕ) → bound (take (k + 1) signature) [] x
+      ≡ first_meaning (bound (take k signature) [] x) (if bytes_eq next.name x then meaning.Symbol k else meaning.Nothing)
   one_more x =
       ap (λ l. bound l [] x) (take_more signature k (symbol [] SortType) few)
       ∙ position_last (λ d. bytes_eq d.name x) (take k signature) next
-      ∙ ap (λ n. first_meaning (bound (take k signature) [] x) (if bytes_eq next.name x then meaning.Symbol n else meaning.Nothing)) (length-take-le k signature (omega (arith, few)))
+      ∙ ap (λ n. first_meaning (bound (take k signature) [] x) (if bytes_eq next.name x then meaning.Symbol n else meaning.Nothing))
+      (length-take-le k signature (omega (arith, few)))
 
-  first_put : (v : Meaning) (x : List ℕ) (name : List ℕ) (t : Bool) → bytes_eq x name ≡ t → (t ≡ true → v ≡ meaning.Nothing) → (if t then meaning.Symbol k else v) ≡ first_meaning v (if t then meaning.Symbol k else meaning.Nothing)
+  first_put : (v : Meaning) (x : List ℕ) (name : List ℕ) (t : Bool) → bytes_eq x name ≡ t → (t ≡ true → v ≡ meaning.Nothing)
+      → (if t then meaning.Symbol k else v) ≡ first_meaning v (if t then meaning.Symbol k else meaning.Nothing)
   first_put meaning.Nothing x name true e h = refl
   first_put (meaning.Symbol s) x name true e h = absurd (cc (h refl))
   first_put (meaning.Binder d) x name true e h = absurd (cc (h refl))
@@ -58,12 +61,14 @@ module _ (k : ℕ) (few : k < length signature) where
     tested : (x : List ℕ) → bytes_eq next.name x ≡ bytes_eq x name
     tested x = bytes_eq-symm next.name x ∙ ap (bytes_eq x) (sym (is ∙ next_name))
 
-    pub symbol_put : (ms : List Named) → ((x : List ℕ) → looked ms x ≡ looked old x) → looked ms name ≡ meaning.Nothing → Puts ms name (meaning.Symbol k) new → HasSymbols old k → HasSymbols new (k + 1)
+    pub symbol_put : (ms : List Named) → ((x : List ℕ) → looked ms x ≡ looked old x) → looked ms name ≡ meaning.Nothing → Puts ms name (meaning.Symbol k) new
+        → HasSymbols old k → HasSymbols new (k + 1)
     symbol_put ms same free puts h = record {
       each = λ x.
           puts.each x
           ∙ ap (λ (v : Meaning). if bytes_eq x name then meaning.Symbol k else v) (same x ∙ h.each x)
-          ∙ first_put (bound (take k signature) [] x) x name (bytes_eq x name) refl (λ t. sym (h.each x) ∙ sym (same x) ∙ ap (looked ms) (same_text x name (sym t)) ∙ free)
+          ∙ first_put (bound (take k signature) [] x) x name (bytes_eq x name) refl
+          (λ t. sym (h.each x) ∙ sym (same x) ∙ ap (looked ms) (same_text x name (sym t)) ∙ free)
           ∙ ap (λ (b : Bool). first_meaning (bound (take k signature) [] x) (if b then meaning.Symbol k else meaning.Nothing)) (sym (tested x))
           ∙ sym (one_more x);
     }
@@ -72,7 +77,8 @@ module _ (k : ℕ) (few : k < length signature) where
     symbol_stays same taken h = record {
       each = λ x.
           same x ∙ h.each x
-          ∙ first_not (bound (take k signature) [] x) (bytes_eq x name) (λ t v. taken (ap (looked new) (sym (same_text x name (sym t))) ∙ same x ∙ h.each x ∙ v))
+          ∙ first_not (bound (take k signature) [] x) (bytes_eq x name)
+          (λ t v. taken (ap (looked new) (sym (same_text x name (sym t))) ∙ same x ∙ h.each x ∙ v))
           ∙ ap (λ (b : Bool). first_meaning (bound (take k signature) [] x) (if b then meaning.Symbol k else meaning.Nothing)) (sym (tested x))
           ∙ sym (one_more x);
     }
@@ -88,7 +94,9 @@ no_node (suc count) zero id e = absurd (cc)
 no_node (suc count) (suc n) id e = no_node count n id e
 
 -- a reading before the first token
-pub first_reading : (p : Parser) → IsHeld p.module → IsModule (before p) → before p ≡ [] → IsNameless p.names p.nameless → HasSymbols p.names (length signature) → p.frames.items ≡ [] → p.atoms.variables.items ≡ [] → p.atoms.symbols.items ≡ replicate (length signature) None → p.binders ≡ 0 → p.head ≡ head.TypeOf Symbol p.nameless → p.state ≡ state.Between → IsReading p
+pub first_reading : (p : Parser) → IsHeld p.module → IsModule (before p) → before p ≡ [] → IsNameless p.names p.nameless → HasSymbols p.names (length signature)
+    → p.frames.items ≡ [] → p.atoms.variables.items ≡ [] → p.atoms.symbols.items ≡ replicate (length signature) None → p.binders ≡ 0 → p.head
+    ≡ head.TypeOf Symbol p.nameless → p.state ≡ state.Between → IsReading p
 first_reading p held is none nameless symbols frames variables names binders h s =
     let open_none : reverse p.frames.items ≡ [] = ap reverse frames in
     let known : IsStateKnown p p.state = subst (IsStateKnown p) (sym s) frames in
@@ -102,6 +110,13 @@ first_reading p held is none nameless symbols frames variables names binders h s
       empty = nameless;
       depth = binders;
       few = omega (arith, binders);
-      atoms = (subst (AreOf Var p.module.table) (sym variables) (λ n id e. absurd (cc)), subst (AreOfSymbols p.module.table) (sym names) (λ n id e. absurd (no_node (length signature) n id e)));
+      atoms = (
+        subst (AreOf Var p.module.table) (sym variables) (λ n id e. absurd (cc)),
+        subst (AreOfSymbols p.module.table) (sym names) (λ n id e. absurd (no_node (length signature) n id e)),
+      );
     } in
-    record { ready = record { sound = subst (IsSoundIn p.module p.names p.nameless p.atoms p.binders p.head) (sym open_none) base; known = known }; ordered = ordered }
+    record {
+      ready = record { sound = subst (IsSoundIn p.module p.names p.nameless p.atoms p.binders p.head) (sym open_none) base; known = known };
+      ordered =
+          ordered;
+    }

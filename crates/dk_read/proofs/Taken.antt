@@ -18,7 +18,8 @@ use Rattle.dk_read.proofs.Signs.{token_in-sign}
 use Rattle.dk_read.proofs.Runs.{run_within, run_stops, skip, blank_goes, comment_goes, words, word_starts, word_read, word_stops, Starts, Stops}
 
 -- a text by its parts
-inside_with : (t : Text) (place : ℕ) (pd : Pending) (w : List ℕ) (q : Parser) → t.place ≡ place → t.pending ≡ pd → t.word.items ≡ w → t.parser ≡ q → inside t ≡ reading.Inside place (pending_in w pd) (before q) (state_of q)
+inside_with : (t : Text) (place : ℕ) (pd : Pending) (w : List ℕ) (q : Parser) → t.place ≡ place → t.pending ≡ pd → t.word.items ≡ w → t.parser ≡ q → inside t
+    ≡ reading.Inside place (pending_in w pd) (before q) (state_of q)
 inside_with t place pd w q a b c d =
     ap (λ i. reading.Inside i (pending_in t.word.items t.pending) (before t.parser) (state_of t.parser)) a
     ∙ ap (λ (x : Pending). reading.Inside place (pending_in t.word.items x) (before t.parser) (state_of t.parser)) b
@@ -26,7 +27,8 @@ inside_with t place pd w q a b c d =
     ∙ ap (λ (x : Parser). reading.Inside place (pending_in w pd) (before x) (state_of x)) d
 
 -- blanks, if any
-pub passed_blanks : (old new : Text) (piece : List ℕ) (n : ℕ) → new.parser ≡ old.parser → new.place ≡ old.place + n → IsReading old.parser → old.pending ≡ pending.Nothing → new.pending ≡ pending.Nothing → n ≡ run tokens.is_space piece → Passed old piece new n
+pub passed_blanks : (old new : Text) (piece : List ℕ) (n : ℕ) → new.parser ≡ old.parser → new.place ≡ old.place + n → IsReading old.parser → old.pending
+    ≡ pending.Nothing → new.pending ≡ pending.Nothing → n ≡ run tokens.is_space piece → Passed old piece new n
 passed_blanks old new piece n parser place r p q e = record {
   within = subst (λ k. k ≤ length piece) (sym e) (run_within tokens.is_space piece);
   taken =
@@ -61,38 +63,48 @@ took_more old mid new piece n m t p = record {
   reading = p.reading;
 }
 
-module _ (old new : Text) (piece : List ℕ) (n : ℕ) (some : 1 ≤ n) (parser : new.parser ≡ old.parser) (place : new.place ≡ old.place + n) (r : IsReading old.parser) where
+module _ (old new : Text) (piece : List ℕ) (n : ℕ) (some : 1 ≤ n) (parser : new.parser ≡ old.parser) (place : new.place ≡ old.place + n)
+    (r : IsReading old.parser) where
   going_on : IsReading new.parser
   going_on = subst IsReading (sym parser) r
 
   -- bytes of a word that is open
-  pub took_word : (first : ℕ) → old.pending ≡ pending.InWord first → new.pending ≡ pending.InWord first → n ≡ run tokens.is_word_byte piece → new.word.items ≡ old.word.items ++ take n piece → TookSome old piece new n
+  pub took_word : (first : ℕ) → old.pending ≡ pending.InWord first → new.pending ≡ pending.InWord first → n ≡ run tokens.is_word_byte piece → new.word.items
+      ≡ old.word.items ++ take n piece → TookSome old piece new n
   took_word first p q e w = record {
     some = some;
     within = subst (λ k. k ≤ length piece) (sym e) (run_within tokens.is_word_byte piece);
     taken =
         ap (λ d. reading.read_bytes d piece) (inside_with old old.place (pending.InWord first) old.word.items old.parser refl p refl refl)
         ∙ words first (before old.parser) (state_of old.parser) old.place old.word.items piece
-        ∙ ap (λ k. reading.read_bytes (reading.Inside (old.place + k) (tokens.InWord first (old.word.items ++ take k piece)) (before old.parser) (state_of old.parser)) (drop k piece)) (sym e)
-        ∙ ap (λ d. reading.read_bytes d (drop n piece)) (sym (inside_with new (old.place + n) (pending.InWord first) (old.word.items ++ take n piece) old.parser place q w parser));
+        ∙ ap (λ k. reading.read_bytes
+        (reading.Inside (old.place + k) (tokens.InWord first (old.word.items ++ take k piece)) (before old.parser) (state_of old.parser)) (drop k piece))
+        (sym e)
+        ∙ ap (λ d. reading.read_bytes d (drop n piece))
+        (sym (inside_with new (old.place + n) (pending.InWord first) (old.word.items ++ take n piece) old.parser place q w parser));
     place = place;
     reading = going_on;
   }
 
   -- blanks
   pub took_blanks : old.pending ≡ pending.Nothing → new.pending ≡ pending.Nothing → n ≡ run tokens.is_space piece → TookSome old piece new n
-  took_blanks p q e = let b = passed_blanks old new piece n parser place r p q e in record { some = some; within = b.within; taken = b.taken; place = place; reading = going_on }
+  took_blanks p q e = let b = passed_blanks old new piece n parser place r p q e in record
+      { some = some; within = b.within; taken = b.taken; place = place; reading = going_on }
 
   -- bytes of a comment
-  pub took_comment : (first : ℕ) → old.pending ≡ pending.InComment first → new.pending ≡ pending.InComment first → n ≡ run (λ b. not (b == 59)) piece → TookSome old piece new n
+  pub took_comment : (first : ℕ) → old.pending ≡ pending.InComment first → new.pending ≡ pending.InComment first → n ≡ run (λ b. not (b == 59)) piece
+      → TookSome old piece new n
   took_comment first p q e = record {
     some = some;
     within = subst (λ k. k ≤ length piece) (sym e) (run_within (λ b. not (b == 59)) piece);
     taken =
         ap (λ d. reading.read_bytes d piece) (inside_with old old.place (pending.InComment first) old.word.items old.parser refl p refl refl)
-        ∙ skip (λ b. not (b == 59)) (tokens.InComment first) (before old.parser) (state_of old.parser) (comment_goes first (before old.parser) (state_of old.parser)) old.place piece
-        ∙ ap (λ k. reading.read_bytes (reading.Inside (old.place + k) (tokens.InComment first) (before old.parser) (state_of old.parser)) (drop k piece)) (sym e)
-        ∙ ap (λ d. reading.read_bytes d (drop n piece)) (sym (inside_with new (old.place + n) (pending.InComment first) new.word.items old.parser place q refl parser));
+        ∙ skip (λ b. not (b == 59)) (tokens.InComment first) (before old.parser) (state_of old.parser)
+        (comment_goes first (before old.parser) (state_of old.parser)) old.place piece
+        ∙ ap (λ k. reading.read_bytes (reading.Inside (old.place + k) (tokens.InComment first) (before old.parser) (state_of old.parser)) (drop k piece))
+        (sym e)
+        ∙ ap (λ d. reading.read_bytes d (drop n piece))
+        (sym (inside_with new (old.place + n) (pending.InComment first) new.word.items old.parser place q refl parser));
     place = place;
     reading = going_on;
   }
@@ -102,24 +114,29 @@ module _ (old new : Text) (piece : List ℕ) (n : ℕ) (some : 1 ≤ n) (parser 
   take_all_of [] = refl
   take_all_of (x ∷ xs) = ap (λ l. x ∷ l) (take_all_of xs)
 
-  pub kept_word : old.pending ≡ pending.Nothing → new.pending ≡ pending.InWord old.place → n ≡ run tokens.is_word_byte piece → n ≡ length piece → 1 ≤ length piece → tokens.is_letter (get_or piece 0 0) ≡ true → new.word.items ≡ piece → TookSome old piece new n
+  pub kept_word : old.pending ≡ pending.Nothing → new.pending ≡ pending.InWord old.place → n ≡ run tokens.is_word_byte piece → n ≡ length piece
+      → 1 ≤ length piece → tokens.is_letter (get_or piece 0 0) ≡ true → new.word.items ≡ piece → TookSome old piece new n
   kept_word p q e all has letter w = record {
     some = some;
     within = omega (arith, all);
     taken =
         ap (λ d. reading.read_bytes d piece) (inside_with old old.place pending.Nothing old.word.items old.parser refl p refl refl)
         ∙ (word_starts (before old.parser) (state_of old.parser) old.place piece has letter).read
-        ∙ ap (λ k. reading.read_bytes (reading.Inside (old.place + k) (tokens.InWord old.place (take k piece)) (before old.parser) (state_of old.parser)) (drop k piece)) (sym e)
-        ∙ ap (λ l. reading.read_bytes (reading.Inside (old.place + n) (tokens.InWord old.place l) (before old.parser) (state_of old.parser)) (drop n piece)) (ap (λ k. take k piece) all ∙ take_all_of piece)
+        ∙ ap (λ k. reading.read_bytes (reading.Inside (old.place + k) (tokens.InWord old.place (take k piece)) (before old.parser) (state_of old.parser))
+        (drop k piece)) (sym e)
+        ∙ ap (λ l. reading.read_bytes (reading.Inside (old.place + n) (tokens.InWord old.place l) (before old.parser) (state_of old.parser)) (drop n piece))
+        (ap (λ k. take k piece) all ∙ take_all_of piece)
         ∙ ap (λ d. reading.read_bytes d (drop n piece)) (sym (inside_with new (old.place + n) (pending.InWord old.place) piece old.parser place q w parser));
     place = place;
     reading = going_on;
   }
 
 -- a word that ends inside the piece
-module _ (old : Text) (piece : List ℕ) (n : ℕ) (p : old.pending ≡ pending.Nothing) (e : n ≡ run tokens.is_word_byte piece) (has : 1 ≤ length piece) (letter : tokens.is_letter (get_or piece 0 0) ≡ true) (within : n < length piece) where
+module _ (old : Text) (piece : List ℕ) (n : ℕ) (p : old.pending ≡ pending.Nothing) (e : n ≡ run tokens.is_word_byte piece) (has : 1 ≤ length piece)
+    (letter : tokens.is_letter (get_or piece 0 0) ≡ true) (within : n < length piece) where
   begun : Starts (before old.parser) (state_of old.parser) old.place piece n
-  begun = subst (Starts (before old.parser) (state_of old.parser) old.place piece) (sym e) (word_starts (before old.parser) (state_of old.parser) old.place piece has letter)
+  begun = subst (Starts (before old.parser) (state_of old.parser) old.place piece) (sym e)
+      (word_starts (before old.parser) (state_of old.parser) old.place piece has letter)
 
   started : reading.read_bytes (inside old) piece ≡ reading.read_bytes (reading.Inside old.place tokens.Nothing (before old.parser) (state_of old.parser)) piece
   started = ap (λ d. reading.read_bytes d piece) (inside_with old old.place pending.Nothing old.word.items old.parser refl p refl refl)
@@ -127,7 +144,9 @@ module _ (old : Text) (piece : List ℕ) (n : ℕ) (p : old.pending ≡ pending.
   stops_here : Stops tokens.is_word_byte piece n
   stops_here = subst (Stops tokens.is_word_byte piece) (sym e) (run_stops tokens.is_word_byte piece (subst (λ k. k < length piece) e within))
 
-  pub ended_word : (new : Text) → reading.advance (before old.parser) (state_of old.parser) old.place (tokens.word_token (take n piece)) ≡ reading.Goes (before new.parser) (state_of new.parser) → new.pending ≡ pending.Nothing → new.place ≡ old.place + n → IsReading new.parser → TookSome old piece new n
+  pub ended_word : (new : Text) → reading.advance (before old.parser) (state_of old.parser) old.place (tokens.word_token (take n piece))
+      ≡ reading.Goes (before new.parser) (state_of new.parser) → new.pending ≡ pending.Nothing → new.place ≡ old.place + n → IsReading new.parser
+      → TookSome old piece new n
   ended_word new goes q place r = record {
     some = begun.some;
     within = omega (arith, within);
@@ -139,20 +158,28 @@ module _ (old : Text) (piece : List ℕ) (n : ℕ) (p : old.pending ≡ pending.
     reading = r;
   }
 
-  pub failed_word : (new : Text) (q : Parser) (f : Stop) → new.parser.names ≡ q.names → Becomes (reading.advance (before old.parser) (state_of old.parser) old.place (tokens.word_token (take n piece))) q (Err f) → TakesSome old piece new (Err f)
+  pub failed_word : (new : Text) (q : Parser) (f : Stop) → new.parser.names ≡ q.names
+      → Becomes (reading.advance (before old.parser) (state_of old.parser) old.place (tokens.word_token (take n piece))) q (Err f)
+      → TakesSome old piece new (Err f)
   failed_word new q f same h =
-      OnRefusal-map (refused_by new.parser.names f) (λ r k. started ∙ word_stops (before old.parser) (state_of old.parser) old.place piece n begun stops_here r k)
-      (subst (λ (ns : List Named). OnRefusal (refused_by ns f) (λ r. reading.advance (before old.parser) (state_of old.parser) old.place (tokens.word_token (take n piece)) ≡ reading.Stops r)) (sym same) h)
+      OnRefusal-map (refused_by new.parser.names f)
+      (λ r k. started ∙ word_stops (before old.parser) (state_of old.parser) old.place piece n begun stops_here r k)
+      (subst (λ (ns : List Named). OnRefusal (refused_by ns f)
+      (λ r. reading.advance (before old.parser) (state_of old.parser) old.place (tokens.word_token (take n piece)) ≡ reading.Stops r)) (sym same) h)
 
 -- a sign at the head of a piece
 module _ (old : Text) (piece : List ℕ) (n : ℕ) (t : Token) (p : old.pending ≡ pending.Nothing) (signs : Signs piece n t) where
-  sign_begins : reading.read_bytes (inside old) piece ≡ reading.read_bytes (reading.Inside old.place tokens.Nothing (before old.parser) (state_of old.parser)) piece
+  sign_begins : reading.read_bytes (inside old) piece
+      ≡ reading.read_bytes (reading.Inside old.place tokens.Nothing (before old.parser) (state_of old.parser)) piece
   sign_begins = ap (λ d. reading.read_bytes d piece) (inside_with old old.place pending.Nothing old.word.items old.parser refl p refl refl)
 
-  as_sign : reading.advance (before old.parser) (state_of old.parser) old.place (token_in [] t) ≡ reading.advance (before old.parser) (state_of old.parser) old.place (token_in old.parser.names t)
+  as_sign : reading.advance (before old.parser) (state_of old.parser) old.place (token_in [] t)
+      ≡ reading.advance (before old.parser) (state_of old.parser) old.place (token_in old.parser.names t)
   as_sign = ap (reading.advance (before old.parser) (state_of old.parser) old.place) (sym (token_in-sign old.parser.names t signs.known))
 
-  pub took_sign : (new : Text) → reading.advance (before old.parser) (state_of old.parser) old.place (token_in old.parser.names t) ≡ reading.Goes (before new.parser) (state_of new.parser) → new.pending ≡ pending.Nothing → new.place ≡ old.place + n → IsReading new.parser → TookSome old piece new n
+  pub took_sign : (new : Text) → reading.advance (before old.parser) (state_of old.parser) old.place (token_in old.parser.names t)
+      ≡ reading.Goes (before new.parser) (state_of new.parser) → new.pending ≡ pending.Nothing → new.place ≡ old.place + n → IsReading new.parser
+      → TookSome old piece new n
   took_sign new goes q place r = record {
     some = signs.some;
     within = signs.within;
@@ -164,7 +191,9 @@ module _ (old : Text) (piece : List ℕ) (n : ℕ) (t : Token) (p : old.pending 
     reading = r;
   }
 
-  pub failed_sign : (new : Text) (q : Parser) (f : Stop) → new.parser.names ≡ q.names → Becomes (reading.advance (before old.parser) (state_of old.parser) old.place (token_in old.parser.names t)) q (Err f) → TakesSome old piece new (Err f)
+  pub failed_sign : (new : Text) (q : Parser) (f : Stop) → new.parser.names ≡ q.names
+      → Becomes (reading.advance (before old.parser) (state_of old.parser) old.place (token_in old.parser.names t)) q (Err f) → TakesSome old piece new (Err f)
   failed_sign new q f same h =
       OnRefusal-map (refused_by new.parser.names f) (λ r k. sign_begins ∙ signs.stops old.place (before old.parser) (state_of old.parser) r (as_sign ∙ k))
-      (subst (λ (ns : List Named). OnRefusal (refused_by ns f) (λ r. reading.advance (before old.parser) (state_of old.parser) old.place (token_in old.parser.names t) ≡ reading.Stops r)) (sym same) h)
+      (subst (λ (ns : List Named). OnRefusal (refused_by ns f)
+      (λ r. reading.advance (before old.parser) (state_of old.parser) old.place (token_in old.parser.names t) ≡ reading.Stops r)) (sym same) h)

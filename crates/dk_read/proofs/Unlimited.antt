@@ -27,7 +27,8 @@ abbrev pub AnswersByText : Answer → Type 0
 AnswersByText (reads m) = Unit {0}
 AnswersByText (refused r) = IsOfText r.fault
 
-named : (b : Bool) (m : List Declaration) (form : Form) (p : ℕ) (name : List ℕ) → StopsByText (if b then stops p (NameTwice name) else Goes m (AfterName form name))
+named : (b : Bool) (m : List Declaration) (form : Form) (p : ℕ) (name : List ℕ)
+    → StopsByText (if b then stops p (NameTwice name) else Goes m (AfterName form name))
 named true m form p name = tt
 named false m form p name = tt
 
@@ -57,10 +58,12 @@ module _ (m : List Declaration) where
 
   declares_text : (head : Head) (o : Option Tree) (p : ℕ) → StopsByText (declares m head o p)
   declares_text head None p = tt
-  declares_text (TypeOf Symbol name) (Some t) p = shallow (nat_le (depth t) max_depth) (m ++ record { name = name; form = Symbol; ty = t; body = None } ∷ []) Between p
+  declares_text (TypeOf Symbol name) (Some t) p = shallow (nat_le (depth t) max_depth) (m ++ record { name = name; form = Symbol; ty = t; body = None } ∷ [])
+      Between p
   declares_text (TypeOf Def name) (Some t) p = tt
   declares_text (TypeOf Thm name) (Some t) p = tt
-  declares_text (BodyOf form name ty) (Some t) p = shallow (nat_le (depth t) max_depth) (m ++ record { name = name; form = form; ty = ty; body = Some t } ∷ []) Between p
+  declares_text (BodyOf form name ty) (Some t) p =
+      shallow (nat_le (depth t) max_depth) (m ++ record { name = name; form = form; ty = ty; body = Some t } ∷ []) Between p
 
   assigns_text : (head : Head) (o : Option Tree) (p : ℕ) → StopsByText (assigns m head o p)
   assigns_text head None p = tt
@@ -80,7 +83,8 @@ module _ (m : List Declaration) where
   applies_text head frames (Some t) p Assign = assigns_text head (whole frames t) p
   applies_text head frames f p _ = tt
 
-  first_text : (head : Head) (frames : List Frame) (q : ℕ) (name : List ℕ) (o : Option Tree) (p : ℕ) (token : Token) → StopsByText (goes_on m head frames q name o p token)
+  first_text : (head : Head) (frames : List Frame) (q : ℕ) (name : List ℕ) (o : Option Tree) (p : ℕ) (token : Token)
+      → StopsByText (goes_on m head frames q name o p token)
   first_text head frames q name None p token = tt
   first_text head frames q name (Some x) p token = applies_text head frames (Some x) p token
 
@@ -153,7 +157,8 @@ end_text : (done : Progress) → IsByText done → AnswersByText (read_end done)
 end_text (Refused r) h = h
 end_text (Opening p []) h = tt
 end_text (Opening p (c ∷ wanted)) h = tt
-end_text (Inside p pending m state) h = answers_text (advance_all (Goes m state) (last_tokens pending)) (end_at pending p) (advance_all_text (Goes m state) (last_tokens pending) tt)
+end_text (Inside p pending m state) h = answers_text (advance_all (Goes m state) (last_tokens pending)) (end_at pending p)
+    (advance_all_text (Goes m state) (last_tokens pending) tt)
 
 -- whatever a text is refused for, it is not its length
 pub answer_text : (bytes : List ℕ) → AnswersByText (answer bytes)

@@ -19,7 +19,8 @@ whole_is : (before text xs rest : List ℕ) → text ≡ xs ++ rest → before +
 whole_is before text xs rest e = ap (λ l. before ++ l) e ∙ sym (append_assoc before xs rest)
 
 -- the first part of a text is written
-pub gained_part : (a b : Option (List ℕ)) (before text after xs rest : List ℕ) → text ≡ xs ++ rest → Gained a (before ++ xs) after b → Gained a (before ++ text) (after ++ rest) b
+pub gained_part : (a b : Option (List ℕ)) (before text after xs rest : List ℕ) → text ≡ xs ++ rest → Gained a (before ++ xs) after b
+    → Gained a (before ++ text) (after ++ rest) b
 gained_part a b before text after xs rest e g = record {
   done = g.done;
   gains = g.gains;
@@ -27,11 +28,14 @@ gained_part a b before text after xs rest e g = record {
 }
 
 -- the first part of what was left is written
-pub gained_more : (a b c : Option (List ℕ)) (whole before left after xs rest : List ℕ) → Gained a whole (before ++ left) b → left ≡ xs ++ rest → Gained b (before ++ xs) after c → Gained a whole (after ++ rest) c
-gained_more a b c whole before left after xs rest g e h = gained_both a b c whole (before ++ left) (after ++ rest) g (gained_part b c before left after xs rest e h)
+pub gained_more : (a b c : Option (List ℕ)) (whole before left after xs rest : List ℕ) → Gained a whole (before ++ left) b → left ≡ xs ++ rest
+    → Gained b (before ++ xs) after c → Gained a whole (after ++ rest) c
+gained_more a b c whole before left after xs rest g e h =
+    gained_both a b c whole (before ++ left) (after ++ rest) g (gained_part b c before left after xs rest e h)
 
 -- the sink got what was gathered and the first part of what was left
-pub gained_handed : (a b c : Option (List ℕ)) (whole before left xs rest : List ℕ) → Gained a whole (before ++ left) b → left ≡ xs ++ rest → Gains b (before ++ xs) c → Gained a whole rest c
+pub gained_handed : (a b c : Option (List ℕ)) (whole before left xs rest : List ℕ) → Gained a whole (before ++ left) b → left ≡ xs ++ rest
+    → Gains b (before ++ xs) c → Gained a whole rest c
 gained_handed a b c whole before left xs rest g e h =
     gained_both a b c whole (before ++ left) rest g (record { done = before ++ xs; gains = h; rest = whole_is before left xs rest e })
 
@@ -48,7 +52,8 @@ pub front_part : (a b : Option (List ℕ)) (before text xs rest : List ℕ) → 
 front_part a b before text xs rest e h = subst (λ l. GainsFront a l b) (sym (whole_is before text xs rest e)) (front_of_first a b (before ++ xs) rest h)
 
 -- so it is where the call answers an error
-pub on_err_front : {T E : Type 0} (r : Result T E) (a b : Option (List ℕ)) (before text xs rest : List ℕ) → text ≡ xs ++ rest → GainsFront a (before ++ xs) b → OnErr r (GainsFront a (before ++ text) b)
+pub on_err_front : {T E : Type 0} (r : Result T E) (a b : Option (List ℕ)) (before text xs rest : List ℕ) → text ≡ xs ++ rest → GainsFront a (before ++ xs) b
+    → OnErr r (GainsFront a (before ++ text) b)
 on_err_front (Ok v) a b before text xs rest e h = tt
 on_err_front (Err x) a b before text xs rest e h = front_part a b before text xs rest e h
 
@@ -95,7 +100,8 @@ module _ {T U E F : Type 0} where
 
 -- a text is written, and then all that is gathered
 pub writes_flushed : {T E : Type 0} (a b c : Option (List ℕ)) (before middle after : List ℕ) (i j k : ℕ) (text : List ℕ) (r : Result T E)
-    → Gained a (before ++ text) middle b → i ≤ j → OnOk r (after ≡ []) → OnOk r (Gains b middle c) → OnErr r (GainsFront b middle c) → HasCause j k r → Writes a before i text c after k r
+    → Gained a (before ++ text) middle b → i ≤ j → OnOk r (after ≡ []) → OnOk r (Gains b middle c) → OnErr r (GainsFront b middle c) → HasCause j k r
+    → Writes a before i text c after k r
 writes_flushed a b c before middle after i j k text (Ok v) g later none ok err cause = record {
   ok = record {
     done = g.done ++ middle;
@@ -112,7 +118,8 @@ writes_flushed a b c before middle after i j k text (Err x) g later none ok err 
 }
 
 -- the same text, written otherwise
-pub writes_same : {T E : Type 0} {a c : Option (List ℕ)} {before after : List ℕ} {i k : ℕ} {s : Result T E} (xs ys : List ℕ) → xs ≡ ys → Writes a before i ys c after k s → Writes a before i xs c after k s
+pub writes_same : {T E : Type 0} {a c : Option (List ℕ)} {before after : List ℕ} {i k : ℕ} {s : Result T E} (xs ys : List ℕ) → xs ≡ ys
+    → Writes a before i ys c after k s → Writes a before i xs c after k s
 writes_same {a = a} {c = c} {before = before} {after = after} {i = i} {k = k} {s = s} xs ys e w = subst (λ l. Writes a before i l c after k s) (sym e) w
 
 -- a fact, of an error alone

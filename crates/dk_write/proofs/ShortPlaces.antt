@@ -64,7 +64,8 @@ module _ {X : Type 0} (p : X → Bool) where
 
 take-front : {X : Type 0} (xs ys : List X) (n : ℕ) → take (length xs + n) (xs ++ ys) ≡ xs ++ take n ys
 take-front {X = X} [] ys n = let e : length {A = X} [] + n ≡ n = omega arith in ap (λ i. take i ys) e
-take-front {X = X} (x ∷ xs) ys n = let e : length (x ∷ xs) + n ≡ suc (length xs + n) = omega arith in ap (λ i. take i (x ∷ (xs ++ ys))) e ∙ ap (λ l. x ∷ l) (take-front xs ys n)
+take-front {X = X} (x ∷ xs) ys n = let e : length (x ∷ xs) + n ≡ suc (length xs + n) =
+    omega arith in ap (λ i. take i (x ∷ (xs ++ ys))) e ∙ ap (λ l. x ∷ l) (take-front xs ys n)
 
 module _ (m : List Declaration) (n : ℕ) (t : Tree) where
   abbrev test : Declaration → Bool

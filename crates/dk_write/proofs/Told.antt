@@ -18,7 +18,8 @@ told-more a b trees d l h = record { ty = (let t = h.ty in omega (arith, t, l));
 abbrev pub FirstTold : ℕ → ℕ → List Tree → List Decl → Type 0
 FirstTold count most trees ds = (j : ℕ) (d : Decl) → j < count → slice_get ds j ≡ Some d → IsTold most trees d
 
-pub one_more : (count a b : ℕ) (trees : List Tree) (ds : List Decl) (d : Decl) → slice_get ds count ≡ Some d → IsTold b trees d → a ≤ b → FirstTold count a trees ds → FirstTold (suc count) b trees ds
+pub one_more : (count a b : ℕ) (trees : List Tree) (ds : List Decl) (d : Decl) → slice_get ds count ≡ Some d → IsTold b trees d → a ≤ b
+    → FirstTold count a trees ds → FirstTold (suc count) b trees ds
 one_more count a b trees ds d e h l first j x lt f = go (nat_cases j count lt)
   where
     nat_cases : (j count : ℕ) → j < suc count → (j < count) ⊎ (j ≡ count)

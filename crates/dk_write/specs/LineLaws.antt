@@ -39,7 +39,8 @@ up_to_line m (d ∷ ds) [] zero = refl
 up_to_line m (d ∷ ds) [] (suc i) = sym (line_of-none m (slice_get ds i))
 up_to_line m (d ∷ ds) (b ∷ bs) zero = append-nil (declaration_text m d b)
 up_to_line m (d ∷ ds) (b ∷ bs) (suc i) =
-    ap (λ l. declaration_text m d b ++ l) (up_to_line m ds bs i) ∙ sym (append_assoc (declaration_text m d b) (declarations_text m (take i ds) (take i bs)) (line_of m (slice_get ds i) (slice_get bs i)))
+    ap (λ l. declaration_text m d b ++ l) (up_to_line m ds bs i)
+    ∙ sym (append_assoc (declaration_text m d b) (declarations_text m (take i ds) (take i bs)) (line_of m (slice_get ds i) (slice_get bs i)))
 
 -- as many declarations are written as there are, each after those before it
 pub length-shortened : (before ds : List Declaration) → length (shortened_after before ds) ≡ length ds
@@ -49,8 +50,10 @@ length-shortened before (d ∷ ds) = omega (arith, length-shortened (before ++ d
 slice_get-shortened : (before ds : List Declaration) (i : ℕ) (d : Declaration) → slice_get ds i ≡ Some d
     → slice_get (shortened_after before ds) i ≡ Some (shortened_declaration (before ++ take i ds) d)
 slice_get-shortened before [] i d e = absurd (cc)
-slice_get-shortened before (x ∷ ds) zero d e = ap (λ y. Some (shortened_declaration before y)) (same_Some x d e) ∙ ap (λ l. Some (shortened_declaration l d)) (sym (append-nil before))
-slice_get-shortened before (x ∷ ds) (suc i) d e = slice_get-shortened (before ++ x ∷ []) ds i d e ∙ ap (λ l. Some (shortened_declaration l d)) (append_assoc before (x ∷ []) (take i ds))
+slice_get-shortened before (x ∷ ds) zero d e = ap (λ y. Some (shortened_declaration before y)) (same_Some x d e) ∙ ap (λ l. Some (shortened_declaration l d))
+    (sym (append-nil before))
+slice_get-shortened before (x ∷ ds) (suc i) d e = slice_get-shortened (before ++ x ∷ []) ds i d e ∙ ap (λ l. Some (shortened_declaration l d))
+    (append_assoc before (x ∷ []) (take i ds))
 
 pub shortened-at : (m : List Declaration) (i : ℕ) (d : Declaration) → slice_get m i ≡ Some d
     → slice_get (shortened_after [] m) i ≡ Some (shortened_declaration (take i m) d)
@@ -58,7 +61,8 @@ shortened-at m i d e = slice_get-shortened [] m i d e
 
 -- the lines of the declarations from one on
 pub drop-line_at : (m : List Declaration) (bounds : List ℕ) (i : ℕ)
-    → declarations_text m (drop i (shortened_after [] m)) (drop i bounds) ≡ line_at m bounds i ++ declarations_text m (drop (i + 1) (shortened_after [] m)) (drop (i + 1) bounds)
+    → declarations_text m (drop i (shortened_after [] m)) (drop i bounds) ≡ line_at m bounds i
+    ++ declarations_text m (drop (i + 1) (shortened_after [] m)) (drop (i + 1) bounds)
 drop-line_at m bounds i = rw add-one (from_line m (shortened_after [] m) bounds i)
 
 -- the text up to the next declaration has one line more
@@ -74,7 +78,8 @@ text_before-first m bounds = append-nil prelude
 -- the text up to the end is that of the module
 pub text_before-end : (m : List Declaration) (bounds : List ℕ) (i : ℕ) → i ≡ length m → i ≡ length bounds → text_before m bounds i ≡ written m bounds
 text_before-end m bounds i e f =
-    ap (λ l. prelude ++ declarations_text m l (take i bounds)) (ap (λ n. take n (shortened_after [] m)) (e ∙ sym (length-shortened [] m)) ∙ take-length (shortened_after [] m))
+    ap (λ l. prelude ++ declarations_text m l (take i bounds))
+    (ap (λ n. take n (shortened_after [] m)) (e ∙ sym (length-shortened [] m)) ∙ take-length (shortened_after [] m))
     ∙ ap (λ l. prelude ++ declarations_text m (shortened_after [] m) l) (ap (λ n. take n bounds) f ∙ take-length bounds)
 
 -- from the end of the declarations on there is no line
@@ -95,4 +100,5 @@ pub written-text_before : (m : List Declaration) (bounds : List ℕ) (i : ℕ)
     → written m bounds ≡ text_before m bounds i ++ declarations_text m (drop i (shortened_after [] m)) (drop i bounds)
 written-text_before m bounds i =
     ap (λ l. prelude ++ l) (cut_lines m (shortened_after [] m) bounds i)
-    ∙ sym (append_assoc prelude (declarations_text m (take i (shortened_after [] m)) (take i bounds)) (declarations_text m (drop i (shortened_after [] m)) (drop i bounds)))
+    ∙ sym (append_assoc prelude (declarations_text m (take i (shortened_after [] m)) (take i bounds))
+    (declarations_text m (drop i (shortened_after [] m)) (drop i bounds)))

@@ -15,7 +15,8 @@ pub record Gained (old : Option (List ℕ)) (whole left : List ℕ) (now : Optio
   pub rest : whole ≡ done ++ left
 
 -- of the bytes gathered before and the text, the sink got all but those gathered after; where the call failed it got a front of them, and its count of faults rose
-pub record Writes {T E : Type 0} (old : Option (List ℕ)) (before : List ℕ) (faults : ℕ) (text : List ℕ) (new : Option (List ℕ)) (after : List ℕ) (faults_now : ℕ) (result : Result T E) : Type 0 where
+pub record Writes {T E : Type 0} (old : Option (List ℕ)) (before : List ℕ) (faults : ℕ) (text : List ℕ) (new : Option (List ℕ)) (after : List ℕ)
+    (faults_now : ℕ) (result : Result T E) : Type 0 where
   pub ok : OnOk result (Gained old (before ++ text) after new)
   pub err : OnErr result (GainsFront old (before ++ text) new)
   pub cause : HasCause faults faults_now result

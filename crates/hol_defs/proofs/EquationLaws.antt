@@ -29,7 +29,8 @@ use Rattle.hol_defs.specs.Lists.{same_variable, variable_at, equation_at, equati
 
 -- an equation is taken apart
 parts-equation : (a : HolType) (l r : Term) → equation_parts (equation a l r) ≡ Some (record { ty = a; left = l; right = r })
-parts-equation a l r = ap (λ b. if b then Some (record { ty = a; left = l; right = r }) else None) ((type_eq-Decides (equality_type a) (equality_type a)).1 refl)
+parts-equation a l r = ap (λ b. if b then Some (record { ty = a; left = l; right = r }) else None)
+    ((type_eq-Decides (equality_type a) (equality_type a)).1 refl)
 
 -- no equation says nothing of a variable
 pub says_nothing : (t : Term) → ((l r : Term) → IsEquation t l r → ⊥) → variable_equation t ≡ None
@@ -45,9 +46,11 @@ says t l r h = ap variable_equation h.1 ∙ ap of_equation (parts-equation h.0 l
 
 module _ (trees : Trees) (distinct : type.IsDistinct trees.types) where
   -- variables are one where their numbers are
-  pub variable_eq-at : (v w : Variable) → v.ty.0 < length trees.types → w.ty.0 < length trees.types → variable_eq (variable_at trees v) (variable_at trees w) ≡ same_variable v w
+  pub variable_eq-at : (v w : Variable) → v.ty.0 < length trees.types → w.ty.0 < length trees.types → variable_eq (variable_at trees v) (variable_at trees w)
+      ≡ same_variable v w
   variable_eq-at v w hv hw = ap (λ b. name_eq v.name w.name && b) (same_from (type_eq (type_at trees v.ty.0) (type_at trees w.ty.0)) (nat_eq v.ty.0 w.ty.0)
-      (λ e. (Decides-eqb v.ty.0 w.ty.0).1 (ap (λ (id : TypeId). id.0) (tree_at-same distinct v.ty w.ty hv hw ((type_eq-Decides (type_at trees v.ty.0) (type_at trees w.ty.0)).0 e))))
+      (λ e. (Decides-eqb v.ty.0 w.ty.0).1
+      (ap (λ (id : TypeId). id.0) (tree_at-same distinct v.ty w.ty hv hw ((type_eq-Decides (type_at trees v.ty.0) (type_at trees w.ty.0)).0 e))))
       (λ e. (type_eq-Decides (type_at trees v.ty.0) (type_at trees w.ty.0)).1 (ap (λ i. type_at trees i) ((Decides-eqb v.ty.0 w.ty.0).0 e))))
     where
       same_from : (a b : Bool) → (a ≡ true → b ≡ true) → (b ≡ true → a ≡ true) → a ≡ b
@@ -56,7 +59,8 @@ module _ (trees : Trees) (distinct : type.IsDistinct trees.types) where
       same_from false false f g = refl
 
   -- a variable is among others where its number is among theirs
-  pub is_in-at : (v : Variable) (ws : List Variable) → v.ty.0 < length trees.types → HaveTypes trees ws → is_in variable_eq (variable_at trees v) (variables_of trees ws) ≡ is_in same_variable v ws
+  pub is_in-at : (v : Variable) (ws : List Variable) → v.ty.0 < length trees.types → HaveTypes trees ws
+      → is_in variable_eq (variable_at trees v) (variables_of trees ws) ≡ is_in same_variable v ws
   is_in-at v [] hv h = refl
   is_in-at v (w ∷ ws) hv h = ap₂ (λ a b. a || b) (variable_eq-at v w hv h.0) (is_in-at v ws hv h.1)
 
@@ -90,7 +94,8 @@ module _ (trees : Trees) (vs : List Variable) (h : TermId) where
   pub nothing_said : None ≡ variable_equation (term_at trees h.0) → equations_of trees vs (h ∷ []) ≡ []
   nothing_said e = ap (λ o. filter (λ q. is_in variable_eq q.0 (variables_of trees vs)) (cons_option o [])) (sym e)
 
-  module _ (q : Equation) (e : Some (equation_at trees q) ≡ variable_equation (term_at trees h.0)) (distinct : type.IsDistinct trees.types) (typed : HaveTypes trees vs) (known : q.variable.ty.0 < length trees.types) where
+  module _ (q : Equation) (e : Some (equation_at trees q) ≡ variable_equation (term_at trees h.0)) (distinct : type.IsDistinct trees.types)
+      (typed : HaveTypes trees vs) (known : q.variable.ty.0 < length trees.types) where
     said : (b : Bool) → is_in same_variable q.variable vs ≡ b → equations_of trees vs (h ∷ []) ≡ cond b (equation_at trees q ∷ []) []
     said b is =
         ap (λ o. filter (λ q. is_in variable_eq q.0 (variables_of trees vs)) (cons_option o [])) (sym e)
@@ -104,6 +109,7 @@ module _ (trees : Trees) (vs : List Variable) (h : TermId) where
     pub other_said : is_in same_variable q.variable vs ≡ false → equations_of trees vs (h ∷ []) ≡ []
     other_said is = said false is
 
-pub known_last : (trees : Trees) (es : List Equation) (e : Equation) → AreEquationsKnown trees es → IsEquationKnown trees e → AreEquationsKnown trees (es ++ e ∷ [])
+pub known_last : (trees : Trees) (es : List Equation) (e : Equation) → AreEquationsKnown trees es → IsEquationKnown trees e
+    → AreEquationsKnown trees (es ++ e ∷ [])
 known_last trees [] e h k = (k, tt)
 known_last trees (x ∷ es) e h k = (h.0, known_last trees es e h.1 k)

@@ -32,17 +32,20 @@ or-none (Some x) = refl
 
 module _ (w : Variable) (t : TermId) where
   -- one pair more
-  lookup-more : (es : List (Variable × TermId)) (v : Variable) → lookup (same_variable v) (es ++ (w, t) ∷ []) ≡ option_or (lookup (same_variable v) es) (cond (same_variable v w) (Some t) None)
+  lookup-more : (es : List (Variable × TermId)) (v : Variable) → lookup (same_variable v) (es ++ (w, t) ∷ [])
+      ≡ option_or (lookup (same_variable v) es) (cond (same_variable v w) (Some t) None)
   lookup-more [] v = refl
   lookup-more (e ∷ es) v = go (same_variable v e.0) (lookup-more es v)
     where
       go : (b : Bool) → lookup (same_variable v) (es ++ (w, t) ∷ []) ≡ option_or (lookup (same_variable v) es) (cond (same_variable v w) (Some t) None)
-          → cond b (Some e.1) (lookup (same_variable v) (es ++ (w, t) ∷ [])) ≡ option_or (cond b (Some e.1) (lookup (same_variable v) es)) (cond (same_variable v w) (Some t) None)
+          → cond b (Some e.1) (lookup (same_variable v) (es ++ (w, t) ∷ []))
+          ≡ option_or (cond b (Some e.1) (lookup (same_variable v) es)) (cond (same_variable v w) (Some t) None)
       go true h = refl
       go false h = h
 
   -- it changes nothing where the variable has a term
-  pub noted : (es : List (Variable × TermId)) → is_some (lookup (same_variable w) es) ≡ true → (v : Variable) → lookup (same_variable v) es ≡ lookup (same_variable v) (es ++ (w, t) ∷ [])
+  pub noted : (es : List (Variable × TermId)) → is_some (lookup (same_variable w) es) ≡ true → (v : Variable) → lookup (same_variable v) es
+      ≡ lookup (same_variable v) (es ++ (w, t) ∷ [])
   noted es h v = go (same_variable v w) refl ∙ sym (lookup-more es v)
     where
       by_option : (o : Option TermId) → is_some o ≡ true → o ≡ option_or o (Some t)
@@ -50,7 +53,8 @@ module _ (w : Variable) (t : TermId) where
       by_option (Some x) e = refl
 
       go : (b : Bool) → same_variable v w ≡ b → lookup (same_variable v) es ≡ option_or (lookup (same_variable v) es) (cond b (Some t) None)
-      go true e = let s : v ≡ w = (same_variable-Decides v w).0 e in by_option (lookup (same_variable v) es) (ap (λ u. is_some (lookup (same_variable u) es)) s ∙ h)
+      go true e = let s : v ≡ w = (same_variable-Decides v w).0 e in by_option (lookup (same_variable v) es)
+          (ap (λ u. is_some (lookup (same_variable u) es)) s ∙ h)
       go false e = sym (or-none (lookup (same_variable v) es))
 
 -- where nothing is found, there is none
@@ -59,13 +63,16 @@ none-found None e = refl
 none-found (Some x) e = absurd (cc)
 
 -- one equation more
-pub noted-next : (old : List (Variable × TermId)) (es : List Equation) (e : Equation) → ((v : Variable) → lookup (same_variable v) old ≡ term_of es v) → (v : Variable) → lookup (same_variable v) (old ++ (e.variable, e.term) ∷ []) ≡ term_of (es ++ e ∷ []) v
+pub noted-next : (old : List (Variable × TermId)) (es : List Equation) (e : Equation) → ((v : Variable) → lookup (same_variable v) old ≡ term_of es v)
+    → (v : Variable) → lookup (same_variable v) (old ++ (e.variable, e.term) ∷ []) ≡ term_of (es ++ e ∷ []) v
 noted-next old es e h v =
     lookup-more e.variable e.term old v ∙ ap (λ o. option_or o (cond (same_variable v e.variable) (Some e.term) None)) (h v)
-    ∙ sym (ap (lookup (same_variable v)) (map-append (λ (x : Equation). (x.variable, x.term)) es (e ∷ [])) ∙ lookup-more e.variable e.term (map (λ (x : Equation). (x.variable, x.term)) es) v)
+    ∙ sym (ap (lookup (same_variable v)) (map-append (λ (x : Equation). (x.variable, x.term)) es (e ∷ []))
+    ∙ lookup-more e.variable e.term (map (λ (x : Equation). (x.variable, x.term)) es) v)
 
 -- one pair more that is defined
-pub found-last : (ps : List (Name × Variable)) (es : List Equation) (ts : List TermId) (p : Name × Variable) (t : TermId) → AreFound ps es ts → term_of es p.1 ≡ Some t → AreFound (ps ++ p ∷ []) es (ts ++ t ∷ [])
+pub found-last : (ps : List (Name × Variable)) (es : List Equation) (ts : List TermId) (p : Name × Variable) (t : TermId) → AreFound ps es ts → term_of es p.1
+    ≡ Some t → AreFound (ps ++ p ∷ []) es (ts ++ t ∷ [])
 found-last [] es [] p t f e = (e, tt)
 found-last (q ∷ ps) es (u ∷ ts) p t f e = (f.0, found-last ps es ts p t f.1 e)
 found-last (q ∷ ps) es [] p t f e = absurd f

@@ -29,7 +29,8 @@ chosen : {A B : Type 0} (f : A → B) (b : Bool) (x : A) (o : Option A) → opti
 chosen f true x o = refl
 chosen f false x o = refl
 
-chosen_twice : {A B : Type 0} (f : A → B) (b c : Bool) (x y : A) (o : Option A) → option_or (cond b (Some (f x)) (cond c (Some (f y)) None)) (option_map f o) ≡ option_map f (cond b (Some x) (cond c (Some y) o))
+chosen_twice : {A B : Type 0} (f : A → B) (b c : Bool) (x y : A) (o : Option A) → option_or (cond b (Some (f x)) (cond c (Some (f y)) None)) (option_map f o)
+    ≡ option_map f (cond b (Some x) (cond c (Some y) o))
 chosen_twice f true c x y o = refl
 chosen_twice f false true x y o = refl
 chosen_twice f false false x y o = refl
@@ -73,12 +74,14 @@ module _ (trees : Trees) (n : Name) where
       ap (option_or (cond (name_eq n names.operator) (Some (length names.variables)) None)) (arities-found xs)
       ∙ alone (name_eq n names.operator) (length names.variables) (lookup (name_eq n) (arities_of xs))
 
-  known_either : (b : Bool) (a : TypeId) (o : Option TypeId) → a.0 < length trees.types → IfSome o (λ a. a.0 < length trees.types) → IfSome (cond b (Some a) o) (λ a. a.0 < length trees.types)
+  known_either : (b : Bool) (a : TypeId) (o : Option TypeId) → a.0 < length trees.types → IfSome o (λ a. a.0 < length trees.types)
+      → IfSome (cond b (Some a) o) (λ a. a.0 < length trees.types)
   known_either true a o h k = h
   known_either false a o h k = k
 
   -- defined constants are found among the generic types, whose numbers are of the table
-  pub generics-found : (xs : List Taken) → AreKnownSymbols trees xs → first_defined_type n (symbols_at trees xs) ≡ option_map (number_at trees.types) (lookup (name_eq n) (generics_of xs))
+  pub generics-found : (xs : List Taken) → AreKnownSymbols trees xs → first_defined_type n (symbols_at trees xs)
+      ≡ option_map (number_at trees.types) (lookup (name_eq n) (generics_of xs))
   generics-found [] h = refl
   generics-found (one.input_constant m ∷ xs) h = generics-found xs h.1
   generics-found (one.input_operator m j ∷ xs) h = generics-found xs h.1
@@ -87,7 +90,8 @@ module _ (trees : Trees) (n : Name) where
       ∙ chosen (number_at trees.types) (name_eq n m) a (lookup (name_eq n) (generics_of xs))
   generics-found (one.type_operator names c f abs rep ∷ xs) h =
       ap (option_or (cond (name_eq n names.abstraction) (Some _) (cond (name_eq n names.representation) (Some _) None))) (generics-found xs h.1)
-      ∙ ap₂ (λ a b. option_or (cond (name_eq n names.abstraction) (Some a) (cond (name_eq n names.representation) (Some b) None)) (option_map (number_at trees.types) (lookup (name_eq n) (generics_of xs)))) (sym h.0.constants.from) (sym h.0.constants.to)
+      ∙ ap₂ (λ a b. option_or (cond (name_eq n names.abstraction) (Some a) (cond (name_eq n names.representation) (Some b) None))
+      (option_map (number_at trees.types) (lookup (name_eq n) (generics_of xs)))) (sym h.0.constants.from) (sym h.0.constants.to)
       ∙ chosen_twice (number_at trees.types) (name_eq n names.abstraction) (name_eq n names.representation) abs rep (lookup (name_eq n) (generics_of xs))
 
   -- what is found of a constant has a number of the table
@@ -97,14 +101,18 @@ module _ (trees : Trees) (n : Name) where
   generics-known (one.input_operator m j ∷ xs) h = generics-known xs h.1
   generics-known (one.constant m t a ∷ xs) h = known_either (name_eq n m) a (lookup (name_eq n) (generics_of xs)) h.0.ty (generics-known xs h.1)
   generics-known (one.type_operator names c f abs rep ∷ xs) h =
-      known_either (name_eq n names.abstraction) abs (cond (name_eq n names.representation) (Some rep) (lookup (name_eq n) (generics_of xs))) h.0.constants.abstraction
+      known_either (name_eq n names.abstraction) abs (cond (name_eq n names.representation) (Some rep) (lookup (name_eq n) (generics_of xs)))
+      h.0.constants.abstraction
       (known_either (name_eq n names.representation) rep (lookup (name_eq n) (generics_of xs)) h.0.constants.representation (generics-known xs h.1))
 
-pub constant_kind-found : (trees : Trees) (n : Name) (xs : List Taken) → AreKnownSymbols trees xs → constant_kind (symbols_at trees xs) n ≡ first_kind (is_some (primitive_type n)) (is_some (lookup (name_eq n) (generics_of xs))) (is_in name_eq n (inputs_of xs))
+pub constant_kind-found : (trees : Trees) (n : Name) (xs : List Taken) → AreKnownSymbols trees xs → constant_kind (symbols_at trees xs) n
+    ≡ first_kind (is_some (primitive_type n)) (is_some (lookup (name_eq n) (generics_of xs))) (is_in name_eq n (inputs_of xs))
 constant_kind-found trees n xs h =
-    ap₂ (first_kind (is_some (primitive_type n))) (ap is_some (generics-found trees n xs h) ∙ some-mapped (number_at trees.types) (lookup (name_eq n) (generics_of xs))) (inputs-found trees n xs)
+    ap₂ (first_kind (is_some (primitive_type n))) (ap is_some (generics-found trees n xs h)
+    ∙ some-mapped (number_at trees.types) (lookup (name_eq n) (generics_of xs))) (inputs-found trees n xs)
 
-pub operator_kind-found : (trees : Trees) (n : Name) (xs : List Taken) → operator_kind (symbols_at trees xs) n ≡ first_kind (is_some (primitive_arity n)) (is_some (lookup (name_eq n) (arities_of xs))) (is_used n (uses_of xs))
+pub operator_kind-found : (trees : Trees) (n : Name) (xs : List Taken) → operator_kind (symbols_at trees xs) n
+    ≡ first_kind (is_some (primitive_arity n)) (is_some (lookup (name_eq n) (arities_of xs))) (is_used n (uses_of xs))
 operator_kind-found trees n xs = ap₂ (first_kind (is_some (primitive_arity n))) (ap is_some (arities-found trees n xs)) (names-found trees n xs)
 
 taken_by : (p d i : Bool) → is_some (first_kind p d i) ≡ ((p || d) || i)
@@ -129,8 +137,11 @@ operator_kind-taken symbols n =
     ∙ ap (λ b. b || list_any (is_input_operator_named n) symbols) (some-either (primitive_arity n) (first_defined_arity n symbols))
 
 -- a defined or primitive constant has no other
-pub undefined : (trees : Trees) (n : Name) (xs : List Taken) → AreKnownSymbols trees xs → is_taken_constant (symbols_at trees xs) n ≡ false → lookup (name_eq n) (generics_of xs) ≡ None
-undefined trees n xs h e = none_mapped (number_at trees.types) (lookup (name_eq n) (generics_of xs)) (sym (generics-found trees n xs h) ∙ second_none (primitive_type n) (first_defined_type n (symbols_at trees xs)) (list_any (is_input_constant n) (symbols_at trees xs)) e)
+pub undefined : (trees : Trees) (n : Name) (xs : List Taken) → AreKnownSymbols trees xs → is_taken_constant (symbols_at trees xs) n ≡ false
+    → lookup (name_eq n) (generics_of xs) ≡ None
+undefined trees n xs h e = none_mapped (number_at trees.types) (lookup (name_eq n) (generics_of xs))
+    (sym (generics-found trees n xs h) ∙ second_none (primitive_type n) (first_defined_type n (symbols_at trees xs))
+    (list_any (is_input_constant n) (symbols_at trees xs)) e)
   where
     none_mapped : {A B : Type 0} (f : A → B) (o : Option A) → option_map f o ≡ None → o ≡ None
     none_mapped f None e = refl
@@ -142,7 +153,8 @@ undefined trees n xs h e = none_mapped (number_at trees.types) (lookup (name_eq 
     second_none (Some x) p b e = absurd (cc)
 
 pub unsettled : (trees : Trees) (n : Name) (xs : List Taken) → is_taken_operator (symbols_at trees xs) n ≡ false → lookup (name_eq n) (arities_of xs) ≡ None
-unsettled trees n xs e = sym (arities-found trees n xs) ∙ second_none (primitive_arity n) (first_defined_arity n (symbols_at trees xs)) (list_any (is_input_operator_named n) (symbols_at trees xs)) e
+unsettled trees n xs e = sym (arities-found trees n xs) ∙ second_none (primitive_arity n) (first_defined_arity n (symbols_at trees xs))
+    (list_any (is_input_operator_named n) (symbols_at trees xs)) e
   where
     second_none : {A : Type 0} (o p : Option A) (b : Bool) → (is_some (option_or o p) || b) ≡ false → p ≡ None
     second_none None None b e = refl
@@ -150,7 +162,9 @@ unsettled trees n xs e = sym (arities-found trees n xs) ∙ second_none (primiti
     second_none (Some x) p b e = absurd (cc)
 
 -- the symbol at a place is that of the entry there
-pub entry-shown : (entries : List Entry) (now : List Taken) (place : ℕ) (x y : Entry) → map taken_of entries ≡ now → place < length now → x ≡ get_or entries place x → x ≡ y → slice_get now place ≡ Some (taken_of y)
+pub entry-shown : (entries : List Entry) (now : List Taken) (place : ℕ) (x y : Entry) → map taken_of entries ≡ now → place < length now → x
+    ≡ get_or entries place x → x ≡ y → slice_get now place ≡ Some (taken_of y)
 entry-shown entries now place x y is inside at e =
     let l : place < length entries = omega (arith, inside, ap length is, length-map entries taken_of) in
-    sym (ap (λ l. slice_get l place) is) ∙ slice_get-map taken_of entries place ∙ ap (option_map taken_of) (slice_get-get_or entries place x l ∙ ap Some (sym at ∙ e))
+    sym (ap (λ l. slice_get l place) is) ∙ slice_get-map taken_of entries place
+    ∙ ap (option_map taken_of) (slice_get-get_or entries place x l ∙ ap Some (sym at ∙ e))

@@ -71,7 +71,8 @@ module _ {A : Type 0} (same : A → A → Bool) (decides : (x y : A) → Decides
     own true false = refl
     own false c = refl
 
-    all_of-one-by : (x : A) (xs : List A) (y : A) (b : Bool) → same y x ≡ b → (b ≡ false → (list_all p xs && p y) ≡ list_all p xs) → ((p x && list_all p xs) && p y) ≡ (p x && list_all p xs)
+    all_of-one-by : (x : A) (xs : List A) (y : A) (b : Bool) → same y x ≡ b → (b ≡ false → (list_all p xs && p y) ≡ list_all p xs)
+        → ((p x && list_all p xs) && p y) ≡ (p x && list_all p xs)
     all_of-one-by x xs y true f h = let s : y ≡ x = (decides y x).0 f in rw s (own (p x) (list_all p xs))
     all_of-one-by x xs y false f h = and-assoc (p x) (list_all p xs) (p y) ∙ ap (λ b. p x && b) (h refl)
 
@@ -87,7 +88,8 @@ module _ {A : Type 0} (same : A → A → Bool) (decides : (x y : A) → Decides
     pub all-united : (ys xs : List A) → list_all p (union same xs ys) ≡ (list_all p xs && list_all p ys)
     all-united [] xs = sym (and-true (list_all p xs))
     all-united (y ∷ ys) xs =
-        all-united ys (cond (is_in same y xs) xs (xs ++ y ∷ [])) ∙ ap (λ b. b && list_all p ys) (all-new xs y (is_in same y xs) refl) ∙ and-assoc (list_all p xs) (p y) (list_all p ys)
+        all-united ys (cond (is_in same y xs) xs (xs ++ y ∷ [])) ∙ ap (λ b. b && list_all p ys) (all-new xs y (is_in same y xs) refl)
+        ∙ and-assoc (list_all p xs) (p y) (list_all p ys)
 
     pub all-distinct : (xs : List A) → list_all p (distinct same xs) ≡ list_all p xs
     all-distinct xs = all-united xs []
@@ -97,17 +99,20 @@ all-each p q h [] = refl
 all-each p q h (x ∷ xs) = λ i. h x i && all-each p q h xs i
 
 -- by the lists of variables, each once
-pub has_variables-listed : (a : HolType) (t : Term) (own names : List Name) → own ≡ union name_eq [] (type_variables a) → names ≡ distinct name_eq (type_variable_places t)
+pub has_variables-listed : (a : HolType) (t : Term) (own names : List Name) → own ≡ union name_eq [] (type_variables a) → names
+    ≡ distinct name_eq (type_variable_places t)
     → list_all (λ n. is_in name_eq n own) names ≡ has_type_variables_of a t
 has_variables-listed a t own names e f =
     ap (list_all (λ n. is_in name_eq n own)) f ∙ all-distinct name_eq name_eq-Decides (λ n. is_in name_eq n own) (type_variable_places t)
     ∙ all-each (λ n. is_in name_eq n own) (λ n. is_in name_eq n (variable_places a)) (λ n.
-    ap (is_in name_eq n) (e ∙ union-distinct name_eq name_eq-Decides (variable_places a) []) ∙ is_in-united name_eq name_eq-Decides (variable_places a) [] n) (type_variable_places t)
+    ap (is_in name_eq n) (e ∙ union-distinct name_eq name_eq-Decides (variable_places a) []) ∙ is_in-united name_eq name_eq-Decides (variable_places a) [] n)
+    (type_variable_places t)
 
 not_none : (n : ℕ) → nat_eq (suc n) 0 ≡ false
 not_none n = grind (arith, nat_tests)
 
-nonempty-by : {A : Type 0} (same : A → A → Bool) (ys : List A) (x y : A) (xs : List A) (b : Bool) → ((zs : List A) → nat_eq (length (union same (x ∷ zs) ys)) 0 ≡ false) → nat_eq (length (union same (cond b (x ∷ xs) (x ∷ xs ++ y ∷ [])) ys)) 0 ≡ false
+nonempty-by : {A : Type 0} (same : A → A → Bool) (ys : List A) (x y : A) (xs : List A) (b : Bool)
+    → ((zs : List A) → nat_eq (length (union same (x ∷ zs) ys)) 0 ≡ false) → nat_eq (length (union same (cond b (x ∷ xs) (x ∷ xs ++ y ∷ [])) ys)) 0 ≡ false
 nonempty-by same ys x y xs true h = h xs
 nonempty-by same ys x y xs false h = h (xs ++ y ∷ [])
 
@@ -170,7 +175,8 @@ no_longer : {A : Type 0} (same : A → A → Bool) (ys xs : List A) → length (
 no_longer same [] xs = omega arith
 no_longer {A = A} same (y ∷ ys) xs = by_case (is_in same y xs) (λ zs. no_longer same ys zs)
   where
-    by_case : (b : Bool) → ((zs : List A) → length (union same zs ys) ≤ length zs + length ys) → length (union same (cond b xs (xs ++ y ∷ [])) ys) ≤ length xs + suc (length ys)
+    by_case : (b : Bool) → ((zs : List A) → length (union same zs ys) ≤ length zs + length ys)
+        → length (union same (cond b xs (xs ++ y ∷ [])) ys) ≤ length xs + suc (length ys)
     by_case true h = let k = h xs in omega (arith, k)
     by_case false h = let k = h (xs ++ y ∷ []) in omega (arith, k, length-append xs (y ∷ []))
 
@@ -208,17 +214,21 @@ module _ {A : Type 0} (same : A → A → Bool) (decides : (x y : A) → Decides
       same_from false true f g = g refl
       same_from false false f g = refl
 
-  none-new : (xs : List A) (y : A) (ys : List A) → list_all (λ z. not (is_in same z (xs ++ y ∷ []))) ys ≡ (list_all (λ z. not (is_in same z xs)) ys && not (is_in same y ys))
+  none-new : (xs : List A) (y : A) (ys : List A) → list_all (λ z. not (is_in same z (xs ++ y ∷ []))) ys
+      ≡ (list_all (λ z. not (is_in same z xs)) ys && not (is_in same y ys))
   none-new xs y [] = refl
   none-new xs y (z ∷ zs) =
       ap₂ (λ a b. not a && b) (list_any-append (same z) xs (y ∷ []) ∙ ap (λ b. is_in same z xs || b) (or-false (same z y) ∙ same-turned z y)) (none-new xs y zs)
       ∙ apart (is_in same z xs) (same y z) (list_all (λ w. not (is_in same w xs)) zs) (is_in same y zs)
 
-  once-by : (xs : List A) (y : A) (ys : List A) (b : Bool) → is_in same y xs ≡ b → ((zs : List A) → nat_eq (length (union same zs ys)) (length zs + length ys) ≡ (no_repeats same ys && list_all (λ z. not (is_in same z zs)) ys))
-      → nat_eq (length (union same (cond b xs (xs ++ y ∷ [])) ys)) (length xs + suc (length ys)) ≡ ((not (is_in same y ys) && no_repeats same ys) && (not b && list_all (λ z. not (is_in same z xs)) ys))
+  once-by : (xs : List A) (y : A) (ys : List A) (b : Bool) → is_in same y xs ≡ b
+      → ((zs : List A) → nat_eq (length (union same zs ys)) (length zs + length ys) ≡ (no_repeats same ys && list_all (λ z. not (is_in same z zs)) ys))
+      → nat_eq (length (union same (cond b xs (xs ++ y ∷ [])) ys)) (length xs + suc (length ys))
+      ≡ ((not (is_in same y ys) && no_repeats same ys) && (not b && list_all (λ z. not (is_in same z xs)) ys))
   once-by xs y ys true e h =
       let k = no_longer same ys xs in
-      shorter (length (union same xs ys)) (length xs + suc (length ys)) (omega (arith, k)) ∙ none_left (not (is_in same y ys) && no_repeats same ys) (list_all (λ z. not (is_in same z xs)) ys)
+      shorter (length (union same xs ys)) (length xs + suc (length ys)) (omega (arith, k))
+      ∙ none_left (not (is_in same y ys) && no_repeats same ys) (list_all (λ z. not (is_in same z xs)) ys)
   once-by xs y ys false e h =
       let k : length (xs ++ y ∷ []) + length ys ≡ length xs + suc (length ys) = omega (arith, length-append xs (y ∷ [])) in
       sym (ap (nat_eq (length (union same (xs ++ y ∷ []) ys))) k) ∙ h (xs ++ y ∷ []) ∙ ap (λ b. no_repeats same ys && b) (none-new xs y ys)
@@ -237,15 +247,20 @@ module _ {A : Type 0} (same : A → A → Bool) (decides : (x y : A) → Decides
   pub once-listed : (ys zs : List A) → zs ≡ union same [] ys → nat_eq (length zs) (length ys) ≡ no_repeats same ys
   once-listed ys zs e =
       let k : length {A = A} [] + length ys ≡ length ys = omega arith in
-      ap (λ l. nat_eq (length l) (length ys)) e ∙ sym (ap (nat_eq (length (union same [] ys))) k) ∙ once-united ys [] ∙ ap (λ b. no_repeats same ys && b) (all-true ys) ∙ and-true (no_repeats same ys)
+      ap (λ l. nat_eq (length l) (length ys)) e ∙ sym (ap (nat_eq (length (union same [] ys))) k) ∙ once-united ys []
+      ∙ ap (λ b. no_repeats same ys && b) (all-true ys) ∙ and-true (no_repeats same ys)
 
 -- by the lists of variables, each once
-pub are_variables-listed : (names : List Name) (t : Term) (mine variables places : List Name) → mine ≡ union name_eq [] names → variables ≡ distinct name_eq (type_variable_places t) → places ≡ union name_eq [] variables
-    → ((nat_eq (length mine) (length names) && list_all (λ n. is_in name_eq n places) names) && list_all (λ n. is_in name_eq n mine) variables) ≡ are_type_variables_of names t
+pub are_variables-listed : (names : List Name) (t : Term) (mine variables places : List Name) → mine ≡ union name_eq [] names → variables
+    ≡ distinct name_eq (type_variable_places t) → places ≡ union name_eq [] variables
+    → ((nat_eq (length mine) (length names) && list_all (λ n. is_in name_eq n places) names) && list_all (λ n. is_in name_eq n mine) variables)
+    ≡ are_type_variables_of names t
 are_variables-listed names t mine variables places e f g =
     let once = once-listed name_eq name_eq-Decides names mine e in
     let only = all-each (λ n. is_in name_eq n places) (λ n. is_in name_eq n (type_variable_places t)) (λ n.
-    ap (is_in name_eq n) (g ∙ ap (union name_eq []) f ∙ union-distinct name_eq name_eq-Decides (type_variable_places t) []) ∙ is_in-united name_eq name_eq-Decides (type_variable_places t) [] n) names in
+    ap (is_in name_eq n) (g ∙ ap (union name_eq []) f ∙ union-distinct name_eq name_eq-Decides (type_variable_places t) [])
+    ∙ is_in-united name_eq name_eq-Decides (type_variable_places t) [] n) names in
     let all = ap (list_all (λ n. is_in name_eq n mine)) f ∙ all-distinct name_eq name_eq-Decides (λ n. is_in name_eq n mine) (type_variable_places t)
-    ∙ all-each (λ n. is_in name_eq n mine) (λ n. is_in name_eq n names) (λ n. ap (is_in name_eq n) e ∙ is_in-united name_eq name_eq-Decides names [] n) (type_variable_places t) in
+    ∙ all-each (λ n. is_in name_eq n mine) (λ n. is_in name_eq n names) (λ n. ap (is_in name_eq n) e ∙ is_in-united name_eq name_eq-Decides names [] n)
+    (type_variable_places t) in
     (λ i. (once i && only i) && all i)

@@ -42,7 +42,8 @@ term_here trees (y ∷ ids) zero id l at h = subst (λ (j : TermId). IsTermAt tr
 term_here trees (y ∷ ids) (suc i) id l at h = term_here trees ids i id (omega (arith, l)) at h.1
 
 -- what is united, one element more
-pub united_next : {A K : Type 0} (same : K → K → Bool) (f : A → K) (xs : List A) (i : ℕ) (x : A) (old new : List K) (k : K) → i < length xs → get_or xs i x ≡ x → old ≡ union same [] (map f (take i xs)) → k ≡ f x → new ≡ union same old (k ∷ [])
+pub united_next : {A K : Type 0} (same : K → K → Bool) (f : A → K) (xs : List A) (i : ℕ) (x : A) (old new : List K) (k : K) → i < length xs → get_or xs i x ≡ x
+    → old ≡ union same [] (map f (take i xs)) → k ≡ f x → new ≡ union same old (k ∷ [])
     → new ≡ union same [] (map f (take (i + 1) xs))
 united_next same f xs i x old new k l at was is e =
     e ∙ (λ j. union same (was j) (is j ∷ [])) ∙ sym (union-append same (map f (take i xs)) (f x ∷ []) [])

@@ -38,7 +38,8 @@ holds_first false k cs e = absurd (cc)
 
 pub new_names : (symbols : List Symbol) (names : TypeNames) (f : Term) → operator_fault symbols names f ≡ None → AreNewNames symbols names
 new_names symbols names f e =
-    let h = none_holds (is_taken_operator symbols names.operator) (is_taken_constant symbols names.abstraction) (is_taken_constant symbols names.representation) (name_eq names.abstraction names.representation)
+    let h = none_holds (is_taken_operator symbols names.operator) (is_taken_constant symbols names.abstraction) (is_taken_constant symbols names.representation)
+    (name_eq names.abstraction names.representation)
     (holds_first (are_new symbols names) NameTaken ((is_closed f, NotClosed) ∷ (are_type_variables_of names.variables f, BadTypeVars) ∷ []) e) in
     record { operator = h.0; abstraction = h.1; representation = h.2; apart = h.3 }
 
@@ -50,15 +51,19 @@ pub own_type : (u p w f t : Term) (a c : HolType) → u ≡ app p w → u ≡ ap
 own_type u p w f t a c e k h i = let s : w ≡ t = same_argument (sym e ∙ k) in same_Some _ _ (sym h ∙ subst (λ v. HasType v c) (sym s) i)
 
 -- what the names or the predicate refuse is refused
-pub operator_refused : (symbols : List Symbol) (names : TypeNames) (p f : Term) (limits : Option Kind) → p ≡ f → (why : Fault) → Refuses why (operator_fault symbols names p) → Refuses why (option_or (operator_fault symbols names f) limits)
+pub operator_refused : (symbols : List Symbol) (names : TypeNames) (p f : Term) (limits : Option Kind) → p ≡ f → (why : Fault)
+    → Refuses why (operator_fault symbols names p) → Refuses why (option_or (operator_fault symbols names f) limits)
 operator_refused symbols names p f limits same (fault.Refused kind) r = ap (λ o. option_or o limits) (sym (ap (operator_fault symbols names) same) ∙ r)
 operator_refused symbols names p f limits same fault.Memory r = tt
 
-module _ (symbols : List Symbol) (names : TypeNames) (p f : Term) (a c : HolType) (same : p ≡ f) (typed : a ≡ c) (none : operator_fault symbols names p ≡ None) where
-  -- nothing is refused
-  pub none_refused : limit_fault (types_made names a) ≡ None → option_or (operator_fault symbols names f) (limit_fault (types_made names c)) ≡ None
-  none_refused e = ap₂ option_or (ap (operator_fault symbols names) (sym same) ∙ none) (ap (λ d. limit_fault (types_made names d)) (sym typed) ∙ e)
+module _ (symbols : List Symbol) (names : TypeNames) (p f : Term) (a c : HolType) (same : p ≡ f) (typed : a ≡ c) (none : operator_fault symbols names p ≡ None)
+  where
+    -- nothing is refused
+    pub none_refused : limit_fault (types_made names a) ≡ None → option_or (operator_fault symbols names f) (limit_fault (types_made names c)) ≡ None
+    none_refused e = ap₂ option_or (ap (operator_fault symbols names) (sym same) ∙ none) (ap (λ d. limit_fault (types_made names d)) (sym typed) ∙ e)
 
-  -- a limit is passed
-  pub limit_refused : (fault : Fault) → Refuses fault (limit_fault (types_made names a)) → Refuses fault (option_or (operator_fault symbols names f) (limit_fault (types_made names c)))
-  limit_refused fault r = subst (Refuses fault) (sym (ap₂ option_or (ap (operator_fault symbols names) (sym same) ∙ none) (ap (λ d. limit_fault (types_made names d)) (sym typed)))) r
+    -- a limit is passed
+    pub limit_refused : (fault : Fault) → Refuses fault (limit_fault (types_made names a))
+        → Refuses fault (option_or (operator_fault symbols names f) (limit_fault (types_made names c)))
+    limit_refused fault r = subst (Refuses fault)
+        (sym (ap₂ option_or (ap (operator_fault symbols names) (sym same) ∙ none) (ap (λ d. limit_fault (types_made names d)) (sym typed)))) r

@@ -43,19 +43,24 @@ known-append types [] id h k = (k, tt)
 known-append types (i ∷ ids) id h k = (h.0, known-append types ids id h.1 k)
 
 -- and one more
-pub AreVariables-more : {a b c : Trees} (names : List Name) (ids : List TypeId) (name : Name) (id : TypeId) → AreVariables a b names ids → Keeps b c → id.0 < length c.types → type.Holds c.types id.0 (variable name)
+pub AreVariables-more : {a b c : Trees} (names : List Name) (ids : List TypeId) (name : Name) (id : TypeId) → AreVariables a b names ids → Keeps b c
+    → id.0 < length c.types → type.Holds c.types id.0 (variable name)
     → AreVariables a c (names ++ name ∷ []) (ids ++ id ∷ [])
 AreVariables-more {a = a} {b = b} {c = c} names ids name id h k known made = record {
   keeps = Keeps-trans h.keeps k;
   known = known-append c.types ids id (type_law.AreKnown-Keeps k.types ids h.known) known;
   made =
-      map-append (λ (i : TypeId). type.tree_at c.types i.0) ids (id ∷ []) ∙ ap₂ (λ l t. l ++ t ∷ []) (sym (type_law.types_at-Stays k.types.stays ids h.known) ∙ h.made) (type_law.Holds-tree_at c.types id.0 (variable name) made)
+      map-append (λ (i : TypeId). type.tree_at c.types i.0) ids (id ∷ [])
+      ∙ ap₂ (λ l t. l ++ t ∷ []) (sym (type_law.types_at-Stays k.types.stays ids h.known) ∙ h.made)
+      (type_law.Holds-tree_at c.types id.0 (variable name) made)
       ∙ sym (map-append variable names (name ∷ []));
 }
 
 -- the types of the constants, made one after the other
-pub AreConstantTypes-made : {a b c d : Trees} → Keeps a b → Keeps b c → Keeps c d → (names : TypeNames) (whole part abs rep : TypeId) → whole.0 < length a.types → part.0 < length b.types → type_at b part.0 ≡ new_type names → abs.0 < length c.types
-    → type_at c abs.0 ≡ function (type_at b whole.0) (type_at b part.0) → rep.0 < length d.types → type_at d rep.0 ≡ function (type_at c part.0) (type_at c whole.0) → AreConstantTypes d.types names (type_at a whole.0) abs rep
+pub AreConstantTypes-made : {a b c d : Trees} → Keeps a b → Keeps b c → Keeps c d → (names : TypeNames) (whole part abs rep : TypeId) → whole.0 < length a.types
+    → part.0 < length b.types → type_at b part.0 ≡ new_type names → abs.0 < length c.types
+    → type_at c abs.0 ≡ function (type_at b whole.0) (type_at b part.0) → rep.0 < length d.types → type_at d rep.0
+    ≡ function (type_at c part.0) (type_at c whole.0) → AreConstantTypes d.types names (type_at a whole.0) abs rep
 AreConstantTypes-made {a = a} {b = b} {c = c} {d = d} k l m names whole part abs rep w p new ka from kr to =
     let wb : whole.0 < length b.types = omega (arith, w, k.types.longer) in
     let first : type_at a whole.0 ≡ type_at b whole.0 = type_law.tree_at-Stays k.types.stays whole.0 w in
@@ -121,8 +126,10 @@ module _ (names : TypeNames) (c : HolType) where
   limit-large h =
       let e = size_of_abstraction in
       let f : greatest_size < type_size (abstraction_type names c) = omega (arith, e, h) in
-      failing (list_all (λ t. nat_le (type_size t) greatest_size) (types_made names c)) TooLarge ((list_all (λ t. nat_le (type_depth t) greatest_depth) (types_made names c), TooDeep) ∷ [])
-      (second_fails (nat_le (type_size (new_type names)) greatest_size) (nat_le (type_size (abstraction_type names c)) greatest_size) (nat_le (type_size (representation_type names c)) greatest_size && true)
+      failing (list_all (λ t. nat_le (type_size t) greatest_size) (types_made names c)) TooLarge
+      ((list_all (λ t. nat_le (type_depth t) greatest_depth) (types_made names c), TooDeep) ∷ [])
+      (second_fails (nat_le (type_size (new_type names)) greatest_size) (nat_le (type_size (abstraction_type names c)) greatest_size)
+      (nat_le (type_size (representation_type names c)) greatest_size && true)
       (not_le (type_size (abstraction_type names c)) greatest_size f))
 
   small : type_size c + length names.variables + 2 ≤ greatest_size → list_all (λ t. nat_le (type_size t) greatest_size) (types_made names c) ≡ true
@@ -133,24 +140,31 @@ module _ (names : TypeNames) (c : HolType) where
       let i : type_size (new_type names) ≤ greatest_size = omega (arith, e, h) in
       let j : type_size (abstraction_type names c) ≤ greatest_size = omega (arith, f, h) in
       let k : type_size (representation_type names c) ≤ greatest_size = omega (arith, g, h) in
-      all_hold (nat_le (type_size (new_type names)) greatest_size) (nat_le (type_size (abstraction_type names c)) greatest_size) (nat_le (type_size (representation_type names c)) greatest_size)
-      (is_le (type_size (new_type names)) greatest_size i) (is_le (type_size (abstraction_type names c)) greatest_size j) (is_le (type_size (representation_type names c)) greatest_size k)
+      all_hold (nat_le (type_size (new_type names)) greatest_size) (nat_le (type_size (abstraction_type names c)) greatest_size)
+      (nat_le (type_size (representation_type names c)) greatest_size)
+      (is_le (type_size (new_type names)) greatest_size i) (is_le (type_size (abstraction_type names c)) greatest_size j)
+      (is_le (type_size (representation_type names c)) greatest_size k)
 
-  not_large : type_size c + length names.variables + 2 ≤ greatest_size → limit_fault (types_made names c) ≡ first_failing ((list_all (λ t. nat_le (type_depth t) greatest_depth) (types_made names c), TooDeep) ∷ [])
-  not_large k = passing (list_all (λ t. nat_le (type_size t) greatest_size) (types_made names c)) TooLarge ((list_all (λ t. nat_le (type_depth t) greatest_depth) (types_made names c), TooDeep) ∷ []) (small k)
+  not_large : type_size c + length names.variables + 2 ≤ greatest_size → limit_fault (types_made names c)
+      ≡ first_failing ((list_all (λ t. nat_le (type_depth t) greatest_depth) (types_made names c), TooDeep) ∷ [])
+  not_large k = passing (list_all (λ t. nat_le (type_size t) greatest_size) (types_made names c)) TooLarge
+      ((list_all (λ t. nat_le (type_depth t) greatest_depth) (types_made names c), TooDeep) ∷ []) (small k)
 
   -- what isn't, and is too deep
-  pub limit-deep : type_size c + length names.variables + 2 ≤ greatest_size → greatest_depth < max (type_depth c) part_depth + 2 → limit_fault (types_made names c) ≡ Some TooDeep
+  pub limit-deep : type_size c + length names.variables + 2 ≤ greatest_size → greatest_depth < max (type_depth c) part_depth + 2
+      → limit_fault (types_made names c) ≡ Some TooDeep
   limit-deep k h =
       let e = depth_of_abstraction in
       let f : greatest_depth < type_depth (abstraction_type names c) = omega (arith, e, h) in
       not_large k
       ∙ failing (list_all (λ t. nat_le (type_depth t) greatest_depth) (types_made names c)) TooDeep []
-      (second_fails (nat_le (type_depth (new_type names)) greatest_depth) (nat_le (type_depth (abstraction_type names c)) greatest_depth) (nat_le (type_depth (representation_type names c)) greatest_depth && true)
+      (second_fails (nat_le (type_depth (new_type names)) greatest_depth) (nat_le (type_depth (abstraction_type names c)) greatest_depth)
+      (nat_le (type_depth (representation_type names c)) greatest_depth && true)
       (not_le (type_depth (abstraction_type names c)) greatest_depth f))
 
   -- what is neither
-  pub limit-none : type_size c + length names.variables + 2 ≤ greatest_size → max (type_depth c) part_depth + 2 ≤ greatest_depth → limit_fault (types_made names c) ≡ None
+  pub limit-none : type_size c + length names.variables + 2 ≤ greatest_size → max (type_depth c) part_depth + 2 ≤ greatest_depth
+      → limit_fault (types_made names c) ≡ None
   limit-none k h =
       let e = depth_of_part in
       let f = depth_of_abstraction in
@@ -160,11 +174,14 @@ module _ (names : TypeNames) (c : HolType) where
       let l : type_depth (representation_type names c) ≤ greatest_depth = omega (arith, g, h) in
       not_large k
       ∙ passing (list_all (λ t. nat_le (type_depth t) greatest_depth) (types_made names c)) TooDeep []
-      (all_hold (nat_le (type_depth (new_type names)) greatest_depth) (nat_le (type_depth (abstraction_type names c)) greatest_depth) (nat_le (type_depth (representation_type names c)) greatest_depth)
-      (is_le (type_depth (new_type names)) greatest_depth i) (is_le (type_depth (abstraction_type names c)) greatest_depth j) (is_le (type_depth (representation_type names c)) greatest_depth l))
+      (all_hold (nat_le (type_depth (new_type names)) greatest_depth) (nat_le (type_depth (abstraction_type names c)) greatest_depth)
+      (nat_le (type_depth (representation_type names c)) greatest_depth)
+      (is_le (type_depth (new_type names)) greatest_depth i) (is_le (type_depth (abstraction_type names c)) greatest_depth j)
+      (is_le (type_depth (representation_type names c)) greatest_depth l))
 
 -- what the symbols are with an operator more
-module _ (a b : Trees) (k : Keeps a b) (old new : List Taken) (names : TypeNames) (whole : TypeId) (predicate : TermId) (known : AreKnownSymbols a old) (w : whole.0 < length a.types) (p : predicate.0 < length a.terms)
+module _ (a b : Trees) (k : Keeps a b) (old new : List Taken) (names : TypeNames) (whole : TypeId) (predicate : TermId) (known : AreKnownSymbols a old)
+    (w : whole.0 < length a.types) (p : predicate.0 < length a.terms)
     (h : TakesOperator b.types old new names (type_at a whole.0) whole predicate) where
   same_type : type_at a whole.0 ≡ type_at b whole.0
   same_type = type_law.tree_at-Stays k.types.stays whole.0 w
@@ -175,17 +192,19 @@ module _ (a b : Trees) (k : Keeps a b) (old new : List Taken) (names : TypeNames
   pub operator-symbols : symbols_at b new ≡ symbols_at a old ++ Symbol.defined (Definition.type_operator names (type_at a whole.0) (term_at a predicate.0)) ∷ []
   operator-symbols =
       ap (symbols_at b) h.is ∙ symbols_at-append b old (Taken.type_operator names whole predicate h.abstraction h.representation ∷ [])
-      ∙ ap₂ (λ l x. l ++ x ∷ []) (sym (symbols_at-Keeps k old known)) (ap₂ (λ c f. Symbol.defined (Definition.type_operator names c f)) (sym same_type) (sym same_term))
+      ∙ ap₂ (λ l x. l ++ x ∷ []) (sym (symbols_at-Keeps k old known))
+      (ap₂ (λ c f. Symbol.defined (Definition.type_operator names c f)) (sym same_type) (sym same_term))
 
   pub operator-known : AreKnownSymbols b new
-  operator-known = subst (AreKnownSymbols b) (sym h.is) (AreKnownSymbols-append b old (Taken.type_operator names whole predicate h.abstraction h.representation ∷ []) (AreKnownSymbols-Keeps k old known) (
-    record {
-      ty = omega (arith, w, k.types.longer);
-      predicate = omega (arith, p, k.longer);
-      constants = subst (λ c. AreConstantTypes b.types names c h.abstraction h.representation) same_type h.constants;
-    },
-    tt,
-  ))
+  operator-known = subst (AreKnownSymbols b) (sym h.is)
+      (AreKnownSymbols-append b old (Taken.type_operator names whole predicate h.abstraction h.representation ∷ []) (AreKnownSymbols-Keeps k old known) (
+        record {
+          ty = omega (arith, w, k.types.longer);
+          predicate = omega (arith, p, k.longer);
+          constants = subst (λ c. AreConstantTypes b.types names c h.abstraction h.representation) same_type h.constants;
+        },
+        tt,
+      ))
 
 -- the parts of one application are the same
 pub same_function : {f g t u : Term} → app f t ≡ app g u → f ≡ g
@@ -208,13 +227,17 @@ lookup-behind true y o p h f = absurd (cc)
 lookup-behind false y o p h f = f h
 
 -- a name that isn't in a list is not there with another name behind it
-pub lookup-last : {A : Type 0} (es : List (Name × A)) (n : Name) (x : A) (m : Name) → lookup (name_eq m) es ≡ None → name_eq m n ≡ false → lookup (name_eq m) (es ++ (n, x) ∷ []) ≡ None
+pub lookup-last : {A : Type 0} (es : List (Name × A)) (n : Name) (x : A) (m : Name) → lookup (name_eq m) es ≡ None → name_eq m n ≡ false
+    → lookup (name_eq m) (es ++ (n, x) ∷ []) ≡ None
 lookup-last [] n x m h e = ap (λ b. cond b (Some x) None) e
-lookup-last (y ∷ es) n x m h e = lookup-behind (name_eq m y.0) y.1 (lookup (name_eq m) es) (lookup (name_eq m) (es ++ (n, x) ∷ [])) h (λ k. lookup-last es n x m k e)
+lookup-last (y ∷ es) n x m h e = lookup-behind (name_eq m y.0) y.1 (lookup (name_eq m) es) (lookup (name_eq m) (es ++ (n, x) ∷ [])) h
+    (λ k. lookup-last es n x m k e)
 
 -- the tables have an operator more, with its constants
-pub IsIndexed-operator : (xs ys : List Taken) (i : List Name) (g h : List (Name × TypeId)) (u : List (Name × ℕ)) (ns : List Name) (a b : List (Name × ℕ)) (names : TypeNames) (c : TypeId) (f : TermId) (abs rep : TypeId) → IsIndexed xs i g u ns a
-    → ys ≡ xs ++ Taken.type_operator names c f abs rep ∷ [] → h ≡ g ++ (names.abstraction, abs) ∷ (names.representation, rep) ∷ [] → b ≡ a ++ (names.operator, length names.variables) ∷ [] → IsIndexed ys i h u ns b
+pub IsIndexed-operator : (xs ys : List Taken) (i : List Name) (g h : List (Name × TypeId)) (u : List (Name × ℕ)) (ns : List Name) (a b : List (Name × ℕ))
+    (names : TypeNames) (c : TypeId) (f : TermId) (abs rep : TypeId) → IsIndexed xs i g u ns a
+    → ys ≡ xs ++ Taken.type_operator names c f abs rep ∷ [] → h ≡ g ++ (names.abstraction, abs) ∷ (names.representation, rep) ∷ [] → b ≡ a
+    ++ (names.operator, length names.variables) ∷ [] → IsIndexed ys i h u ns b
 IsIndexed-operator xs ys i g h u ns a b names c f abs rep was e eh eb =
     let last = Taken.type_operator names c f abs rep ∷ [] in
     rw (e, eh, eb) (record {

@@ -34,25 +34,32 @@ or-second false b e = e
 
 -- a constant that is an input is not taken again
 pub used_again : (symbols : List Symbol) (n : Name) → list_any (is_input_constant n) symbols ≡ true → symbols ≡ symbols ++ new_constant symbols n
-used_again symbols n e = nothing_more symbols (is_some (generic_type symbols n) || list_any (is_input_constant n) symbols) (input_constant n) (or-second (is_some (generic_type symbols n)) (list_any (is_input_constant n) symbols) e)
+used_again symbols n e = nothing_more symbols (is_some (generic_type symbols n) || list_any (is_input_constant n) symbols) (input_constant n)
+    (or-second (is_some (generic_type symbols n)) (list_any (is_input_constant n) symbols) e)
 
 -- one that is nothing is taken
-pub used_first : (symbols : List Symbol) (n : Name) → generic_type symbols n ≡ None → list_any (is_input_constant n) symbols ≡ false → input_constant n ∷ [] ≡ new_constant symbols n
+pub used_first : (symbols : List Symbol) (n : Name) → generic_type symbols n ≡ None → list_any (is_input_constant n) symbols ≡ false → input_constant n ∷ []
+    ≡ new_constant symbols n
 used_first symbols n e f = ap₂ (λ o b. cond (is_some o || b) [] (input_constant n ∷ [])) (sym e) (sym f)
 
 -- an operator that is an input at so many arguments is not taken again
-pub operator_again : (symbols : List Symbol) (n : Name) (k : ℕ) → list_any (is_input_operator n k) symbols ≡ true → symbols ≡ symbols ++ new_operator symbols n k
-operator_again symbols n k e = nothing_more symbols (is_some (operator_arity symbols n) || list_any (is_input_operator n k) symbols) (input_operator n k) (or-second (is_some (operator_arity symbols n)) (list_any (is_input_operator n k) symbols) e)
+pub operator_again : (symbols : List Symbol) (n : Name) (k : ℕ) → list_any (is_input_operator n k) symbols ≡ true → symbols ≡ symbols
+    ++ new_operator symbols n k
+operator_again symbols n k e = nothing_more symbols (is_some (operator_arity symbols n) || list_any (is_input_operator n k) symbols) (input_operator n k)
+    (or-second (is_some (operator_arity symbols n)) (list_any (is_input_operator n k) symbols) e)
 
-pub operator_first : (symbols : List Symbol) (n : Name) (k : ℕ) → operator_arity symbols n ≡ None → list_any (is_input_operator n k) symbols ≡ false → input_operator n k ∷ [] ≡ new_operator symbols n k
+pub operator_first : (symbols : List Symbol) (n : Name) (k : ℕ) → operator_arity symbols n ≡ None → list_any (is_input_operator n k) symbols ≡ false
+    → input_operator n k ∷ [] ≡ new_operator symbols n k
 operator_first symbols n k e f = ap₂ (λ o b. cond (is_some o || b) [] (input_operator n k ∷ [])) (sym e) (sym f)
 
 -- an operator that takes a settled number of arguments is not taken
 pub settled : (symbols : List Symbol) (n : Name) (j k : ℕ) → operator_arity symbols n ≡ Some j → symbols ≡ symbols ++ new_operator symbols n k
-settled symbols n j k e = sym (append-nil symbols) ∙ ap (λ o. symbols ++ cond (is_some o || list_any (is_input_operator n k) symbols) [] (input_operator n k ∷ [])) (sym e)
+settled symbols n j k e = sym (append-nil symbols) ∙ ap
+    (λ o. symbols ++ cond (is_some o || list_any (is_input_operator n k) symbols) [] (input_operator n k ∷ [])) (sym e)
 
 -- a matching tells whether a type is an instance
-pub instance-found : (types : List HolType) (g t : HolType) (found : Option (List (Name × TypeId))) → MatchOption found ((s : TypePairs) → substitute s g ≡ t → ⊥) (λ pairs. substitute (pairs_at types pairs) g ≡ t)
+pub instance-found : (types : List HolType) (g t : HolType) (found : Option (List (Name × TypeId)))
+    → MatchOption found ((s : TypePairs) → substitute s g ≡ t → ⊥) (λ pairs. substitute (pairs_at types pairs) g ≡ t)
     → is_some found ≡ is_instance g t
 instance-found types g t (Some pairs) m = sym ((is_instance-Decides g t).1 (pairs_at types pairs, m))
 instance-found types g t None m = go (is_instance g t) (is_instance-Decides g t).0
@@ -82,28 +89,34 @@ with_new true xs x e = absurd (cc)
 with_new false xs x e = refl
 
 -- the tables have an operator more
-pub IsIndexed-use : (xs : List Taken) (i : List Name) (g : List (Name × TypeId)) (u : List (Name × ℕ)) (ns : List Name) (a : List (Name × ℕ)) (n : Name) (k : ℕ) → IsIndexed xs i g u ns a → is_in same_use (n, k) (uses_of xs) ≡ false
+pub IsIndexed-use : (xs : List Taken) (i : List Name) (g : List (Name × TypeId)) (u : List (Name × ℕ)) (ns : List Name) (a : List (Name × ℕ)) (n : Name) (k : ℕ)
+    → IsIndexed xs i g u ns a → is_in same_use (n, k) (uses_of xs) ≡ false
     → IsIndexed (xs ++ Taken.input_operator n k ∷ []) i g (union same_use u ((n, k) ∷ [])) (union name_eq ns (n ∷ [])) a
 IsIndexed-use xs i g u ns a n k h new = record {
   inputs_are = h.inputs_are ∙ sym (append-nil _) ∙ sym (flat_map-append inputs_in xs (Taken.input_operator n k ∷ []));
   generics_are = h.generics_are ∙ sym (append-nil _) ∙ sym (flat_map-append generics_in xs (Taken.input_operator n k ∷ []));
-  uses_are = with_new (is_in same_use (n, k) u) u (n, k) (ap (is_in same_use (n, k)) h.uses_are ∙ new) ∙ ap (λ l. l ++ (n, k) ∷ []) h.uses_are ∙ sym (flat_map-append uses_in xs (Taken.input_operator n k ∷ []));
+  uses_are = with_new (is_in same_use (n, k) u) u (n, k) (ap (is_in same_use (n, k)) h.uses_are ∙ new) ∙ ap (λ l. l ++ (n, k) ∷ []) h.uses_are
+      ∙ sym (flat_map-append uses_in xs (Taken.input_operator n k ∷ []));
   names_are = λ m.
       named ns n m ∙ ap (λ b. b || name_eq m n) (h.names_are m) ∙ ap (λ b. is_used m (uses_of xs) || b) (sym (or-false (name_eq m n)))
-      ∙ sym (list_any-append (λ v. name_eq m v.0) (uses_of xs) ((n, k) ∷ [])) ∙ ap (is_used m) (sym (flat_map-append uses_in xs (Taken.input_operator n k ∷ [])));
+      ∙ sym (list_any-append (λ v. name_eq m v.0) (uses_of xs) ((n, k) ∷ []))
+      ∙ ap (is_used m) (sym (flat_map-append uses_in xs (Taken.input_operator n k ∷ [])));
   arities_are = h.arities_are ∙ sym (append-nil _) ∙ sym (flat_map-append arities_in xs (Taken.input_operator n k ∷ []));
 }
 
 -- with what the calls made, that is this
-pub IsIndexed-used : (xs ys : List Taken) (i : List Name) (g : List (Name × TypeId)) (u v : List (Name × ℕ)) (ns ms : List Name) (a : List (Name × ℕ)) (n : Name) (k : ℕ) → IsIndexed xs i g u ns a → is_in same_use (n, k) (uses_of xs) ≡ false
+pub IsIndexed-used : (xs ys : List Taken) (i : List Name) (g : List (Name × TypeId)) (u v : List (Name × ℕ)) (ns ms : List Name) (a : List (Name × ℕ))
+    (n : Name) (k : ℕ) → IsIndexed xs i g u ns a → is_in same_use (n, k) (uses_of xs) ≡ false
     → ys ≡ xs ++ Taken.input_operator n k ∷ [] → v ≡ union same_use u ((n, k) ∷ []) → ms ≡ union name_eq ns (n ∷ []) → IsIndexed ys i g v ms a
 IsIndexed-used xs ys i g u v ns ms a n k h new e ev ems = rw (e, ev, ems) (IsIndexed-use xs i g u ns a n k h new)
 
 -- the tables have an input constant more
-pub IsIndexed-input : (xs ys : List Taken) (i j : List Name) (g : List (Name × TypeId)) (u : List (Name × ℕ)) (ns : List Name) (a : List (Name × ℕ)) (n : Name) → IsIndexed xs i g u ns a → is_in name_eq n (inputs_of xs) ≡ false
+pub IsIndexed-input : (xs ys : List Taken) (i j : List Name) (g : List (Name × TypeId)) (u : List (Name × ℕ)) (ns : List Name) (a : List (Name × ℕ)) (n : Name)
+    → IsIndexed xs i g u ns a → is_in name_eq n (inputs_of xs) ≡ false
     → ys ≡ xs ++ Taken.input_constant n ∷ [] → j ≡ union name_eq i (n ∷ []) → IsIndexed ys j g u ns a
 IsIndexed-input xs ys i j g u ns a n h new e ej = rw (e, ej) (record {
-  inputs_are = with_new (is_in name_eq n i) i n (ap (is_in name_eq n) h.inputs_are ∙ new) ∙ ap (λ l. l ++ n ∷ []) h.inputs_are ∙ sym (flat_map-append inputs_in xs (Taken.input_constant n ∷ []));
+  inputs_are = with_new (is_in name_eq n i) i n (ap (is_in name_eq n) h.inputs_are ∙ new) ∙ ap (λ l. l ++ n ∷ []) h.inputs_are
+      ∙ sym (flat_map-append inputs_in xs (Taken.input_constant n ∷ []));
   generics_are = h.generics_are ∙ sym (append-nil _) ∙ sym (flat_map-append generics_in xs (Taken.input_constant n ∷ []));
   uses_are = h.uses_are ∙ sym (append-nil _) ∙ sym (flat_map-append uses_in xs (Taken.input_constant n ∷ []));
   names_are = λ m. h.names_are m ∙ ap (is_used m) (sym (append-nil _) ∙ sym (flat_map-append uses_in xs (Taken.input_constant n ∷ [])));
@@ -111,7 +124,8 @@ IsIndexed-input xs ys i j g u ns a n h new e ej = rw (e, ej) (record {
 })
 
 -- the tables have a defined constant more
-pub IsIndexed-constant : (xs ys : List Taken) (i : List Name) (g h : List (Name × TypeId)) (u : List (Name × ℕ)) (ns : List Name) (a : List (Name × ℕ)) (n : Name) (t : TermId) (ty : TypeId) → IsIndexed xs i g u ns a → ys ≡ xs ++ Taken.constant n t ty ∷ []
+pub IsIndexed-constant : (xs ys : List Taken) (i : List Name) (g h : List (Name × TypeId)) (u : List (Name × ℕ)) (ns : List Name) (a : List (Name × ℕ))
+    (n : Name) (t : TermId) (ty : TypeId) → IsIndexed xs i g u ns a → ys ≡ xs ++ Taken.constant n t ty ∷ []
     → h ≡ g ++ (n, ty) ∷ [] → IsIndexed ys i h u ns a
 IsIndexed-constant xs ys i g h u ns a n t ty was e eh = rw (e, eh) (record {
   inputs_are = was.inputs_are ∙ sym (append-nil _) ∙ sym (flat_map-append inputs_in xs (Taken.constant n t ty ∷ []));
@@ -126,10 +140,12 @@ pub taken_of-last : (old new : List Entry) (x : Entry) (y : Taken) → new ≡ o
 taken_of-last old new x y e is = ap (map taken_of) e ∙ map-append taken_of old (x ∷ []) ∙ ap (λ z. map taken_of old ++ z ∷ []) is
 
 -- the entries without what was put last keep the symbols that there were
-pub taken_of-cut : (old : Vec Entry Global) (fs gs : List Entry) (x : Taken) (count : ℕ) → map taken_of fs ≡ map taken_of old.items ++ x ∷ [] → count ≡ vec_len old → gs ≡ take count fs → map taken_of gs ≡ map taken_of old.items
+pub taken_of-cut : (old : Vec Entry Global) (fs gs : List Entry) (x : Taken) (count : ℕ) → map taken_of fs ≡ map taken_of old.items ++ x ∷ [] → count
+    ≡ vec_len old → gs ≡ take count fs → map taken_of gs ≡ map taken_of old.items
 taken_of-cut old fs gs x count e n is =
     let long : count ≡ length (map taken_of old.items) = grind (arith, common_steps) in
-    ap (map taken_of) is ∙ sym (take-map taken_of count fs) ∙ ap (take count) e ∙ ap (λ k. take k (map taken_of old.items ++ x ∷ [])) long ∙ take-append_seam (map taken_of old.items) (x ∷ [])
+    ap (map taken_of) is ∙ sym (take-map taken_of count fs) ∙ ap (take count) e ∙ ap (λ k. take k (map taken_of old.items ++ x ∷ [])) long
+    ∙ take-append_seam (map taken_of old.items) (x ∷ [])
 
 -- a set without what was taken last
 pub take-united : {A : Type 0} (same : A → A → Bool) (xs : List A) (x : A) → take (length xs) (union same xs (x ∷ [])) ≡ xs

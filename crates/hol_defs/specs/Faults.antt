@@ -31,7 +31,8 @@ has_own_variables t = has_type_variables_of (unwrap_or (type_of t) bool) t
 
 -- a constant of this name that stands for a term: the name isn't taken, the term is closed, and its type has each of its type variables
 abbrev pub constant_fault : List Symbol → Name → Term → Option Kind
-constant_fault symbols n t = first_failing ((not (is_taken_constant symbols n), NameTaken) ∷ (is_closed t, NotClosed) ∷ (has_own_variables t, ExtraTypeVars) ∷ [])
+constant_fault symbols n t = first_failing
+    ((not (is_taken_constant symbols n), NameTaken) ∷ (is_closed t, NotClosed) ∷ (has_own_variables t, ExtraTypeVars) ∷ [])
 
 -- whether none of the names is taken, and the two constants have two names
 abbrev pub are_new : List Symbol → TypeNames → Bool
@@ -41,11 +42,13 @@ are_new symbols names =
 
 -- an operator with its two constants, by a predicate: the names are new, the predicate is closed, and the operator's variables are those of the predicate, each once
 abbrev pub operator_fault : List Symbol → TypeNames → Term → Option Kind
-operator_fault symbols names f = first_failing ((are_new symbols names, NameTaken) ∷ (is_closed f, NotClosed) ∷ (are_type_variables_of names.variables f, BadTypeVars) ∷ [])
+operator_fault symbols names f = first_failing
+    ((are_new symbols names, NameTaken) ∷ (is_closed f, NotClosed) ∷ (are_type_variables_of names.variables f, BadTypeVars) ∷ [])
 
 -- the limits on types that are made at once: every size is judged before any depth
 abbrev pub limit_fault : List HolType → Option Kind
-limit_fault types = first_failing ((list_all (λ t. nat_le (type_size t) greatest_size) types, TooLarge) ∷ (list_all (λ t. nat_le (type_depth t) greatest_depth) types, TooDeep) ∷ [])
+limit_fault types = first_failing
+    ((list_all (λ t. nat_le (type_size t) greatest_size) types, TooLarge) ∷ (list_all (λ t. nat_le (type_depth t) greatest_depth) types, TooDeep) ∷ [])
 
 -- the types that a type definition makes
 abbrev pub types_made : TypeNames → HolType → List HolType
@@ -55,8 +58,10 @@ types_made names c = new_type names ∷ abstraction_type names c ∷ representat
 abbrev pub list_fault : List Symbol → ConstantPairs → Sequent → Option Kind
 list_fault symbols pairs one =
     first_failing
-    ((not (list_any (is_taken_constant symbols) (names_of pairs)), NameTaken) ∷ (list_all (λ e. is_closed e.1) (defining_equations pairs one.hypotheses), NotClosed)
-    ∷ (list_all (λ e. has_type_variables_of e.0.1 e.1) (defining_equations pairs one.hypotheses), ExtraTypeVars) ∷ (is_definition_list pairs one, BadDefinitionList) ∷ [])
+    ((not (list_any (is_taken_constant symbols) (names_of pairs)), NameTaken) ∷
+    (list_all (λ e. is_closed e.1) (defining_equations pairs one.hypotheses), NotClosed)
+    ∷ (list_all (λ e. has_type_variables_of e.0.1 e.1) (defining_equations pairs one.hypotheses), ExtraTypeVars) ∷
+    (is_definition_list pairs one, BadDefinitionList) ∷ [])
 
 -- a fault of a call that judges: the kind of the first condition that fails, or memory ran out
 abbrev pub Refuses : Fault → Option Kind → Type 0

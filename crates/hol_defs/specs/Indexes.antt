@@ -71,7 +71,8 @@ abbrev pub is_used : Name → List (Name × ℕ) → Bool
 is_used n uses = list_any (λ u. name_eq n u.0) uses
 
 -- the tables have the symbols
-pub record IsIndexed (taken : List Taken) (inputs : List Name) (generics : List (Name × TypeId)) (uses : List (Name × ℕ)) (names : List Name) (arities : List (Name × ℕ)) : Type 0 where
+pub record IsIndexed (taken : List Taken) (inputs : List Name) (generics : List (Name × TypeId)) (uses : List (Name × ℕ)) (names : List Name)
+    (arities : List (Name × ℕ)) : Type 0 where
   pub inputs_are : inputs ≡ inputs_of taken
   pub generics_are : generics ≡ generics_of taken
   pub uses_are : uses ≡ uses_of taken

@@ -83,7 +83,8 @@ AreFound [] equations (t ∷ ts) = ⊥
 abbrev pub AreDefined : Trees → ConstantPairs → List Term → List (Name × Variable) → List TermId → Type 0
 AreDefined trees all hyps [] [] = Unit {0}
 AreDefined trees all hyps (p ∷ ps) (t ∷ ts) =
-    ((definiens all hyps (variable_at trees p.1) ≡ Some (term_at trees t.0)) × ((t.0 < length trees.terms) × HasType (term_at trees t.0) (type_at trees p.1.ty.0))) × AreDefined trees all hyps ps ts
+    ((definiens all hyps (variable_at trees p.1) ≡ Some (term_at trees t.0))
+    × ((t.0 < length trees.terms) × HasType (term_at trees t.0) (type_at trees p.1.ty.0))) × AreDefined trees all hyps ps ts
 AreDefined trees all hyps (p ∷ ps) [] = ⊥
 AreDefined trees all hyps [] (t ∷ ts) = ⊥
 
@@ -121,12 +122,14 @@ sequent_at trees hyps concl = record { hypotheses = terms_at trees hyps; conclus
 abbrev pub equations_fault : ConstantPairs → Sequent → Option Kind
 equations_fault pairs one =
     first_failing
-    ((list_all (λ e. is_closed e.1) (defining_equations pairs one.hypotheses), NotClosed) ∷ (list_all (λ e. has_type_variables_of e.0.1 e.1) (defining_equations pairs one.hypotheses), ExtraTypeVars)
+    ((list_all (λ e. is_closed e.1) (defining_equations pairs one.hypotheses), NotClosed) ∷
+    (list_all (λ e. has_type_variables_of e.0.1 e.1) (defining_equations pairs one.hypotheses), ExtraTypeVars)
     ∷ (is_list pairs one, BadDefinitionList) ∷ [])
 
 -- what is judged of a list, the names aside
 abbrev pub definitions_fault : ConstantPairs → Sequent → Option Kind
 definitions_fault pairs one =
     first_failing
-    ((list_all (λ e. is_closed e.1) (defining_equations pairs one.hypotheses), NotClosed) ∷ (list_all (λ e. has_type_variables_of e.0.1 e.1) (defining_equations pairs one.hypotheses), ExtraTypeVars)
+    ((list_all (λ e. is_closed e.1) (defining_equations pairs one.hypotheses), NotClosed) ∷
+    (list_all (λ e. has_type_variables_of e.0.1 e.1) (defining_equations pairs one.hypotheses), ExtraTypeVars)
     ∷ (is_definition_list pairs one, BadDefinitionList) ∷ [])

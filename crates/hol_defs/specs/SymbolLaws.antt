@@ -25,7 +25,8 @@ module _ {a b : Trees} (k : Keeps a b) where
   symbol_at-Keeps (Taken.input_constant n) h = refl
   symbol_at-Keeps (Taken.input_operator n i) h = refl
   symbol_at-Keeps (Taken.constant n t ty) h = ap (λ u. Symbol.defined (Definition.constant n u)) (term_at-Keeps t h.term)
-  symbol_at-Keeps (Taken.type_operator names c f abs rep) h = ap₂ (λ d u. Symbol.defined (Definition.type_operator names d u)) (type_at-Keeps c h.ty) (term_at-Keeps f h.predicate)
+  symbol_at-Keeps (Taken.type_operator names c f abs rep) h =
+      ap₂ (λ d u. Symbol.defined (Definition.type_operator names d u)) (type_at-Keeps c h.ty) (term_at-Keeps f h.predicate)
 
   -- the symbols are the same over a table that keeps what it had
   pub symbols_at-Keeps : (taken : List Taken) → AreKnownSymbols a taken → symbols_at a taken ≡ symbols_at b taken

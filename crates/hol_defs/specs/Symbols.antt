@@ -86,7 +86,8 @@ taken_code (input_constant n) = gcons (gnum 0) (coded_name.code n)
 taken_code (input_operator n k) = gcons (gnum 1) (gcons (coded_name.code n) (coded_ℕ.code k))
 taken_code (constant n t a) = gcons (gnum 2) (gcons (coded_name.code n) (gcons (coded_term_id.code t) (coded_type_id.code a)))
 taken_code (type_operator names c f abs rep) =
-    gcons (gnum 3) (gcons (coded_type_names.code names) (gcons (coded_type_id.code c) (gcons (coded_term_id.code f) (gcons (coded_type_id.code abs) (coded_type_id.code rep)))))
+    gcons (gnum 3) (gcons (coded_type_names.code names)
+    (gcons (coded_type_id.code c) (gcons (coded_term_id.code f) (gcons (coded_type_id.code abs) (coded_type_id.code rep)))))
 
 pub taken_inj : (x y : Taken) → taken_code x ≡ taken_code y → x ≡ y
 unfolding taken_code

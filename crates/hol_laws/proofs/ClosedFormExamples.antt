@@ -26,7 +26,8 @@ abbrev sequent : List Term → Term → Sequent
 sequent hs c = record { hypotheses = hs; conclusion = c }
 
 -- `{x : bool} |- y : a` and `{z : bool} |- z : b`: the two z are two variables
-pub one_name : AreAlike (sequent (at_bool 1 ∷ []) (free (own_name 2) (variable (own_name 3)))) (sequent (at_bool 4 ∷ []) (free (own_name 4) (variable (own_name 5))))
+pub one_name : AreAlike (sequent (at_bool 1 ∷ []) (free (own_name 2) (variable (own_name 3))))
+    (sequent (at_bool 4 ∷ []) (free (own_name 4) (variable (own_name 5))))
 one_name = closed-alike _ _ refl
 
 -- names exchanged: `{x, y} |- x` and `{y, x} |- y`

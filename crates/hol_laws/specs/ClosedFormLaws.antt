@@ -86,16 +86,19 @@ module _ (r : Name → Name) (ns : List Name) (one : (m n : Name) → IsIn ns m 
   mutual
     close_type-renamed : (t : HolType) → AllByRecursion (IsIn ns) (variable_places t) → close_type (map r ns) (renamed_type r t) ≡ close_type ns t
     close_type-renamed (type.HolType.variable n) h =
-        ap ClosedType.parameter (position-map name_eq name_eq r n ns (All-each _ ns (λ m k. agree name_eq name_eq name_eq-Decides name_eq-Decides r n m (one n m h.0 k))))
+        ap ClosedType.parameter
+        (position-map name_eq name_eq r n ns (All-each _ ns (λ m k. agree name_eq name_eq name_eq-Decides name_eq-Decides r n m (one n m h.0 k))))
     close_type-renamed (type.HolType.operator n ts) h = ap (ClosedType.operator n) (close_types-renamed ts h)
 
     close_types-renamed : (ts : HolTypes) → AllByRecursion (IsIn ns) (variable_places_of_all ts)
         → close_types (map r ns) (renamed_types r ts) ≡ close_types ns ts
     close_types-renamed type.HolTypes.none h = refl
     close_types-renamed (type.HolTypes.more t ts) h =
-        ap₂ ClosedTypes.more (close_type-renamed t (All-left _ (variable_places t) (variable_places_of_all ts) h)) (close_types-renamed ts (All-right _ (variable_places t) (variable_places_of_all ts) h))
+        ap₂ ClosedTypes.more (close_type-renamed t (All-left _ (variable_places t) (variable_places_of_all ts) h))
+        (close_types-renamed ts (All-right _ (variable_places t) (variable_places_of_all ts) h))
 
-  module _ (q : Variable → Name) (vs : List Variable) (other : (v w : Variable) → IsIn vs v → IsIn vs w → renamed_variable r q v ≡ renamed_variable r q w → v ≡ w) where
+  module _ (q : Variable → Name) (vs : List Variable)
+      (other : (v w : Variable) → IsIn vs v → IsIn vs w → renamed_variable r q v ≡ renamed_variable r q w → v ≡ w) where
     close_term-renamed : (t : Term) → AllByRecursion (IsIn ns) (type_variable_places t) → AllByRecursion (IsIn vs) (free_places t)
         → close_term (map r ns) (map (renamed_variable r q) vs) (renamed r q t) ≡ close_term ns vs t
     close_term-renamed (term.Term.free n t) h k =
@@ -108,7 +111,8 @@ module _ (r : Name → Name) (ns : List Name) (one : (m n : Name) → IsIn ns m 
         (close_term-renamed f (All-left _ (type_variable_places f) (type_variable_places x) h) (All-left _ (free_places f) (free_places x) k))
         (close_term-renamed x (All-right _ (type_variable_places f) (type_variable_places x) h) (All-right _ (free_places f) (free_places x) k))
     close_term-renamed (term.Term.lam t b) h k =
-        ap₂ ClosedTerm.lam (close_type-renamed t (All-left _ (variable_places t) (type_variable_places b) h)) (close_term-renamed b (All-right _ (variable_places t) (type_variable_places b) h) k)
+        ap₂ ClosedTerm.lam (close_type-renamed t (All-left _ (variable_places t) (type_variable_places b) h))
+        (close_term-renamed b (All-right _ (variable_places t) (type_variable_places b) h) k)
 
 module _ (r : Name → Name) (q : Variable → Name) (s : Sequent)
     (one : (m n : Name) → IsIn (type_variables_of s) m → IsIn (type_variables_of s) n → r m ≡ r n → m ≡ n)
@@ -128,10 +132,13 @@ module _ (r : Name → Name) (q : Variable → Name) (s : Sequent)
       let vs = free_variables_of s in
       let count : length (map r ns) ≡ length ns = length_map r ns in
       let types : map (λ v. close_type (map r ns) v.1) (map (renamed_variable r q) vs) ≡ map (λ v. close_type ns v.1) vs =
-      map-twice _ (renamed_variable r q) vs ∙ map-each _ _ vs (All-each _ vs (λ v i. close_type-renamed r ns one v.1 (All-at _ vs v (free_variables-known s) i))) in
-      let term : (u : Term) → IsOver ns vs u → close_term (map r ns) (map (renamed_variable r q) vs) (renamed r q u) ≡ close_term ns vs u = λ u o. close_term-renamed r ns one q vs other u o.types o.terms in
+      map-twice _ (renamed_variable r q) vs ∙ map-each _ _ vs
+      (All-each _ vs (λ v i. close_type-renamed r ns one v.1 (All-at _ vs v (free_variables-known s) i))) in
+      let term : (u : Term) → IsOver ns vs u → close_term (map r ns) (map (renamed_variable r q) vs) (renamed r q u) ≡ close_term ns vs u =
+      λ u o. close_term-renamed r ns one q vs other u o.types o.terms in
       let hypotheses : map (close_term (map r ns) (map (renamed_variable r q) vs)) (map (renamed r q) s.hypotheses) ≡ map (close_term ns vs) s.hypotheses =
-      map-twice _ (renamed r q) s.hypotheses ∙ map-each _ _ s.hypotheses (All-each _ s.hypotheses (λ h i. term h (All-at _ s.hypotheses h (hypotheses-IsOver s) i))) in
+      map-twice _ (renamed r q) s.hypotheses ∙ map-each _ _ s.hypotheses
+      (All-each _ s.hypotheses (λ h i. term h (All-at _ s.hypotheses h (hypotheses-IsOver s) i))) in
       let conclusion = term s.conclusion (conclusion-IsOver s) in
       (λ i. closed_over (type_variables-renamed r q s one other i) (free_variables-renamed r q s one other i) (renamed_sequent r q s))
       ∙ (λ i. record { type_variable_count = count i; free_variable_types = types i; hypotheses = hypotheses i; conclusion = conclusion i })
@@ -166,7 +173,8 @@ module _ (ns ns' : List Name) where
     types-taken (type.HolTypes.more t ts) (type.HolTypes.more u us) h e =
         let f : close_type ns t ≡ close_type ns' u = cc in
         let g : close_types ns ts ≡ close_types ns' us = cc in
-        ap₂ type.HolTypes.more (type-taken t u (All-left _ (variable_places u) (variable_places_of_all us) h) f) (types-taken ts us (All-right _ (variable_places u) (variable_places_of_all us) h) g)
+        ap₂ type.HolTypes.more (type-taken t u (All-left _ (variable_places u) (variable_places_of_all us) h) f)
+        (types-taken ts us (All-right _ (variable_places u) (variable_places_of_all us) h) g)
 
   -- one to one
   name_of-apart : length ns ≡ length ns' → IsDistinct name_eq ns' → (m n : Name) → IsIn ns m → IsIn ns n → name_of m ≡ name_of n → m ≡ n
@@ -174,7 +182,8 @@ module _ (ns ns' : List Name) where
       let a = position-within name_eq name_eq-Decides ns m h in
       let b = position-within name_eq name_eq-Decides ns n k in
       position-injective name_eq name_eq-Decides ns m n h k
-      (get_or-injective name_eq name_eq-Decides ns' (position_or_len (name_eq m) ns) (position_or_len (name_eq n) ns) m n d (omega (arith, a, count)) (omega (arith, b, count)) e)
+      (get_or-injective name_eq name_eq-Decides ns' (position_or_len (name_eq m) ns) (position_or_len (name_eq n) ns) m n d (omega (arith, a, count))
+      (omega (arith, b, count)) e)
 
   module _ (vs vs' : List Variable) (known : AllByRecursion (λ v. AllByRecursion (IsIn ns') (variable_places v.1)) vs')
       (types : map (λ (v : Variable). close_type ns v.1) vs ≡ map (λ (v : Variable). close_type ns' v.1) vs') where
@@ -207,7 +216,8 @@ module _ (ns ns' : List Name) where
     -- a variable becomes the one with its number
     variable-taken : (v : Variable) → IsIn vs v → renamed_variable name_of variable_name v ≡ variable_at v
     variable-taken v i =
-        let t : renamed_type name_of v.1 ≡ (variable_at v).1 = type-taken v.1 (variable_at v).1 (All-at _ vs' (variable_at v) known (variable_at-IsIn v i)) (variable_at-type v i) in
+        let t : renamed_type name_of v.1 ≡ (variable_at v).1 =
+        type-taken v.1 (variable_at v).1 (All-at _ vs' (variable_at v) known (variable_at-IsIn v i)) (variable_at-type v i) in
         λ j. ((variable_at v).0, t j)
 
     variables-apart : IsDistinct variable_eq vs' → (v w : Variable) → IsIn vs v → IsIn vs w
@@ -217,7 +227,8 @@ module _ (ns ns' : List Name) where
         let b = position-within variable_eq variable_eq-Decides vs w k in
         let c = as_many in
         position-injective variable_eq variable_eq-Decides vs v w h k
-        (get_or-injective variable_eq variable_eq-Decides vs' (position_or_len (variable_eq v) vs) (position_or_len (variable_eq w) vs) v w d (omega (arith, a, c)) (omega (arith, b, c))
+        (get_or-injective variable_eq variable_eq-Decides vs' (position_or_len (variable_eq v) vs) (position_or_len (variable_eq w) vs) v w d
+        (omega (arith, a, c)) (omega (arith, b, c))
         (sym (variable-taken v h) ∙ e ∙ variable-taken w k))
 
     term-taken : (t u : Term) → AllByRecursion (IsIn vs) (free_places t) → AllByRecursion (IsIn ns') (type_variable_places u)
@@ -236,12 +247,15 @@ module _ (ns ns' : List Name) where
         let a : close_term ns vs t ≡ close_term ns' vs' u = cc in
         let b : close_term ns vs x ≡ close_term ns' vs' y = cc in
         ap₂ term.Term.app
-        (term-taken t u (All-left _ (free_places t) (free_places x) o) (All-left _ (type_variable_places u) (type_variable_places y) h) (All-left _ (free_places u) (free_places y) k) a)
-        (term-taken x y (All-right _ (free_places t) (free_places x) o) (All-right _ (type_variable_places u) (type_variable_places y) h) (All-right _ (free_places u) (free_places y) k) b)
+        (term-taken t u (All-left _ (free_places t) (free_places x) o) (All-left _ (type_variable_places u) (type_variable_places y) h)
+        (All-left _ (free_places u) (free_places y) k) a)
+        (term-taken x y (All-right _ (free_places t) (free_places x) o) (All-right _ (type_variable_places u) (type_variable_places y) h)
+        (All-right _ (free_places u) (free_places y) k) b)
     term-taken (term.Term.lam t x) (term.Term.lam u y) o h k e =
         let a : close_type ns t ≡ close_type ns' u = cc in
         let b : close_term ns vs x ≡ close_term ns' vs' y = cc in
-        ap₂ term.Term.lam (type-taken t u (All-left _ (variable_places u) (type_variable_places y) h) a) (term-taken x y o (All-right _ (variable_places u) (type_variable_places y) h) k b)
+        ap₂ term.Term.lam (type-taken t u (All-left _ (variable_places u) (type_variable_places y) h) a)
+        (term-taken x y o (All-right _ (variable_places u) (type_variable_places y) h) k b)
     term-taken t u o h k e = absurd (cc)
 
     terms-taken_in_order : (ts us : List Term) → AllByRecursion (IsOver ns vs) ts → AllByRecursion (IsOver ns' vs') us
@@ -262,10 +276,13 @@ closed-alike s t e =
     let vs' = free_variables_of t in
     let known = free_variables-known t in
     let count : length ns ≡ length ns' = ap (λ (c : ClosedSequent). c.type_variable_count) e in
-    let types : map (λ (v : Variable). close_type ns v.1) vs ≡ map (λ (v : Variable). close_type ns' v.1) vs' = ap (λ (c : ClosedSequent). c.free_variable_types) e in
-    let hypotheses = terms-taken_in_order ns ns' vs vs' known types s.hypotheses t.hypotheses (hypotheses-IsOver s) (hypotheses-IsOver t) (ap (λ (c : ClosedSequent). c.hypotheses) e) in
+    let types : map (λ (v : Variable). close_type ns v.1) vs ≡ map (λ (v : Variable). close_type ns' v.1) vs' =
+    ap (λ (c : ClosedSequent). c.free_variable_types) e in
+    let hypotheses = terms-taken_in_order ns ns' vs vs' known types s.hypotheses t.hypotheses (hypotheses-IsOver s) (hypotheses-IsOver t)
+    (ap (λ (c : ClosedSequent). c.hypotheses) e) in
     let over = conclusion-IsOver t in
-    let conclusion = term-taken ns ns' vs vs' known types s.conclusion t.conclusion (conclusion-IsOver s).terms over.types over.terms (ap (λ (c : ClosedSequent). c.conclusion) e) in
+    let conclusion = term-taken ns ns' vs vs' known types s.conclusion t.conclusion (conclusion-IsOver s).terms over.types over.terms
+    (ap (λ (c : ClosedSequent). c.conclusion) e) in
     record {
       type_names = name_of ns ns';
       names = variable_name ns ns' vs vs' known types;

@@ -39,7 +39,8 @@ mutual
   substitute-filled_in s f (variable n) = refl
   substitute-filled_in s f (operator n ts) = ap (operator n) (substitute_all-filled_in s f ts)
 
-  substitute_all-filled_in : (s : TypePairs) (f : Name → HolType) (ts : HolTypes) → substitute_all s (filled_in_all f ts) ≡ filled_in_all (λ n. substitute s (f n)) ts
+  substitute_all-filled_in : (s : TypePairs) (f : Name → HolType) (ts : HolTypes) → substitute_all s (filled_in_all f ts)
+      ≡ filled_in_all (λ n. substitute s (f n)) ts
   substitute_all-filled_in s f none = refl
   substitute_all-filled_in s f (more t ts) = ap₂ more (substitute-filled_in s f t) (substitute_all-filled_in s f ts)
 
@@ -55,13 +56,15 @@ mutual
 
   read_off_all-filled_in : (f : Name → HolType) (ts : HolTypes) → read_off_all ts (filled_in_all f ts) ≡ map (λ n. (n, f n)) (variable_places_of_all ts)
   read_off_all-filled_in f none = refl
-  read_off_all-filled_in f (more t ts) = rw (read_off-filled_in f t, read_off_all-filled_in f ts) (sym (map-append (λ n. (n, f n)) (variable_places t) (variable_places_of_all ts)))
+  read_off_all-filled_in f (more t ts) = rw (read_off-filled_in f t, read_off_all-filled_in f ts)
+      (sym (map-append (λ n. (n, f n)) (variable_places t) (variable_places_of_all ts)))
 
 pub lookup-told : (f : Name → HolType) (ns : List Name) (n : Name) → IsIn ns n → lookup (name_eq n) (map (λ m. (m, f m)) ns) ≡ Some (f n)
 lookup-told f [] n k = absurd k
 lookup-told f (m ∷ ms) n k = go (name_eq n m) refl (λ j. lookup-told f ms n j) k
   where
-    go : (b : Bool) → name_eq n m ≡ b → (IsIn ms n → lookup (name_eq n) (map (λ m. (m, f m)) ms) ≡ Some (f n)) → IsIn (m ∷ ms) n → cond b (Some (f m)) (lookup (name_eq n) (map (λ m. (m, f m)) ms)) ≡ Some (f n)
+    go : (b : Bool) → name_eq n m ≡ b → (IsIn ms n → lookup (name_eq n) (map (λ m. (m, f m)) ms) ≡ Some (f n)) → IsIn (m ∷ ms) n
+        → cond b (Some (f m)) (lookup (name_eq n) (map (λ m. (m, f m)) ms)) ≡ Some (f n)
     go true e later k = ap (λ l. Some (f l)) (sym ((name_eq-Decides n m).0 e))
     go false e later (inl same) = absurd (let t = (name_eq-Decides n m).1 same in cc)
     go false e later (inr k) = later k
@@ -88,7 +91,8 @@ type_arguments-substitute s generic t h =
 
 -- an instance of a generic type stays one
 pub Instance-substitute : (s : TypePairs) (generic t : HolType) → Instance generic t → (f : Name → HolType) × (substitute s t ≡ filled_in f generic)
-Instance-substitute s generic t h = (λ n. substitute s (image h.0 n), ap (substitute s) (sym h.1 ∙ substitute-is h.0 generic) ∙ substitute-filled_in s (image h.0) generic)
+Instance-substitute s generic t h =
+    (λ n. substitute s (image h.0 n), ap (substitute s) (sym h.1 ∙ substitute-is h.0 generic) ∙ substitute-filled_in s (image h.0) generic)
 
 -- an instance is filled in
 pub Instance-filled_in : (generic t : HolType) → Instance generic t → (f : Name → HolType) × (filled_in f generic ≡ t)
@@ -113,11 +117,13 @@ module _ (P : Name → Type 0) where
         (IsIn-either (variable_places t) (variable_places_of_all ts) n k)
 
   -- what holds of the variables of an instance holds of those of its type arguments
-  pub type_arguments-All : (generic t : HolType) → Instance generic t → AllByRecursion P (variable_places t) → AllByRecursion (λ u. AllByRecursion P (variable_places u)) (type_arguments generic t)
+  pub type_arguments-All : (generic t : HolType) → Instance generic t → AllByRecursion P (variable_places t)
+      → AllByRecursion (λ u. AllByRecursion P (variable_places u)) (type_arguments generic t)
   type_arguments-All generic t h all =
       let w = Instance-filled_in generic t h in
       let own : AllByRecursion P (variable_places (filled_in w.0 generic)) = subst (λ u. AllByRecursion P (variable_places u)) (sym w.1) all in
       subst (λ u. AllByRecursion (λ u. AllByRecursion P (variable_places u)) (type_arguments generic u)) w.1
       (subst (λ us. AllByRecursion (λ u. AllByRecursion P (variable_places u)) us) (sym (type_arguments-filled_in w.0 generic))
       (All-mapped (λ u. AllByRecursion P (variable_places u)) w.0 (type_variables generic)
-      (All-each _ (type_variables generic) (λ n k. places-filled_in w.0 generic n (IsIn-distinct_of name_eq name_eq-Decides (variable_places generic) n k) own))))
+      (All-each _ (type_variables generic)
+      (λ n k. places-filled_in w.0 generic n (IsIn-distinct_of name_eq name_eq-Decides (variable_places generic) n k) own))))

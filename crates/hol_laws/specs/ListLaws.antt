@@ -72,7 +72,8 @@ module _ {A : Type 0} (same : A → A → Bool) where
   pub IsDistinct-filter : (p : A → Bool) (xs : List A) → IsDistinct same xs → IsDistinct same (filter p xs)
   IsDistinct-filter p [] h = h
   IsDistinct-filter p (x ∷ xs) h =
-      IsDistinct-kept (p x) x (filter p xs) (All-filter (λ y. same x y ≡ false) p xs (IsDistinct-head same x xs h)) (IsDistinct-filter p xs (IsDistinct-tail same x xs h))
+      IsDistinct-kept (p x) x (filter p xs) (All-filter (λ y. same x y ≡ false) p xs (IsDistinct-head same x xs h))
+      (IsDistinct-filter p xs (IsDistinct-tail same x xs h))
 
 module _ {A : Type 0} (same : A → A → Bool) (symmetric : (x y : A) → same x y ≡ false → same y x ≡ false) where
   not_before : (xs ys : List A) (y : A) → IsDistinct same (xs ++ y ∷ ys) → is_in same y xs ≡ false
@@ -103,7 +104,8 @@ module _ {A : Type 0} (same : A → A → Bool) (decides : (x y : A) → Decides
 
   is_in-more : (x y : A) (xs : List A) → is_in same x xs ≡ true → is_in same x (xs ++ y ∷ []) ≡ true
   is_in-more x y [] e = absurd (cc)
-  is_in-more x y (z ∷ xs) e = or_case (is_in same x (z ∷ xs ++ y ∷ []) ≡ true) (same x z) (is_in same x xs) (λ a. ap (λ b. b || is_in same x (xs ++ y ∷ [])) a) (λ b. or_right (same x z) (is_in same x (xs ++ y ∷ [])) (is_in-more x y xs b)) e
+  is_in-more x y (z ∷ xs) e = or_case (is_in same x (z ∷ xs ++ y ∷ []) ≡ true) (same x z) (is_in same x xs) (λ a. ap (λ b. b || is_in same x (xs ++ y ∷ [])) a)
+      (λ b. or_right (same x z) (is_in same x (xs ++ y ∷ [])) (is_in-more x y xs b)) e
 
   is_in-if_new : (b : Bool) (x y : A) (xs : List A) → is_in same x xs ≡ true → is_in same x (cond b xs (xs ++ y ∷ [])) ≡ true
   is_in-if_new true x y xs e = e

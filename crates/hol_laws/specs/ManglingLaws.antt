@@ -51,7 +51,8 @@ not_followed r b bs q small f e = go (is_ascii_alphanumeric b) refl f
         let g : [] ≡ underscore ∷ hex_digit (b / 16) ∷ hex_digit (b % 16) ∷ mangled_before bs q = sym w ∙ e ∙ other-before b bs q h in cc
     go false h (inr w) =
         let smaller : b / 16 < 16 = omega (arith, small) in
-        let after = rest-is underscore underscore (underscore ∷ w.0) (hex_digit (b / 16) ∷ hex_digit (b % 16) ∷ mangled_before bs q) (sym w.1 ∙ e ∙ other-before b bs q h) in
+        let after = rest-is underscore underscore (underscore ∷ w.0) (hex_digit (b / 16) ∷ hex_digit (b % 16) ∷ mangled_before bs q)
+        (sym w.1 ∙ e ∙ other-before b bs q h) in
         hex_digit-underscore (b / 16) smaller (sym (first-is underscore (hex_digit (b / 16)) w.0 (hex_digit (b % 16) ∷ mangled_before bs q) after))
 
 pub follows-byteless : (r : List ℕ) → Follows r → IsByteless r
@@ -73,7 +74,8 @@ same_first b c bs cs r q l m e = go (is_ascii_alphanumeric b) (is_ascii_alphanum
         let g = sym (plain-before c cs q k) ∙ sym e ∙ other-before b bs r h in
         absurd (not_underscore c k (first-is c underscore (mangled_before cs q) (hex_digit (b / 16) ∷ hex_digit (b % 16) ∷ mangled_before bs r) g))
     go false false h k =
-        let g = rest-is underscore underscore (hex_digit (b / 16) ∷ hex_digit (b % 16) ∷ mangled_before bs r) (hex_digit (c / 16) ∷ hex_digit (c % 16) ∷ mangled_before cs q)
+        let g = rest-is underscore underscore (hex_digit (b / 16) ∷ hex_digit (b % 16) ∷ mangled_before bs r)
+        (hex_digit (c / 16) ∷ hex_digit (c % 16) ∷ mangled_before cs q)
         (sym (other-before b bs r h) ∙ e ∙ other-before c cs q k) in
         let high = first-is (hex_digit (b / 16)) (hex_digit (c / 16)) (hex_digit (b % 16) ∷ mangled_before bs r) (hex_digit (c % 16) ∷ mangled_before cs q) g in
         let after = rest-is (hex_digit (b / 16)) (hex_digit (c / 16)) (hex_digit (b % 16) ∷ mangled_before bs r) (hex_digit (c % 16) ∷ mangled_before cs q) g in

@@ -46,10 +46,12 @@ closed_dot : (b : ℕ) (text : List ℕ) (rest name : Name) → b ≡ dot → []
 closed_dot b text rest name e f c = rw (e, ← f) (record { inner = dot ∷ c.inner; is = ap (λ xs. dot ∷ xs) c.is; components = dotted nothing refl c.components })
 
 closed_plain : (b : ℕ) (text : List ℕ) (rest name : Name) → IsPlain b → with_byte b rest ≡ name → IsClosed text rest → IsClosed (b ∷ text) name
-closed_plain b text rest name p f c = rw (← f) (record { inner = b ∷ c.inner; is = ap (λ xs. b ∷ xs) c.is; components = with_plain b c.inner rest p c.components })
+closed_plain b text rest name p f c = rw (← f)
+    (record { inner = b ∷ c.inner; is = ap (λ xs. b ∷ xs) c.is; components = with_plain b c.inner rest p c.components })
 
 closed_escaped : (a b : ℕ) (text : List ℕ) (rest name : Name) → a ≡ backslash → with_byte b rest ≡ name → IsClosed text rest → IsClosed (a ∷ b ∷ text) name
-closed_escaped a b text rest name e f c = rw (e, ← f) (record { inner = backslash ∷ b ∷ c.inner; is = ap (λ xs. backslash ∷ b ∷ xs) c.is; components = with_escaped b c.inner rest c.components })
+closed_escaped a b text rest name e f c = rw (e, ← f)
+    (record { inner = backslash ∷ b ∷ c.inner; is = ap (λ xs. backslash ∷ b ∷ xs) c.is; components = with_escaped b c.inner rest c.components })
 
 mutual
   from-closed : (text : List ℕ) (name : Name) → name_from text ≡ Some name → IsClosed text name
@@ -60,7 +62,8 @@ mutual
       (λ t h. let m = option_map-some (λ n. [] ∷ n) (name_from text) name h in closed_dot b text m.0 name (eqb-true b dot t) m.2 (from-closed text m.0 m.1))
       (λ t h. escaped-closed b text name (eqb-true b backslash t) h)
       (λ q d s h. let m = option_map-some (with_byte b) (name_from text) name h in
-      closed_plain b text m.0 name (record { no_quote = other_number b quote q; no_dot = other_number b dot d; no_backslash = other_number b backslash s }) m.2 (from-closed text m.0 m.1))
+      closed_plain b text m.0 name (record { no_quote = other_number b quote q; no_dot = other_number b dot d; no_backslash = other_number b backslash s }) m.2
+      (from-closed text m.0 m.1))
 
   escaped-closed : (a : ℕ) (text : List ℕ) (name : Name) → a ≡ backslash → escaped_name text ≡ Some name → IsClosed (a ∷ text) name
   escaped-closed a [] name t e = absurd (cc)

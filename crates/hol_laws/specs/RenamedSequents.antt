@@ -18,7 +18,8 @@ use Rattle.hol_spec.specs.Renamings.{renamed_variable, renamed, renamed_sequent}
 use Rattle.hol_laws.specs.RenamingLaws.{renamed-injective, type_places-renamed, free_places-renamed, term_size-renamed, term_depth-renamed, type_under-renamed, agree, distinct-map, IsDistinct-map, flat_map-map, sum_by-map, greatest_by-map, length_map}
 
 -- the type variables of a free variable's type are type variables of the term
-pub type_variables-of_free : (P : Name → Type 0) (t : Term) → AllByRecursion P (type_variable_places t) → AllByRecursion (λ v. AllByRecursion P (variable_places v.1)) (free_places t)
+pub type_variables-of_free : (P : Name → Type 0) (t : Term) → AllByRecursion P (type_variable_places t)
+    → AllByRecursion (λ v. AllByRecursion P (variable_places v.1)) (free_places t)
 type_variables-of_free P (term.Term.free n t) h = (h, tt {0})
 type_variables-of_free P (term.Term.bound k) h = tt
 type_variables-of_free P (term.Term.constant n t) h = tt
@@ -28,10 +29,12 @@ type_variables-of_free P (term.Term.app f x) h =
     (type_variables-of_free P x (All-right P (type_variable_places f) (type_variable_places x) h))
 type_variables-of_free P (term.Term.lam t b) h = type_variables-of_free P b (All-right P (variable_places t) (type_variable_places b) h)
 
-pub flat_free : (P : Name → Type 0) (ts : List Term) → AllByRecursion P (flat_map type_variable_places ts) → AllByRecursion (λ v. AllByRecursion P (variable_places v.1)) (flat_map free_places ts)
+pub flat_free : (P : Name → Type 0) (ts : List Term) → AllByRecursion P (flat_map type_variable_places ts)
+    → AllByRecursion (λ v. AllByRecursion P (variable_places v.1)) (flat_map free_places ts)
 flat_free P [] h = tt
 flat_free P (t ∷ ts) h =
-    All-append _ (free_places t) (flat_map free_places ts) (type_variables-of_free P t (All-left P (type_variable_places t) (flat_map type_variable_places ts) h))
+    All-append _ (free_places t) (flat_map free_places ts)
+    (type_variables-of_free P t (All-left P (type_variable_places t) (flat_map type_variable_places ts) h))
     (flat_free P ts (All-right P (type_variable_places t) (flat_map type_variable_places ts) h))
 
 -- the parameters of a term are among these
@@ -42,10 +45,12 @@ pub record IsOver (ns : List Name) (vs : List Variable) (t : Term) : Type 0 wher
 module _ (s : Sequent) where
   -- all type variables and free variables of its terms are its own
   pub all_type_variables : AllByRecursion (IsIn (type_variables_of s)) (flat_map type_variable_places (terms_of s))
-  all_type_variables = All-each _ (flat_map type_variable_places (terms_of s)) (λ n i. IsIn-distinct name_eq name_eq-Decides (flat_map type_variable_places (terms_of s)) n i)
+  all_type_variables = All-each _ (flat_map type_variable_places (terms_of s))
+      (λ n i. IsIn-distinct name_eq name_eq-Decides (flat_map type_variable_places (terms_of s)) n i)
 
   pub all_free_variables : AllByRecursion (IsIn (free_variables_of s)) (flat_map free_places (terms_of s))
-  all_free_variables = All-each _ (flat_map free_places (terms_of s)) (λ v i. IsIn-distinct variable_eq variable_eq-Decides (flat_map free_places (terms_of s)) v i)
+  all_free_variables = All-each _ (flat_map free_places (terms_of s))
+      (λ v i. IsIn-distinct variable_eq variable_eq-Decides (flat_map free_places (terms_of s)) v i)
 
   -- the type variables of its free variables' types are its own
   pub free_variables-known : AllByRecursion (λ v. AllByRecursion (IsIn (type_variables_of s)) (variable_places v.1)) (free_variables_of s)
@@ -96,7 +101,8 @@ module _ (r : Name → Name) (q : Variable → Name) (s : Sequent)
   pub IsSequent-renamed : IsSequent s → IsSequent (renamed_sequent r q s)
   IsSequent-renamed is = record {
     no_repeats = IsDistinct-map (renamed r q) term_eq term_eq (IsOver (type_variables_of s) (free_variables_of s))
-        (λ t u h k. agree term_eq term_eq term_eq-Decides term_eq-Decides (renamed r q) t u (renamed-injective r (type_variables_of s) one q (free_variables_of s) other t u h.types k.types h.terms k.terms))
+        (λ t u h k. agree term_eq term_eq term_eq-Decides term_eq-Decides (renamed r q) t u
+        (renamed-injective r (type_variables_of s) one q (free_variables_of s) other t u h.types k.types h.terms k.terms))
         s.hypotheses (hypotheses-IsOver s) is.no_repeats;
     hypotheses = formulas-renamed s.hypotheses is.hypotheses;
     conclusion = type_under-renamed r q [] s.conclusion bool is.conclusion;
@@ -104,9 +110,13 @@ module _ (r : Name → Name) (q : Variable → Name) (s : Sequent)
 
   pub SequentWithin-renamed : SequentWithin s → SequentWithin (renamed_sequent r q s)
   SequentWithin-renamed w =
-      let size : sequent_size (renamed_sequent r q s) ≡ sequent_size s = ap (sum_by term_size) terms-renamed ∙ sum_by-map (renamed r q) term_size term_size (term_size-renamed r q) (terms_of s) in
-      let depth : sequent_depth (renamed_sequent r q s) ≡ sequent_depth s = ap (greatest_by term_depth) terms-renamed ∙ greatest_by-map (renamed r q) term_depth term_depth (term_depth-renamed r q) (terms_of s) in
-      let a : length (type_variables_of (renamed_sequent r q s)) ≡ length (type_variables_of s) = ap length type_variables-renamed ∙ length_map r (type_variables_of s) in
-      let b : length (free_variables_of (renamed_sequent r q s)) ≡ length (free_variables_of s) = ap length free_variables-renamed ∙ length_map (renamed_variable r q) (free_variables_of s) in
+      let size : sequent_size (renamed_sequent r q s) ≡ sequent_size s =
+      ap (sum_by term_size) terms-renamed ∙ sum_by-map (renamed r q) term_size term_size (term_size-renamed r q) (terms_of s) in
+      let depth : sequent_depth (renamed_sequent r q s) ≡ sequent_depth s =
+      ap (greatest_by term_depth) terms-renamed ∙ greatest_by-map (renamed r q) term_depth term_depth (term_depth-renamed r q) (terms_of s) in
+      let a : length (type_variables_of (renamed_sequent r q s)) ≡ length (type_variables_of s) =
+      ap length type_variables-renamed ∙ length_map r (type_variables_of s) in
+      let b : length (free_variables_of (renamed_sequent r q s)) ≡ length (free_variables_of s) =
+      ap length free_variables-renamed ∙ length_map (renamed_variable r q) (free_variables_of s) in
       let c : length (map (renamed r q) s.hypotheses) ≡ length s.hypotheses = length_map (renamed r q) s.hypotheses in
       record { size = omega (arith, size, w.size); depth = omega (arith, depth, w.depth); parameters = omega (arith, a, b, c, w.parameters) }

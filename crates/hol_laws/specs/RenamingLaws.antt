@@ -29,7 +29,8 @@ module _ (r : Name → Name) where
 
     pub places_all-renamed : (ts : HolTypes) → variable_places_of_all (renamed_types r ts) ≡ map r (variable_places_of_all ts)
     places_all-renamed none = refl
-    places_all-renamed (more t ts) = ap₂ (λ a b. a ++ b) (places-renamed t) (places_all-renamed ts) ∙ sym (map-append r (variable_places t) (variable_places_of_all ts))
+    places_all-renamed (more t ts) = ap₂ (λ a b. a ++ b) (places-renamed t) (places_all-renamed ts) ∙ sym
+        (map-append r (variable_places t) (variable_places_of_all ts))
 
   count-renamed : (ts : HolTypes) → count (renamed_types r ts) ≡ count ts
   count-renamed none = refl
@@ -58,14 +59,17 @@ module _ (r : Name → Name) (q : Variable → Name) where
   type_places-renamed (free n t) = places-renamed r t
   type_places-renamed (bound k) = refl
   type_places-renamed (constant n t) = places-renamed r t
-  type_places-renamed (app f x) = ap₂ (λ a b. a ++ b) (type_places-renamed f) (type_places-renamed x) ∙ sym (map-append r (type_variable_places f) (type_variable_places x))
-  type_places-renamed (lam t b) = ap₂ (λ a b. a ++ b) (places-renamed r t) (type_places-renamed b) ∙ sym (map-append r (variable_places t) (type_variable_places b))
+  type_places-renamed (app f x) = ap₂ (λ a b. a ++ b) (type_places-renamed f) (type_places-renamed x) ∙ sym
+      (map-append r (type_variable_places f) (type_variable_places x))
+  type_places-renamed (lam t b) = ap₂ (λ a b. a ++ b) (places-renamed r t) (type_places-renamed b) ∙ sym
+      (map-append r (variable_places t) (type_variable_places b))
 
   pub free_places-renamed : (t : Term) → free_places (renamed r q t) ≡ map (renamed_variable r q) (free_places t)
   free_places-renamed (free n t) = refl
   free_places-renamed (bound k) = refl
   free_places-renamed (constant n t) = refl
-  free_places-renamed (app f x) = ap₂ (λ a b. a ++ b) (free_places-renamed f) (free_places-renamed x) ∙ sym (map-append (renamed_variable r q) (free_places f) (free_places x))
+  free_places-renamed (app f x) = ap₂ (λ a b. a ++ b) (free_places-renamed f) (free_places-renamed x) ∙ sym
+      (map-append (renamed_variable r q) (free_places f) (free_places x))
   free_places-renamed (lam t b) = free_places-renamed b
 
   pub term_size-renamed : (t : Term) → term_size (renamed r q t) ≡ term_size t
@@ -90,10 +94,12 @@ module _ (r : Name → Name) (q : Variable → Name) where
   type_under-renamed binders (constant n c) a e = ap (option_map (renamed_type r)) e
   type_under-renamed binders (app f x) a e =
       let p = application_type-is (type_under binders f) (type_under binders x) a e in
-      type_under-app (map (renamed_type r) binders) (renamed r q f) (renamed r q x) (renamed_type r p.0) (renamed_type r a) (type_under-renamed binders f (function p.0 a) p.1.0) (type_under-renamed binders x p.0 p.1.1)
+      type_under-app (map (renamed_type r) binders) (renamed r q f) (renamed r q x) (renamed_type r p.0) (renamed_type r a)
+      (type_under-renamed binders f (function p.0 a) p.1.0) (type_under-renamed binders x p.0 p.1.1)
   type_under-renamed binders (lam c b) a e =
       let p = abstraction_type-is c (type_under (c ∷ binders) b) a e in
-      type_under-lam (map (renamed_type r) binders) (renamed_type r c) (renamed r q b) (renamed_type r p.0) (type_under-renamed (c ∷ binders) b p.0 p.1.0) ∙ ap (λ u. Some (renamed_type r u)) (sym p.1.1)
+      type_under-lam (map (renamed_type r) binders) (renamed_type r c) (renamed r q b) (renamed_type r p.0) (type_under-renamed (c ∷ binders) b p.0 p.1.0)
+      ∙ ap (λ u. Some (renamed_type r u)) (sym p.1.1)
 
 -- names that stay apart
 module _ (r : Name → Name) (ns : List Name) (one : (m n : Name) → IsIn ns m → IsIn ns n → r m ≡ r n → m ≡ n) where
@@ -117,10 +123,13 @@ module _ (r : Name → Name) (ns : List Name) (one : (m n : Name) → IsIn ns m 
         let f : renamed_type r t ≡ renamed_type r u = cc in
         let g : renamed_types r ts ≡ renamed_types r us = cc in
         ap₂ more
-        (renamed_type-injective t u (All-left (IsIn ns) (variable_places t) (variable_places_of_all ts) h) (All-left (IsIn ns) (variable_places u) (variable_places_of_all us) k) f)
-        (renamed_types-injective ts us (All-right (IsIn ns) (variable_places t) (variable_places_of_all ts) h) (All-right (IsIn ns) (variable_places u) (variable_places_of_all us) k) g)
+        (renamed_type-injective t u (All-left (IsIn ns) (variable_places t) (variable_places_of_all ts) h)
+        (All-left (IsIn ns) (variable_places u) (variable_places_of_all us) k) f)
+        (renamed_types-injective ts us (All-right (IsIn ns) (variable_places t) (variable_places_of_all ts) h)
+        (All-right (IsIn ns) (variable_places u) (variable_places_of_all us) k) g)
 
-  module _ (q : Variable → Name) (vs : List Variable) (other : (v w : Variable) → IsIn vs v → IsIn vs w → renamed_variable r q v ≡ renamed_variable r q w → v ≡ w) where
+  module _ (q : Variable → Name) (vs : List Variable)
+      (other : (v w : Variable) → IsIn vs v → IsIn vs w → renamed_variable r q v ≡ renamed_variable r q w → v ≡ w) where
     pub renamed-injective : (t u : Term) → AllByRecursion (IsIn ns) (type_variable_places t) → AllByRecursion (IsIn ns) (type_variable_places u)
         → AllByRecursion (IsIn vs) (free_places t) → AllByRecursion (IsIn vs) (free_places u) → renamed r q t ≡ renamed r q u → t ≡ u
     renamed-injective (free m t) (free n u) h k f g e =
@@ -136,26 +145,35 @@ module _ (r : Name → Name) (ns : List Name) (one : (m n : Name) → IsIn ns m 
         let a : renamed r q t ≡ renamed r q u = cc in
         let b : renamed r q x ≡ renamed r q y = cc in
         ap₂ app
-        (renamed-injective t u (All-left (IsIn ns) (type_variable_places t) (type_variable_places x) h) (All-left (IsIn ns) (type_variable_places u) (type_variable_places y) k) (All-left (IsIn vs) (free_places t) (free_places x) f) (All-left (IsIn vs) (free_places u) (free_places y) g) a)
-        (renamed-injective x y (All-right (IsIn ns) (type_variable_places t) (type_variable_places x) h) (All-right (IsIn ns) (type_variable_places u) (type_variable_places y) k) (All-right (IsIn vs) (free_places t) (free_places x) f) (All-right (IsIn vs) (free_places u) (free_places y) g) b)
+        (renamed-injective t u (All-left (IsIn ns) (type_variable_places t) (type_variable_places x) h)
+        (All-left (IsIn ns) (type_variable_places u) (type_variable_places y) k) (All-left (IsIn vs) (free_places t) (free_places x) f)
+        (All-left (IsIn vs) (free_places u) (free_places y) g) a)
+        (renamed-injective x y (All-right (IsIn ns) (type_variable_places t) (type_variable_places x) h)
+        (All-right (IsIn ns) (type_variable_places u) (type_variable_places y) k) (All-right (IsIn vs) (free_places t) (free_places x) f)
+        (All-right (IsIn vs) (free_places u) (free_places y) g) b)
     renamed-injective (lam t x) (lam u y) h k f g e =
         let a : renamed_type r t ≡ renamed_type r u = cc in
         let b : renamed r q x ≡ renamed r q y = cc in
         ap₂ lam
-        (renamed_type-injective t u (All-left (IsIn ns) (variable_places t) (type_variable_places x) h) (All-left (IsIn ns) (variable_places u) (type_variable_places y) k) a)
-        (renamed-injective x y (All-right (IsIn ns) (variable_places t) (type_variable_places x) h) (All-right (IsIn ns) (variable_places u) (type_variable_places y) k) f g b)
+        (renamed_type-injective t u (All-left (IsIn ns) (variable_places t) (type_variable_places x) h)
+        (All-left (IsIn ns) (variable_places u) (type_variable_places y) k) a)
+        (renamed-injective x y (All-right (IsIn ns) (variable_places t) (type_variable_places x) h)
+        (All-right (IsIn ns) (variable_places u) (type_variable_places y) k) f g b)
     renamed-injective t u h k f g e = absurd (cc)
 
 -- a test says the same of images where the map is one to one
-pub agree : {A B : Type 0} (same : A → A → Bool) (eq : B → B → Bool) (decides : (x y : A) → Decides (same x y) (x ≡ y)) (tells : (x y : B) → Decides (eq x y) (x ≡ y)) (f : A → B) (x y : A)
+pub agree : {A B : Type 0} (same : A → A → Bool) (eq : B → B → Bool) (decides : (x y : A) → Decides (same x y) (x ≡ y))
+    (tells : (x y : B) → Decides (eq x y) (x ≡ y)) (f : A → B) (x y : A)
     → (f x ≡ f y → x ≡ y) → eq (f x) (f y) ≡ same x y
-agree same eq decides tells f x y one = same_from_decides (eq (f x) (f y)) (same x y) ((λ h. one ((tells (f x) (f y)).0 h)), (λ h. (tells (f x) (f y)).1 (ap f h))) (decides x y)
+agree same eq decides tells f x y one = same_from_decides (eq (f x) (f y)) (same x y)
+    ((λ h. one ((tells (f x) (f y)).0 h)), (λ h. (tells (f x) (f y)).1 (ap f h))) (decides x y)
 
 module _ {A B : Type 0} (f : A → B) (same : A → A → Bool) (eq : B → B → Bool) (P : A → Type 0) (says : (x y : A) → P x → P y → eq (f x) (f y) ≡ same x y) where
   pub distinct-map : (xs : List A) → AllByRecursion P xs → distinct eq (map f xs) ≡ map f (distinct same xs)
   distinct-map xs h = sym (union-map f same eq P says xs [] (tt {0}) h)
 
-  apart-map : (x : A) (xs : List A) → P x → AllByRecursion P xs → AllByRecursion (λ y. same x y ≡ false) xs → AllByRecursion (λ y. eq (f x) y ≡ false) (map f xs)
+  apart-map : (x : A) (xs : List A) → P x → AllByRecursion P xs → AllByRecursion (λ y. same x y ≡ false) xs
+      → AllByRecursion (λ y. eq (f x) y ≡ false) (map f xs)
   apart-map x [] p h k = tt
   apart-map x (y ∷ ys) p h k = (says x y p h.0 ∙ k.0, apart-map x ys p h.1 k.1)
 

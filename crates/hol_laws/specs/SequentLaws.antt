@@ -30,22 +30,26 @@ wider : (x : Term) (gs hs : List Term) → IsTrue (list_all (λ h. is_in term_eq
 wider x gs [] e = refl
 wider x gs (h ∷ hs) e =
     let parts = and_parts (is_in term_eq h gs) (list_all (λ k. is_in term_eq k gs) hs) e in
-    and_from (is_in term_eq h (x ∷ gs)) (list_all (λ k. is_in term_eq k (x ∷ gs)) hs) (or_right (term_eq h x) (is_in term_eq h gs) parts.0) (wider x gs hs parts.1)
+    and_from (is_in term_eq h (x ∷ gs)) (list_all (λ k. is_in term_eq k (x ∷ gs)) hs) (or_right (term_eq h x) (is_in term_eq h gs) parts.0)
+    (wider x gs hs parts.1)
 
 all_own : (hs : List Term) → IsTrue (list_all (λ h. is_in term_eq h hs) hs)
 all_own [] = refl
 all_own (h ∷ hs) =
-    and_from (is_in term_eq h (h ∷ hs)) (list_all (λ k. is_in term_eq k (h ∷ hs)) hs) (or_left (term_eq h h) (is_in term_eq h hs) ((term_eq-Decides h h).1 refl)) (wider h hs hs (all_own hs))
+    and_from (is_in term_eq h (h ∷ hs)) (list_all (λ k. is_in term_eq k (h ∷ hs)) hs)
+    (or_left (term_eq h h) (is_in term_eq h hs) ((term_eq-Decides h h).1 refl)) (wider h hs hs (all_own hs))
 
 -- A sequent is within itself, and what is within what is within a third is within the third.
 pub within-refl : (s : Sequent) → IsTrue (within s s)
-within-refl s = and_from (list_all (λ h. is_in term_eq h s.hypotheses) s.hypotheses) (term_eq s.conclusion s.conclusion) (all_own s.hypotheses) ((term_eq-Decides s.conclusion s.conclusion).1 refl)
+within-refl s = and_from (list_all (λ h. is_in term_eq h s.hypotheses) s.hypotheses) (term_eq s.conclusion s.conclusion) (all_own s.hypotheses)
+    ((term_eq-Decides s.conclusion s.conclusion).1 refl)
 
 pub within-trans : (s t u : Sequent) → IsTrue (within s t) → IsTrue (within t u) → IsTrue (within s u)
 within-trans s t u e f =
     let p = and_parts (list_all (λ h. is_in term_eq h t.hypotheses) s.hypotheses) (term_eq s.conclusion t.conclusion) e in
     let q = and_parts (list_all (λ h. is_in term_eq h u.hypotheses) t.hypotheses) (term_eq t.conclusion u.conclusion) f in
-    and_from (list_all (λ h. is_in term_eq h u.hypotheses) s.hypotheses) (term_eq s.conclusion u.conclusion) (all_among u.hypotheses t.hypotheses s.hypotheses p.0 q.0)
+    and_from (list_all (λ h. is_in term_eq h u.hypotheses) s.hypotheses) (term_eq s.conclusion u.conclusion)
+    (all_among u.hypotheses t.hypotheses s.hypotheses p.0 q.0)
     ((term_eq-Decides s.conclusion u.conclusion).1 ((term_eq-Decides s.conclusion t.conclusion).0 p.1 ∙ (term_eq-Decides t.conclusion u.conclusion).0 q.1))
 
 -- A sequent is the same as itself; sameness goes both ways, and from one to the next.

@@ -26,7 +26,8 @@ mutual
 
   read_off_all-substitute : (s : TypePairs) (ts : HolTypes) → read_off_all ts (substitute_all s ts) ≡ said s (variable_places_of_all ts)
   read_off_all-substitute s none = refl
-  read_off_all-substitute s (more t ts) = rw (read_off-substitute s t, read_off_all-substitute s ts) (sym (said-append s (variable_places t) (variable_places_of_all ts)))
+  read_off_all-substitute s (more t ts) = rw (read_off-substitute s t, read_off_all-substitute s ts)
+      (sym (said-append s (variable_places t) (variable_places_of_all ts)))
 
 lookup-head : (b : Bool) (s : TypePairs) (m n : Name) (rest : Option HolType) → (b ≡ true → n ≡ m) → rest ≡ Some (image s n)
     → cond b (Some (image s m)) rest ≡ Some (image s n)
@@ -50,7 +51,8 @@ mutual
       let left : substitute (said s (ms ++ ((variable_places t ++ variable_places_of_all ts) ++ os))) t ≡ substitute s t
       = rw (append_assoc (variable_places t) (variable_places_of_all ts) os) (substitute-said s t ms (variable_places_of_all ts ++ os)) in
       let right : substitute_all (said s (ms ++ ((variable_places t ++ variable_places_of_all ts) ++ os))) ts ≡ substitute_all s ts
-      = rw (append_assoc (variable_places t) (variable_places_of_all ts) os, ← append_assoc ms (variable_places t) (variable_places_of_all ts ++ os)) (substitute_all-said s ts (ms ++ variable_places t) os) in
+      = rw (append_assoc (variable_places t) (variable_places_of_all ts) os, ← append_assoc ms (variable_places t) (variable_places_of_all ts ++ os))
+      (substitute_all-said s ts (ms ++ variable_places t) os) in
       rw (left, right) refl
 
 substitute-read_off : (s : TypePairs) (t : HolType) → substitute (read_off t (substitute s t)) t ≡ substitute s t

@@ -47,7 +47,8 @@ list_var k (u ∷ us) n = replace (cons (lift k u) bound) (list_var (suc k) us n
 
 puts_is : (k : ℕ) (us : List Term) (t : Term) → puts k us t ≡ replace (list_var k us) t
 puts_is k [] t = sym (replace_bound t)
-puts_is k (u ∷ us) t = put_is (lift k u) (puts (suc k) us t) ∙ ap (replace (cons (lift k u) bound)) (puts_is (suc k) us t) ∙ replace_replace (cons (lift k u) bound) (list_var (suc k) us) t
+puts_is k (u ∷ us) t = put_is (lift k u) (puts (suc k) us t) ∙ ap (replace (cons (lift k u) bound)) (puts_is (suc k) us t) ∙ replace_replace
+    (cons (lift k u) bound) (list_var (suc k) us) t
 
 cons_lift : (k : ℕ) (u a : Term) → replace (cons (lift k u) bound) (lift (suc k) a) ≡ lift k a
 cons_lift k u a = ap (replace (cons (lift k u) bound)) (sym (suc_lift k a)) ∙ replace_rename (cons (lift k u) bound) suc (lift k a) ∙ replace_bound (lift k a)
@@ -55,7 +56,8 @@ cons_lift k u a = ap (replace (cons (lift k u) bound)) (sym (suc_lift k a)) ∙ 
 -- A put more among the variables of a list.
 module _ (k : ℕ) (u : Term) where
   one_more : (xs : List Term) (n : ℕ)
-      → replace (cons (lift k u) bound) (option_map_or (lift (suc k)) (slice_get xs n) (bound (n - length xs))) ≡ option_map_or (lift k) (slice_get (xs ++ u ∷ []) n) (bound (n - suc (length xs)))
+      → replace (cons (lift k u) bound) (option_map_or (lift (suc k)) (slice_get xs n) (bound (n - length xs)))
+      ≡ option_map_or (lift k) (slice_get (xs ++ u ∷ []) n) (bound (n - suc (length xs)))
   one_more [] zero = refl
   one_more [] (suc n) =
       let a : suc n - 0 ≡ suc n = omega arith in
@@ -73,7 +75,8 @@ module _ (k : ℕ) (u : Term) where
 pub list_var_is : (k : ℕ) (us : List Term) (n : ℕ) → list_var k us n ≡ option_map_or (lift k) (slice_get (reverse us) n) (bound (n - length us))
 list_var_is k [] n = let e : n ≡ n - 0 = omega arith in ap bound e
 list_var_is k (u ∷ us) n =
-    ap (replace (cons (lift k u) bound)) (list_var_is (suc k) us n ∙ ap (λ m. option_map_or (lift (suc k)) (slice_get (reverse us) n) (bound (n - m))) (sym (length-reverse us)))
+    ap (replace (cons (lift k u) bound)) (list_var_is (suc k) us n
+    ∙ ap (λ m. option_map_or (lift (suc k)) (slice_get (reverse us) n) (bound (n - m))) (sym (length-reverse us)))
     ∙ one_more k u (reverse us) n
     ∙ ap (λ m. option_map_or (lift k) (slice_get (reverse us ++ u ∷ []) n) (bound (n - suc m))) (length-reverse us)
     ∙ ap (λ xs. option_map_or (lift k) (slice_get xs n) (bound (n - suc (length us)))) (sym (reverse-append (u ∷ []) us))

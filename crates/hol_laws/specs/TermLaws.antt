@@ -11,7 +11,8 @@ use Rattle.hol_spec.specs.Primitives.{bool, function, equality_name, equality_ty
 use Rattle.hol_spec.specs.Terms.{Term, free, bound, constant, app, lam, term_eq, Variable, variable_eq, type_under, HasType, equation}
 
 pub variable_eq-Decides : (v w : Variable) → Decides (variable_eq v w) (v ≡ w)
-variable_eq-Decides v w = both-Decides (name_eq v.0 w.0) (type_eq v.1 w.1) (name_eq-Decides v.0 w.0) (type_eq-Decides v.1 w.1) (λ p q i. (p i, q i)) (λ h. (ap (λ (x : Variable). x.0) h, ap (λ (x : Variable). x.1) h))
+variable_eq-Decides v w = both-Decides (name_eq v.0 w.0) (type_eq v.1 w.1) (name_eq-Decides v.0 w.0) (type_eq-Decides v.1 w.1) (λ p q i. (p i, q i))
+    (λ h. (ap (λ (x : Variable). x.0) h, ap (λ (x : Variable). x.1) h))
 
 pub term_eq-Decides : (t u : Term) → Decides (term_eq t u) (t ≡ u)
 term_eq-Decides (free m t) (free n u) = both-Decides (name_eq m n) (type_eq t u) (name_eq-Decides m n) (type_eq-Decides t u) (λ p q. cc) (λ h. (cc, cc))
@@ -61,4 +62,5 @@ type_under-lam binders a t b p = rw p refl
 -- An equation between two terms of one type is of type `bool`.
 pub type_of-equation : (a : HolType) (t u : Term) → HasType t a → HasType u a → HasType (equation a t u) bool
 type_of-equation a t u p q =
-    type_under-app [] (app (constant equality_name (equality_type a)) t) u a bool (type_under-app [] (constant equality_name (equality_type a)) t a (function a bool) refl p) q
+    type_under-app [] (app (constant equality_name (equality_type a)) t) u a bool
+    (type_under-app [] (constant equality_name (equality_type a)) t a (function a bool) refl p) q

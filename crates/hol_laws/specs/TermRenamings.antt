@@ -162,11 +162,14 @@ put_all_bound-high d us n h = grind arith
 
 -- A variable for which there is no argument passes them all.
 suc_lowered : (d : ℕ) (us : List Term) (n : ℕ)
-    → option_map_or (lift (suc d)) (slice_get (reverse us) (n - d)) (bound (suc (n - length us))) ≡ option_map_or (lift (suc d)) (slice_get (reverse us) (n - d)) (bound (suc n - length us))
+    → option_map_or (lift (suc d)) (slice_get (reverse us) (n - d)) (bound (suc (n - length us)))
+    ≡ option_map_or (lift (suc d)) (slice_get (reverse us) (n - d)) (bound (suc n - length us))
 suc_lowered d us n = go (slice_get_cases (reverse us) (n - d)).1
   where
-    go : ((x : Term) × (n - d < length (reverse us)) × (slice_get (reverse us) (n - d) ≡ Some x) × (get_or (reverse us) (n - d) x ≡ x)) ⊎ ((length (reverse us) ≤ n - d) × (slice_get (reverse us) (n - d) ≡ None))
-        → option_map_or (lift (suc d)) (slice_get (reverse us) (n - d)) (bound (suc (n - length us))) ≡ option_map_or (lift (suc d)) (slice_get (reverse us) (n - d)) (bound (suc n - length us))
+    go : ((x : Term) × (n - d < length (reverse us)) × (slice_get (reverse us) (n - d) ≡ Some x) × (get_or (reverse us) (n - d) x ≡ x))
+        ⊎ ((length (reverse us) ≤ n - d) × (slice_get (reverse us) (n - d) ≡ None))
+        → option_map_or (lift (suc d)) (slice_get (reverse us) (n - d)) (bound (suc (n - length us)))
+        ≡ option_map_or (lift (suc d)) (slice_get (reverse us) (n - d)) (bound (suc n - length us))
     go (inl w) = rw w.2 refl
     go (inr w) = let e : suc (n - length us) ≡ suc n - length us = omega (arith, w.0, length-reverse us) in rw e refl
 

@@ -51,8 +51,10 @@ function_parts-is (operator n (more c (more d none))) a b e = go (name_eq n arro
     second None = d
     second (Some p) = p.1
 
-    go : (x : Bool) → (x ≡ true → n ≡ arrow_name) → cond {A = Option (HolType × HolType)} x (Some (c, d)) None ≡ Some (a, b) → operator n (more c (more d none)) ≡ function a b
-    go true named same = let m = named refl in let p : c ≡ a = ap first same in let q : d ≡ b = ap second same in λ i. operator (m i) (more (p i) (more (q i) none))
+    go : (x : Bool) → (x ≡ true → n ≡ arrow_name) → cond {A = Option (HolType × HolType)} x (Some (c, d)) None ≡ Some (a, b) → operator n (more c (more d none))
+        ≡ function a b
+    go true named same = let m = named refl in let p : c ≡ a = ap first same in let q : d ≡ b =
+        ap second same in λ i. operator (m i) (more (p i) (more (q i) none))
     go false named same = absurd (cc)
 function_parts-is (operator n (more c (more d (more g ts)))) a b e = absurd (cc)
 
@@ -90,15 +92,18 @@ abstraction_type-is c (Some d) a e = (d, (refl, is (sym e)))
 -- The law of substitution: under binders whose types are put too, a typed term has its type with the types put.
 pub type_under-sub : (types : TypePairs) (terms : TermPairs) → AreFitting terms → (binders : List HolType) (t : Term) (a : HolType)
     → type_under binders t ≡ Some a → type_under (map (substitute types) binders) (sub types terms t) ≡ Some (substitute types a)
-type_under-sub types terms f binders (free n c) a e = type_under-term_image (map (substitute types) binders) terms (n, substitute types c) f ∙ ap (option_map (substitute types)) e
+type_under-sub types terms f binders (free n c) a e =
+    type_under-term_image (map (substitute types) binders) terms (n, substitute types c) f ∙ ap (option_map (substitute types)) e
 type_under-sub types terms f binders (bound k) a e = slice_get-map (substitute types) binders k ∙ ap (option_map (substitute types)) e
 type_under-sub types terms f binders (constant n c) a e = ap (option_map (substitute types)) e
 type_under-sub types terms f binders (app g x) a e =
     let p = application_type-is (type_under binders g) (type_under binders x) a e in
-    type_under-app (map (substitute types) binders) (sub types terms g) (sub types terms x) (substitute types p.0) (substitute types a) (type_under-sub types terms f binders g (function p.0 a) p.1.0) (type_under-sub types terms f binders x p.0 p.1.1)
+    type_under-app (map (substitute types) binders) (sub types terms g) (sub types terms x) (substitute types p.0) (substitute types a)
+    (type_under-sub types terms f binders g (function p.0 a) p.1.0) (type_under-sub types terms f binders x p.0 p.1.1)
 type_under-sub types terms f binders (lam c b) a e =
     let p = abstraction_type-is c (type_under (c ∷ binders) b) a e in
-    type_under-lam (map (substitute types) binders) (substitute types c) (sub types terms b) (substitute types p.0) (type_under-sub types terms f (c ∷ binders) b p.0 p.1.0) ∙ ap (λ r. Some (substitute types r)) (sym p.1.1)
+    type_under-lam (map (substitute types) binders) (substitute types c) (sub types terms b) (substitute types p.0)
+    (type_under-sub types terms f (c ∷ binders) b p.0 p.1.0) ∙ ap (λ r. Some (substitute types r)) (sym p.1.1)
 
 pub type_of-sub : TypeOfSubstitution
 type_of-sub types terms t a f h = type_under-sub types terms f [] t a h

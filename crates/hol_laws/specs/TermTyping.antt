@@ -64,7 +64,8 @@ type_of-close v t = ap (option_map (function v.1)) (type_under-close_at [] [] v 
 -- Under a binder more, what is put for a number is lifted.
 put_bound-suc : (d : ℕ) (u : Term) (n : ℕ) → put_bound (suc d) u (suc n) ≡ lift 1 (put_bound d u n)
 put_bound-suc d u n =
-    sym (up_terms_put_bound d u (suc n)) ∙ ap (λ r. rename r (put_bound d u n)) (fun_ext (λ m. let e : suc m ≡ m + 1 = omega arith in e)) ∙ sym (lift_is 1 (put_bound d u n))
+    sym (up_terms_put_bound d u (suc n)) ∙ ap (λ r. rename r (put_bound d u n)) (fun_ext (λ m. let e : suc m ≡ m + 1 = omega arith in e))
+    ∙ sym (lift_is 1 (put_bound d u n))
 
 -- What is put for a number has its type, where the term put has the type of the binder that goes.
 type_under-put_bound : (front back : List HolType) (a : HolType) (u : Term) → type_under back u ≡ Some a → (n : ℕ)

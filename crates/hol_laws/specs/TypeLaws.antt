@@ -17,13 +17,15 @@ both-Decides false b p q f g = (λ h. cc, λ h. p.1 (g h).0)
 mutual
   pub type_eq-Decides : (t u : HolType) → Decides (type_eq t u) (t ≡ u)
   type_eq-Decides (variable m) (variable n) = (λ h. ap variable ((name_eq-Decides m n).0 h), λ h. (name_eq-Decides m n).1 (cc))
-  type_eq-Decides (operator m ts) (operator n us) = both-Decides (name_eq m n) (types_eq ts us) (name_eq-Decides m n) (types_eq-Decides ts us) (λ p q. cc) (λ h. (cc, cc))
+  type_eq-Decides (operator m ts) (operator n us) =
+      both-Decides (name_eq m n) (types_eq ts us) (name_eq-Decides m n) (types_eq-Decides ts us) (λ p q. cc) (λ h. (cc, cc))
   type_eq-Decides (variable m) (operator n us) = (λ h. cc, λ h. cc)
   type_eq-Decides (operator m ts) (variable n) = (λ h. cc, λ h. cc)
 
   pub types_eq-Decides : (ts us : HolTypes) → Decides (types_eq ts us) (ts ≡ us)
   types_eq-Decides none none = (λ h. refl, λ h. refl)
-  types_eq-Decides (more t ts) (more u us) = both-Decides (type_eq t u) (types_eq ts us) (type_eq-Decides t u) (types_eq-Decides ts us) (λ p q. cc) (λ h. (cc, cc))
+  types_eq-Decides (more t ts) (more u us) = both-Decides (type_eq t u) (types_eq ts us) (type_eq-Decides t u) (types_eq-Decides ts us) (λ p q. cc)
+      (λ h. (cc, cc))
   types_eq-Decides none (more u us) = (λ h. cc, λ h. cc)
   types_eq-Decides (more t ts) none = (λ h. cc, λ h. cc)
 

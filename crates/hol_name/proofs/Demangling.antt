@@ -43,7 +43,8 @@ behind-boundary text no_name_there [] h e = cc
 behind-boundary text no_name_there (x ∷ n) h e = no_name_there (x ∷ n) h (cc)
 
 -- a text that goes on with neither byte, boundary nor end is that of no name
-pub joined-no_name : (cs : Name) (c after : List ℕ) → AllByRecursion AreBytes cs → AreBytes c → IsByteless after → IsFault after → HasNoName (joined cs (mangled_before c after))
+pub joined-no_name : (cs : Name) (c after : List ℕ) → AllByRecursion AreBytes cs → AreBytes c → IsByteless after → IsFault after
+    → HasNoName (joined cs (mangled_before c after))
 joined-no_name [] c after all bytes stop fault [] is e = absurd is
 joined-no_name (d ∷ ds) c after all bytes stop fault [] is e = absurd is
 joined-no_name [] c after all bytes stop fault (b ∷ n) is e =
@@ -69,7 +70,8 @@ pub record HasRead (text : List ℕ) (cs : Name) (rest : List ℕ) : Type 0 wher
   pub bytes : AllByRecursion AreBytes cs
 
 -- a further component was read where a boundary follows it
-pub read-on : (text : List ℕ) (cs : Name) (c rest after next : List ℕ) → HasRead text cs rest → rest ≡ mangled_before c after → AreBytes c → after ≡ underscore ∷ underscore ∷ next
+pub read-on : (text : List ℕ) (cs : Name) (c rest after next : List ℕ) → HasRead text cs rest → rest ≡ mangled_before c after → AreBytes c → after
+    ≡ underscore ∷ underscore ∷ next
     → HasRead text (cs ++ c ∷ []) next
 read-on text cs c rest after next h e bytes f = record {
   read = h.read ∙ ap (joined cs) (e ∙ ap (mangled_before c) f) ∙ sym (joined-push cs c next);
@@ -77,9 +79,11 @@ read-on text cs c rest after next h e bytes f = record {
 }
 
 -- the text is that of a name where it ends behind a component
-pub read-end : (text : List ℕ) (cs : Name) (c rest after : List ℕ) → HasRead text cs rest → rest ≡ mangled_before c after → after ≡ [] → mangled (cs ++ c ∷ []) ≡ text
+pub read-end : (text : List ℕ) (cs : Name) (c rest after : List ℕ) → HasRead text cs rest → rest ≡ mangled_before c after → after ≡ [] → mangled (cs ++ c ∷ [])
+    ≡ text
 read-end text cs c rest after h e f = sym (h.read ∙ ap (joined cs) (e ∙ ap (mangled_before c) f) ∙ joined-last cs c)
 
 -- the text is that of no name where something else follows a component
-pub read-fault : (text : List ℕ) (cs : Name) (c rest after : List ℕ) → HasRead text cs rest → rest ≡ mangled_before c after → AreBytes c → IsByteless after → IsFault after → HasNoName text
+pub read-fault : (text : List ℕ) (cs : Name) (c rest after : List ℕ) → HasRead text cs rest → rest ≡ mangled_before c after → AreBytes c → IsByteless after
+    → IsFault after → HasNoName text
 read-fault text cs c rest after h e bytes stop fault name is f = joined-no_name cs c after h.bytes bytes stop fault name is (f ∙ h.read ∙ ap (joined cs) e)

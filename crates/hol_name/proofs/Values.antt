@@ -8,7 +8,8 @@ use Rattle.std.proofs.lemmas.List.Folds.{flat_map-map}
 use Rattle.std.proofs.lemmas.Slice.Eq.{bytes_eq-Decides}
 
 -- a test of the one component decides whether the name is that component
-pub single-Decides : {V : Type 0} (f : V → List ℕ) (vs : List V) (d : V) (name : List (List ℕ)) (text : List ℕ) (r : Bool) → map f vs ≡ name → length vs ≡ 1 → r ≡ bytes_eq (f (get_or vs 0 d)) text → Decides r (name ≡ text ∷ [])
+pub single-Decides : {V : Type 0} (f : V → List ℕ) (vs : List V) (d : V) (name : List (List ℕ)) (text : List ℕ) (r : Bool) → map f vs ≡ name → length vs ≡ 1 → r
+    ≡ bytes_eq (f (get_or vs 0 d)) text → Decides r (name ≡ text ∷ [])
 single-Decides f [] d name text r view len is = absurd (omega (arith, len))
 single-Decides f (v ∷ []) d name text r view len is =
     let test = bytes_eq-Decides (f v) text in

@@ -37,7 +37,8 @@ distinct_variables (x ∷ xs) e =
 pub equivalence : IsEquivalence variable_eq
 equivalence = record {
   refl = λ x. (variable_eq-Decides x x).1 refl;
-  symm = λ x y. same_from_decides (variable_eq x y) (variable_eq y x) (variable_eq-Decides x y) (λ h. sym ((variable_eq-Decides y x).0 h), λ h. (variable_eq-Decides y x).1 (sym h));
+  symm = λ x y. same_from_decides (variable_eq x y) (variable_eq y x) (variable_eq-Decides x y)
+      (λ h. sym ((variable_eq-Decides y x).0 h), λ h. (variable_eq-Decides y x).1 (sym h));
   congr = λ x y z e. ap (λ v. variable_eq v z) ((variable_eq-Decides x y).0 e);
 }
 
@@ -70,7 +71,8 @@ module _ (f : Term → Option (Variable × Term)) (p : Variable × Term → Bool
   counted (h ∷ hs) = by_option (f h) refl (counted hs)
     where
       by_test : (e : Variable × Term) → f h ≡ Some e → (b : Bool) → p e ≡ b → Counted hs
-          → (length (cond b (e ∷ kept hs) (kept hs)) ≤ suc (length hs)) × (suc (length hs) ≤ length (cond b (e ∷ kept hs) (kept hs)) → AllByRecursion Passes (h ∷ hs))
+          → (length (cond b (e ∷ kept hs) (kept hs)) ≤ suc (length hs))
+          × (suc (length hs) ≤ length (cond b (e ∷ kept hs) (kept hs)) → AllByRecursion Passes (h ∷ hs))
       by_test e is true q c = (let l = c.at_most in omega (arith, l), λ l. ((e, (is, q)), c.all (omega (arith, l))))
       by_test e is false q c = (let l = c.at_most in omega (arith, l), λ l. absurd (let m = c.at_most in omega (arith, l, m)))
 
@@ -79,7 +81,8 @@ module _ (f : Term → Option (Variable × Term)) (p : Variable × Term → Bool
           let same : kept (h ∷ hs) ≡ kept hs = ap (λ o. filter p (cons_option o (filter_map f hs))) is in
           record {
             at_most = subst (λ (l : TermPairs). length l ≤ suc (length hs)) (sym same) (let l = c.at_most in omega (arith, l));
-            all = λ l. absurd (let m = c.at_most in let n : suc (length hs) ≤ length (kept hs) = subst (λ (l : TermPairs). suc (length hs) ≤ length l) same l in omega (arith, m, n));
+            all = λ l. absurd (let m = c.at_most in let n : suc (length hs) ≤ length (kept hs) =
+                subst (λ (l : TermPairs). suc (length hs) ≤ length l) same l in omega (arith, m, n));
           }
       by_option (Some e) is c =
           let same : kept (h ∷ hs) ≡ cond (p e) (e ∷ kept hs) (kept hs) = ap (λ o. filter p (cons_option o (filter_map f hs))) is in
@@ -91,7 +94,8 @@ module _ (f : Term → Option (Variable × Term)) (p : Variable × Term → Bool
 
 -- an equation v = t, taken apart
 of_side : (l r : Term) (v : Variable) (t : Term) → variable_side l r ≡ Some (v, t) → (l ≡ free v.0 v.1) × (r ≡ t)
-of_side (free n b) r v t e = let p : ((n, b), r) ≡ (v, t) = same_Some _ _ e in (ap (λ (q : Variable × Term). free q.0.0 q.0.1) p, ap (λ (q : Variable × Term). q.1) p)
+of_side (free n b) r v t e = let p : ((n, b), r) ≡ (v, t) =
+    same_Some _ _ e in (ap (λ (q : Variable × Term). free q.0.0 q.0.1) p, ap (λ (q : Variable × Term). q.1) p)
 of_side l r v t e = absurd (cc)
 
 of_parts : (h : Term) (o : Option Equation) → equation_parts h ≡ o → HasType h bool → (v : Variable) (t : Term) → of_equation o ≡ Some (v, t)
@@ -112,7 +116,8 @@ every-hypothesis pairs one is good =
     let vs = variables_of pairs in
     let count = counted variable_equation (λ e. is_in variable_eq e.0 vs) one.hypotheses in
     let enough : length vs ≤ length (defining_equations pairs one.hypotheses)
-    = length-le_from_keys equivalence vs (defining_equations pairs one.hypotheses) (distinct_variables vs parts.variables) (passes (λ v. is_some (definiens pairs one.hypotheses v)) vs parts.defined) in
+    = length-le_from_keys equivalence vs (defining_equations pairs one.hypotheses) (distinct_variables vs parts.variables)
+    (passes (λ v. is_some (definiens pairs one.hypotheses v)) vs parts.defined) in
     let as_many : length one.hypotheses ≡ length pairs = (Decides-eqb (length one.hypotheses) (length pairs)).0 parts.as_many in
     let same : length vs ≡ length pairs = length-map pairs (λ p. p.1) in
     count.all (omega (arith, enough, as_many, same))

@@ -38,7 +38,8 @@ equation-sides a x y t is typed =
 pub type_under-equation : (binders : List HolType) (a : HolType) (x y : Term) → type_under binders x ≡ Some a → type_under binders y ≡ Some a
     → type_under binders (equation a x y) ≡ Some bool
 type_under-equation binders a x y p q =
-    type_under-app binders (app (constant equality_name (equality_type a)) x) y a bool (type_under-app binders (constant equality_name (equality_type a)) x a (function a bool) refl p) q
+    type_under-app binders (app (constant equality_name (equality_type a)) x) y a bool
+    (type_under-app binders (constant equality_name (equality_type a)) x a (function a bool) refl p) q
 
 abbrev tree_of : Equation → Term
 tree_of e = equation e.ty e.left e.right
@@ -49,7 +50,8 @@ equation_at-is : (c : HolType) (parts : Option (HolType × HolType)) (x y : Term
 equation_at-is c None x y e h = absurd (cc)
 equation_at-is c (Some parts) x y e h = go (type_eq c (equality_type parts.0)) (type_eq-Decides c (equality_type parts.0)).0 h
   where
-    go : (b : Bool) → (b ≡ true → c ≡ equality_type parts.0) → cond b (Some (record { ty = parts.0; left = x; right = y })) None ≡ Some e → app (app (constant equality_name c) x) y ≡ tree_of e
+    go : (b : Bool) → (b ≡ true → c ≡ equality_type parts.0) → cond b (Some (record { ty = parts.0; left = x; right = y })) None ≡ Some e
+        → app (app (constant equality_name c) x) y ≡ tree_of e
     go true f h = ap (λ d. app (app (constant equality_name d) x) y) (f refl) ∙ ap tree_of (same_Some _ _ h)
     go false f h = absurd (cc)
 

@@ -18,7 +18,8 @@ use Rattle.hol_spec.specs.declared.Version.TheVariants.{Five, Six}
 use Rattle.hol_spec.specs.declared.StepKind.TheVariants.{Refl, Assume, EqMp, AbsThm, AppThm, DeductAntisym, BetaConv, Sym, Trans, ProveHyp, Subst, Axiom, Restate, DefineConst, DefineConstList, FirstLaw, SecondLaw}
 
 abbrev pub coded_sequent : Coded Sequent
-coded_sequent = code_by (List Term × Term) (coded× (coded_list coded_term) coded_term) (λ s. (s.hypotheses, s.conclusion)) (λ p. record { hypotheses = p.0; conclusion = p.1 }) (λ _. refl)
+coded_sequent = code_by (List Term × Term) (coded× (coded_list coded_term) coded_term) (λ s. (s.hypotheses, s.conclusion))
+    (λ p. record { hypotheses = p.0; conclusion = p.1 }) (λ _. refl)
 
 abbrev kind_number : StepKind → ℕ
 kind_number Refl = 0
@@ -97,7 +98,8 @@ coded_version = code_by ℕ coded_ℕ version_number version_of version_of-numbe
 
 abbrev pub coded_type_names : Coded TypeNames
 coded_type_names = code_by ((Name × Name) × (Name × List Name)) (coded× (coded× coded_name coded_name) (coded× coded_name (coded_list coded_name)))
-    (λ n. ((n.operator, n.abstraction), (n.representation, n.variables))) (λ p. record { operator = p.0.0; abstraction = p.0.1; representation = p.1.0; variables = p.1.1 }) (λ _. refl)
+    (λ n. ((n.operator, n.abstraction), (n.representation, n.variables)))
+    (λ p. record { operator = p.0.0; abstraction = p.0.1; representation = p.1.0; variables = p.1.1 }) (λ _. refl)
 
 abbrev coded_type_pairs : Coded (List (Name × HolType))
 coded_type_pairs = coded_list (coded× coded_name coded_type)
@@ -123,11 +125,13 @@ unfolding parameters_code
 parameters_inj Parameters.nothing Parameters.nothing e = refl
 parameters_inj (Parameters.term t) (Parameters.term u) e = let f : t ≡ u = coded_term.inj t u (cc) in cc
 parameters_inj (Parameters.variable v) (Parameters.variable w) e = let f : v ≡ w = coded_variable.inj v w (cc) in cc
-parameters_inj (Parameters.substitution a x) (Parameters.substitution b y) e = let f : a ≡ b = coded_type_pairs.inj a b (cc) in let g : x ≡ y = coded_term_pairs.inj x y (cc) in cc
+parameters_inj (Parameters.substitution a x) (Parameters.substitution b y) e = let f : a ≡ b = coded_type_pairs.inj a b (cc) in let g : x ≡ y =
+    coded_term_pairs.inj x y (cc) in cc
 parameters_inj (Parameters.sequent s) (Parameters.sequent t) e = let f : s ≡ t = coded_sequent.inj s t (cc) in cc
 parameters_inj (Parameters.constant m t) (Parameters.constant n u) e = let f : m ≡ n = coded_name.inj m n (cc) in let g : t ≡ u = coded_term.inj t u (cc) in cc
 parameters_inj (Parameters.constants a) (Parameters.constants b) e = let f : a ≡ b = coded_constant_pairs.inj a b (cc) in cc
-parameters_inj (Parameters.type_operator a v) (Parameters.type_operator b w) e = let f : a ≡ b = coded_type_names.inj a b (cc) in let g : v ≡ w = coded_version.inj v w (cc) in cc
+parameters_inj (Parameters.type_operator a v) (Parameters.type_operator b w) e = let f : a ≡ b = coded_type_names.inj a b (cc) in let g : v ≡ w =
+    coded_version.inj v w (cc) in cc
 parameters_inj p q e = cc
 
 abbrev pub coded_parameters : Coded Parameters
@@ -163,13 +167,15 @@ abbrev pub coded_symbol : Coded Symbol
 coded_symbol = record { code = symbol_code; inj = symbol_inj }
 
 abbrev pub coded_step : Coded Step
-coded_step = code_by ((StepKind × List ℕ) × (Parameters × Sequent)) (coded× (coded× coded_step_kind (coded_list coded_ℕ)) (coded× coded_parameters coded_sequent))
+coded_step = code_by ((StepKind × List ℕ) × (Parameters × Sequent))
+    (coded× (coded× coded_step_kind (coded_list coded_ℕ)) (coded× coded_parameters coded_sequent))
     (λ s. ((s.kind, s.premises), (s.parameters, s.sequent))) (λ p. record { kind = p.0.0; premises = p.0.1; parameters = p.1.0; sequent = p.1.1 }) (λ _. refl)
 
 pub made_code : Made → Gv
 made_code (Made.symbol x) = gcons (gnum 0) (coded_symbol.code x)
 made_code (Made.step x) = gcons (gnum 1) (coded_step.code x)
-made_code (Made.type_definition names c f i) = gcons (gnum 2) (gcons (coded_type_names.code names) (gcons (coded_type.code c) (gcons (coded_term.code f) (gnum i))))
+made_code (Made.type_definition names c f i) = gcons (gnum 2)
+    (gcons (coded_type_names.code names) (gcons (coded_type.code c) (gcons (coded_term.code f) (gnum i))))
 
 pub made_inj : (m n : Made) → made_code m ≡ made_code n → m ≡ n
 unfolding made_code

@@ -57,15 +57,19 @@ pub proof-sequents : (made : List Made) → IsProof made → AllByRecursion IsSe
 proof-sequents m made.Each.empty = tt
 proof-sequents m (made.Each.more {made = before} (Made.symbol x) p h is) =
     subst (λ (w : List Made). AllByRecursion IsSequent (sequents_of w)) (sym is)
-    (subst (AllByRecursion IsSequent) (sym (sequents_of-append before (Made.symbol x ∷ []))) (All-append IsSequent (sequents_of before) [] (proof-sequents before p) (tt {0})))
+    (subst (AllByRecursion IsSequent) (sym (sequents_of-append before (Made.symbol x ∷ [])))
+    (All-append IsSequent (sequents_of before) [] (proof-sequents before p) (tt {0})))
 proof-sequents m (made.Each.more {made = before} (Made.type_definition names c f i) p h is) =
     subst (λ (w : List Made). AllByRecursion IsSequent (sequents_of w)) (sym is)
-    (subst (AllByRecursion IsSequent) (sym (sequents_of-append before (Made.type_definition names c f i ∷ []))) (All-append IsSequent (sequents_of before) [] (proof-sequents before p) (tt {0})))
+    (subst (AllByRecursion IsSequent) (sym (sequents_of-append before (Made.type_definition names c f i ∷ [])))
+    (All-append IsSequent (sequents_of before) [] (proof-sequents before p) (tt {0})))
 proof-sequents m (made.Each.more {made = before} (Made.step x) p h is) =
     let earlier = proof-sequents before p in
-    let new : IsSequent x.sequent = rule-IsSequent x.kind h.premises x.parameters x.sequent h.follows.rule (premises-All IsSequent (sequents_of before) earlier x.premises h.premises h.earlier) in
+    let new : IsSequent x.sequent = rule-IsSequent x.kind h.premises x.parameters x.sequent h.follows.rule
+    (premises-All IsSequent (sequents_of before) earlier x.premises h.premises h.earlier) in
     subst (λ (w : List Made). AllByRecursion IsSequent (sequents_of w)) (sym is)
-    (subst (AllByRecursion IsSequent) (sym (sequents_of-append before (Made.step x ∷ []))) (All-append IsSequent (sequents_of before) (x.sequent ∷ []) earlier (new, tt {0})))
+    (subst (AllByRecursion IsSequent) (sym (sequents_of-append before (Made.step x ∷ [])))
+    (All-append IsSequent (sequents_of before) (x.sequent ∷ []) earlier (new, tt {0})))
 
 -- Each step of a proof over what is taken says a sequent over what is taken at the end.
 pub over-sequents : (made : List Made) → IsOver made → AllByRecursion (TermsTaken (symbols_of made)) (sequents_of made)
@@ -86,7 +90,8 @@ over-sequents m (made.Each.more {made = before} x p h is) =
 -- What is defined in a proof is taken.
 taken-definition : (symbols : List Symbol) (d : Definition) → Takes symbols (defined d) → DefinitionTaken (symbols ++ defined d ∷ []) d
 taken-definition symbols (Definition.constant n t) (taking.Takes.constant new h) = new-constant-taken symbols n t new
-taken-definition symbols (Definition.type_operator names c f) (taking.Takes.type_operator new typed closed variables) = new-operator-taken symbols names c f new.operator new.abstraction new.representation new.apart
+taken-definition symbols (Definition.type_operator names c f) (taking.Takes.type_operator new typed closed variables) =
+    new-operator-taken symbols names c f new.operator new.abstraction new.representation new.apart
 
 pub proof-definitions : (made : List Made) → IsProof made → AllByRecursion (DefinitionTaken (symbols_of made)) (definitions_of made)
 proof-definitions m made.Each.empty = tt

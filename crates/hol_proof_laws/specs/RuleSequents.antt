@@ -33,7 +33,8 @@ united : (gs hs : List Term) → IsDistinct term_eq gs → IsDistinct term_eq (u
 united gs hs h = union-IsDistinct term_eq term_eq-symmetric hs gs h
 
 -- a sequent of these parts
-made : (hs : List Term) (c : Term) (s : Sequent) → s ≡ record { hypotheses = hs; conclusion = c } → IsDistinct term_eq hs → AllByRecursion (λ h. HasType h bool) hs → HasType c bool → IsSequent s
+made : (hs : List Term) (c : Term) (s : Sequent) → s ≡ record { hypotheses = hs; conclusion = c } → IsDistinct term_eq hs
+    → AllByRecursion (λ h. HasType h bool) hs → HasType c bool → IsSequent s
 made hs c s e d h t = subst IsSequent (sym e) (record { no_repeats = d; hypotheses = h; conclusion = t })
 
 abbrev are_bool : Term → Type 0
@@ -90,7 +91,8 @@ first_law-typed names c =
     let n = new_type names in
     let own = n ∷ [] in
     type_of-equation (function n n) (lam n (abstracted names c (represented names c (bound 0)))) (lam n (bound 0))
-    (type_under-lam [] n (abstracted names c (represented names c (bound 0))) n (abstracted-typed names c (represented names c (bound 0)) own (represented-typed names c (bound 0) own refl)))
+    (type_under-lam [] n (abstracted names c (represented names c (bound 0))) n
+    (abstracted-typed names c (represented names c (bound 0)) own (represented-typed names c (bound 0) own refl)))
     (type_under-lam [] n (bound 0) n refl)
 
 second_law-typed : (names : TypeNames) (c : HolType) (f : Term) → HasType f (function c bool) → HasType (type_definition.second_law names c f).conclusion bool
@@ -98,14 +100,17 @@ second_law-typed names c f h =
     let own = c ∷ [] in
     let back = represented names c (abstracted names c (bound 0)) in
     type_of-equation (function c bool) (lam c (equation c back (bound 0))) (lam c (app f (bound 0)))
-    (type_under-lam [] c (equation c back (bound 0)) bool (type_under-equation own c back (bound 0) (represented-typed names c (abstracted names c (bound 0)) own (abstracted-typed names c (bound 0) own refl)) refl))
+    (type_under-lam [] c (equation c back (bound 0)) bool
+    (type_under-equation own c back (bound 0) (represented-typed names c (abstracted names c (bound 0)) own (abstracted-typed names c (bound 0) own refl))
+    refl))
     (type_under-lam [] c (app f (bound 0)) bool (type_under-app own f (bound 0) c bool (type_under-any own f (function c bool) h) refl))
 
 first_law_free-typed : (names : TypeNames) (c : HolType) → HasType (type_definition.first_law_free names c).conclusion bool
 first_law_free-typed names c =
     let n = new_type names in
     let v = type_definition.new_variable names in
-    type_of-equation n (abstracted names c (represented names c v)) v (abstracted-typed names c (represented names c v) [] (represented-typed names c v [] refl)) refl
+    type_of-equation n (abstracted names c (represented names c v)) v
+    (abstracted-typed names c (represented names c v) [] (represented-typed names c v [] refl)) refl
 
 second_law_free-typed : (names : TypeNames) (c : HolType) (f : Term) → HasType f (function c bool)
     → HasType (type_definition.second_law_free names c f).conclusion bool
@@ -137,10 +142,12 @@ rule-IsSequent kind premises given s (rule.deduct_antisym {one = one} {two = two
     let gs = without term_eq one.hypotheses two.conclusion in
     let hs = without term_eq two.hypotheses one.conclusion in
     made (union term_eq gs hs) (equation bool one.conclusion two.conclusion) s i (united gs hs (left_out one.hypotheses two.conclusion p.0.no_repeats))
-    (union-All are_bool term_eq hs gs (All-filter are_bool (λ y. not (term_eq two.conclusion y)) one.hypotheses p.0.hypotheses) (All-filter are_bool (λ y. not (term_eq one.conclusion y)) two.hypotheses p.1.0.hypotheses))
+    (union-All are_bool term_eq hs gs (All-filter are_bool (λ y. not (term_eq two.conclusion y)) one.hypotheses p.0.hypotheses)
+    (All-filter are_bool (λ y. not (term_eq one.conclusion y)) two.hypotheses p.1.0.hypotheses))
     (type_of-equation bool one.conclusion two.conclusion p.0.conclusion p.1.0.conclusion)
 rule-IsSequent kind premises given s (rule.beta_conv {a = a} {b = b} {t = t} {u = u} h e) p =
-    made [] (equation b (app (lam a t) u) (put u t)) s e IsDistinct-none (tt {0}) (type_of-equation b (app (lam a t) u) (put u t) h (contracted-typed a b t u h))
+    made [] (equation b (app (lam a t) u) (put u t)) s e IsDistinct-none (tt {0})
+    (type_of-equation b (app (lam a t) u) (put u t) h (contracted-typed a b t u h))
 rule-IsSequent kind premises given s (rule.sym {a = a} {x = x} {y = y} {one = one} e i) p =
     let w = equation-sides a x y one.conclusion e p.0.conclusion in
     made one.hypotheses (equation a y x) s i p.0.no_repeats p.0.hypotheses (type_of-equation a y x w.right w.left)
@@ -152,21 +159,29 @@ rule-IsSequent kind premises given s (rule.trans {a = a} {x = x} {y = y} {z = z}
 rule-IsSequent kind premises given s (rule.prove_hyp {one = one} {two = two} i) p =
     let hs = without term_eq two.hypotheses one.conclusion in
     made (union term_eq one.hypotheses hs) two.conclusion s i (united one.hypotheses hs p.0.no_repeats)
-    (union-All are_bool term_eq hs one.hypotheses p.0.hypotheses (All-filter are_bool (λ y. not (term_eq one.conclusion y)) two.hypotheses p.1.0.hypotheses)) p.1.0.conclusion
+    (union-All are_bool term_eq hs one.hypotheses p.0.hypotheses (All-filter are_bool (λ y. not (term_eq one.conclusion y)) two.hypotheses p.1.0.hypotheses))
+    p.1.0.conclusion
 rule-IsSequent kind premises given s (rule.subst {types = pairs} {terms = terms} {one = one} fitting i) p =
     let images = map (sub pairs terms) one.hypotheses in
     made (distinct term_eq images) (sub pairs terms one.conclusion) s i (distinct-IsDistinct term_eq term_eq-symmetric images)
-    (union-All are_bool term_eq images [] (tt {0}) (All-mapped are_bool (sub pairs terms) one.hypotheses (All-weaker are_bool (λ h. are_bool (sub pairs terms h)) (λ h k. type_of-sub pairs terms h bool fitting k) one.hypotheses p.0.hypotheses)))
+    (union-All are_bool term_eq images [] (tt {0})
+    (All-mapped are_bool (sub pairs terms) one.hypotheses
+    (All-weaker are_bool (λ h. are_bool (sub pairs terms h)) (λ h k. type_of-sub pairs terms h bool fitting k) one.hypotheses p.0.hypotheses)))
     (type_of-sub pairs terms one.conclusion bool fitting p.0.conclusion)
 rule-IsSequent kind premises given s (rule.recorded is) p = is
 rule-IsSequent kind premises given s (rule.restate is i) p = is
-rule-IsSequent kind premises given s (rule.define_const {n = n} {t = t} {a = a} h e) p = made [] (equation a (constant n a) t) s e IsDistinct-none (tt {0}) (type_of-equation a (constant n a) t refl h.typed)
+rule-IsSequent kind premises given s (rule.define_const {n = n} {t = t} {a = a} h e) p =
+    made [] (equation a (constant n a) t) s e IsDistinct-none (tt {0}) (type_of-equation a (constant n a) t refl h.typed)
 rule-IsSequent kind premises given s (rule.define_const_list {pairs = pairs} {one = one} defining list e) p =
-    made [] (sub [] (constants_put pairs) one.conclusion) s e IsDistinct-none (tt {0}) (type_of-sub [] (constants_put pairs) one.conclusion bool (constants-fit pairs) p.0.conclusion)
-rule-IsSequent kind premises given s (rule.first_law {names = names} {c = c} {f = f} {one = one} d e) p = made [] (type_definition.first_law names c).conclusion s e IsDistinct-none (tt {0}) (first_law-typed names c)
+    made [] (sub [] (constants_put pairs) one.conclusion) s e IsDistinct-none (tt {0})
+    (type_of-sub [] (constants_put pairs) one.conclusion bool (constants-fit pairs) p.0.conclusion)
+rule-IsSequent kind premises given s (rule.first_law {names = names} {c = c} {f = f} {one = one} d e) p =
+    made [] (type_definition.first_law names c).conclusion s e IsDistinct-none (tt {0}) (first_law-typed names c)
 rule-IsSequent kind premises given s (rule.second_law {names = names} {c = c} {f = f} {one = one} d e) p =
-    made [] (type_definition.second_law names c f).conclusion s e IsDistinct-none (tt {0}) (second_law-typed names c f (predicate-typed names c f one d p.0.conclusion))
+    made [] (type_definition.second_law names c f).conclusion s e IsDistinct-none (tt {0})
+    (second_law-typed names c f (predicate-typed names c f one d p.0.conclusion))
 rule-IsSequent kind premises given s (rule.first_law_free {names = names} {c = c} {f = f} {one = one} d e) p =
     made [] (type_definition.first_law_free names c).conclusion s e IsDistinct-none (tt {0}) (first_law_free-typed names c)
 rule-IsSequent kind premises given s (rule.second_law_free {names = names} {c = c} {f = f} {one = one} d e) p =
-    made [] (type_definition.second_law_free names c f).conclusion s e IsDistinct-none (tt {0}) (second_law_free-typed names c f (predicate-typed names c f one d p.0.conclusion))
+    made [] (type_definition.second_law_free names c f).conclusion s e IsDistinct-none (tt {0})
+    (second_law_free-typed names c f (predicate-typed names c f one d p.0.conclusion))

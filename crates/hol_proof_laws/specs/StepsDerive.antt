@@ -14,10 +14,20 @@ use Rattle.hol_laws.specs.Members.{All-append, All-weaker}
 use Rattle.hol_proof_laws.specs.ProofGrowth.{steps_of-append, sequents_of-append, definitions_of-append, premises-All}
 
 pub among-front : {A : Type 0} (xs ys : List A) (x : A) → IsAmong xs x → IsAmong (xs ++ ys) x
-among-front xs ys x h = (h.0, ((let long : length (xs ++ ys) ≡ length xs + length ys = length-append xs ys in omega (arith, long, h.1.0)), h.1.1 ∙ sym (get_or_append_left xs ys x h.0 h.1.0)))
+among-front xs ys x h = (
+  h.0,
+  (
+    (let long : length (xs ++ ys) ≡ length xs + length ys = length-append xs ys in omega (arith, long, h.1.0)),
+    h.1.1
+        ∙ sym (get_or_append_left xs ys x h.0 h.1.0),
+  ),
+)
 
 pub among-last : {A : Type 0} (xs : List A) (x : A) → IsAmong (xs ++ x ∷ []) x
-among-last xs x = (length xs, ((let long : length (xs ++ x ∷ []) ≡ length xs + 1 = length-append xs (x ∷ []) in omega (arith, long)), sym (get_or-append_seam xs x [] x)))
+among-last xs x = (
+  length xs,
+  ((let long : length (xs ++ x ∷ []) ≡ length xs + 1 = length-append xs (x ∷ []) in omega (arith, long)), sym (get_or-append_seam xs x [] x)),
+)
 
 pub all-front : {A : Type 0} (xs ys zs : List A) → AllByRecursion (IsAmong xs) zs → AllByRecursion (IsAmong (xs ++ ys)) zs
 all-front xs ys zs h = All-weaker (IsAmong xs) (IsAmong (xs ++ ys)) (among-front xs ys) zs h
@@ -52,7 +62,10 @@ grown before x s h =
 
 new : (before : List Made) (x : Step) → AllByRecursion (DerivesBy before) (sequents_of before) → IsStep before x → (b : Bool) → infers x.kind ≡ b
     → DerivesBy (before ++ Made.step x ∷ []) x.sequent
-new before x all h true e = grown before (Made.step x) x.sequent (derive.Derives.inferred e h.follows (derives-all (definitions_of before) (assumptions_of before) h.premises (premises-All (DerivesBy before) (sequents_of before) all x.premises h.premises h.earlier)))
+new before x all h true e = grown before (Made.step x) x.sequent
+    (derive.Derives.inferred e h.follows
+    (derives-all (definitions_of before) (assumptions_of before) h.premises
+    (premises-All (DerivesBy before) (sequents_of before) all x.premises h.premises h.earlier)))
 new before x all h false e =
     subst (λ bs. Derives (definitions_of (before ++ Made.step x ∷ [])) bs x.sequent)
     (sym (assumptions_of-append before (Made.step x ∷ []) ∙ ap (λ o. assumptions_of before ++ o) last))
@@ -65,9 +78,11 @@ new before x all h false e =
 pub proof-derives : (made : List Made) → IsProof made → AllByRecursion (Derives (definitions_of made) (assumptions_of made)) (sequents_of made)
 proof-derives m made.Each.empty = tt
 proof-derives m (made.Each.more {made = before} x p h is) =
-    let earlier : AllByRecursion (DerivesBy (before ++ x ∷ [])) (sequents_of before) = All-weaker (DerivesBy before) (DerivesBy (before ++ x ∷ [])) (grown before x) (sequents_of before) (proof-derives before p) in
+    let earlier : AllByRecursion (DerivesBy (before ++ x ∷ [])) (sequents_of before) =
+    All-weaker (DerivesBy before) (DerivesBy (before ++ x ∷ [])) (grown before x) (sequents_of before) (proof-derives before p) in
     subst (λ (w : List Made). AllByRecursion (DerivesBy w) (sequents_of w)) (sym is)
-    (subst (AllByRecursion (DerivesBy (before ++ x ∷ []))) (sym (sequents_of-append before (x ∷ []))) (All-append (DerivesBy (before ++ x ∷ [])) (sequents_of before) (sequents_of (x ∷ [])) earlier (last x h (proof-derives before p))))
+    (subst (AllByRecursion (DerivesBy (before ++ x ∷ []))) (sym (sequents_of-append before (x ∷ [])))
+    (All-append (DerivesBy (before ++ x ∷ [])) (sequents_of before) (sequents_of (x ∷ [])) earlier (last x h (proof-derives before p))))
   where
     last : (x : Made) → IsMade before x → AllByRecursion (DerivesBy before) (sequents_of before)
         → AllByRecursion (DerivesBy (before ++ x ∷ [])) (sequents_of (x ∷ []))

@@ -45,24 +45,30 @@ or-new (Some x) p q e = absurd (cc)
 
 first_defined_type-append : (n : Name) (xs ys : List Symbol) → first_defined_type n (xs ++ ys) ≡ option_or (first_defined_type n xs) (first_defined_type n ys)
 first_defined_type-append n [] ys = refl
-first_defined_type-append n (x ∷ xs) ys = ap (option_or (defined_type n x)) (first_defined_type-append n xs ys) ∙ or-assoc (defined_type n x) (first_defined_type n xs) (first_defined_type n ys)
+first_defined_type-append n (x ∷ xs) ys = ap (option_or (defined_type n x)) (first_defined_type-append n xs ys) ∙ or-assoc (defined_type n x)
+    (first_defined_type n xs) (first_defined_type n ys)
 
 first_defined_arity-append : (n : Name) (xs ys : List Symbol)
     → first_defined_arity n (xs ++ ys) ≡ option_or (first_defined_arity n xs) (first_defined_arity n ys)
 first_defined_arity-append n [] ys = refl
-first_defined_arity-append n (x ∷ xs) ys = ap (option_or (defined_arity n x)) (first_defined_arity-append n xs ys) ∙ or-assoc (defined_arity n x) (first_defined_arity n xs) (first_defined_arity n ys)
+first_defined_arity-append n (x ∷ xs) ys = ap (option_or (defined_arity n x)) (first_defined_arity-append n xs ys) ∙ or-assoc (defined_arity n x)
+    (first_defined_arity n xs) (first_defined_arity n ys)
 
 generic_type-more : (xs ys : List Symbol) (n : Name) (g : HolType) → generic_type xs n ≡ Some g → generic_type (xs ++ ys) n ≡ Some g
-generic_type-more xs ys n g e = ap (option_or (primitive_type n)) (first_defined_type-append n xs ys) ∙ or-more (primitive_type n) (first_defined_type n xs) (first_defined_type n ys) g e
+generic_type-more xs ys n g e = ap (option_or (primitive_type n)) (first_defined_type-append n xs ys) ∙ or-more (primitive_type n) (first_defined_type n xs)
+    (first_defined_type n ys) g e
 
 operator_arity-more : (xs ys : List Symbol) (n : Name) (k : ℕ) → operator_arity xs n ≡ Some k → operator_arity (xs ++ ys) n ≡ Some k
-operator_arity-more xs ys n k e = ap (option_or (primitive_arity n)) (first_defined_arity-append n xs ys) ∙ or-more (primitive_arity n) (first_defined_arity n xs) (first_defined_arity n ys) k e
+operator_arity-more xs ys n k e = ap (option_or (primitive_arity n)) (first_defined_arity-append n xs ys) ∙ or-more (primitive_arity n)
+    (first_defined_arity n xs) (first_defined_arity n ys) k e
 
 pub generic_type-new : (xs ys : List Symbol) (n : Name) → is_some (generic_type xs n) ≡ false → generic_type (xs ++ ys) n ≡ first_defined_type n ys
-generic_type-new xs ys n e = ap (option_or (primitive_type n)) (first_defined_type-append n xs ys) ∙ or-new (primitive_type n) (first_defined_type n xs) (first_defined_type n ys) e
+generic_type-new xs ys n e = ap (option_or (primitive_type n)) (first_defined_type-append n xs ys) ∙ or-new (primitive_type n) (first_defined_type n xs)
+    (first_defined_type n ys) e
 
 pub operator_arity-new : (xs ys : List Symbol) (n : Name) → is_some (operator_arity xs n) ≡ false → operator_arity (xs ++ ys) n ≡ first_defined_arity n ys
-operator_arity-new xs ys n e = ap (option_or (primitive_arity n)) (first_defined_arity-append n xs ys) ∙ or-new (primitive_arity n) (first_defined_arity n xs) (first_defined_arity n ys) e
+operator_arity-new xs ys n e = ap (option_or (primitive_arity n)) (first_defined_arity-append n xs ys) ∙ or-new (primitive_arity n) (first_defined_arity n xs)
+    (first_defined_arity n ys) e
 
 pub any-left : {A : Type 0} (p : A → Bool) (xs ys : List A) → list_any p xs ≡ true → list_any p (xs ++ ys) ≡ true
 any-left p xs ys e = list_any-append p xs ys ∙ or_left (list_any p xs) (list_any p ys) e
@@ -96,12 +102,19 @@ module _ (xs ys : List Symbol) where
   term-more (lam t b) h = (type-more t h.0, term-more b h.1)
 
   pub terms-more : (s : Sequent) → TermsTaken xs s → TermsTaken (xs ++ ys) s
-  terms-more s h = record { hypotheses = All-weaker (TermTaken xs) (TermTaken (xs ++ ys)) term-more s.hypotheses h.hypotheses; conclusion = term-more s.conclusion h.conclusion }
+  terms-more s h = record {
+    hypotheses = All-weaker (TermTaken xs) (TermTaken (xs ++ ys)) term-more s.hypotheses h.hypotheses;
+    conclusion =
+        term-more s.conclusion h.conclusion;
+  }
 
   pub definition-more : (d : Definition) → DefinitionTaken xs d → DefinitionTaken (xs ++ ys) d
   definition-more (Definition.constant n t) h = λ a e. constant-more n a (h a e)
-  definition-more (Definition.type_operator names c f) h =
-      (operator-more names.operator (length names.variables) h.0, constant-more names.abstraction (abstraction_type names c) h.1, constant-more names.representation (representation_type names c) h.2)
+  definition-more (Definition.type_operator names c f) h = (
+    operator-more names.operator (length names.variables) h.0,
+    constant-more names.abstraction (abstraction_type names c) h.1,
+    constant-more names.representation (representation_type names c) h.2,
+  )
 
 -- a type is an instance of itself
 pub Instance-own : (t : HolType) → Instance t t
@@ -122,14 +135,21 @@ new-constant-taken xs n t new a h =
 
 pub new-operator-taken : (xs : List Symbol) (names : TypeNames) (c : HolType) (f : Term) → is_taken_operator xs names.operator ≡ false
     → is_taken_constant xs names.abstraction ≡ false → is_taken_constant xs names.representation ≡ false
-    → name_eq names.abstraction names.representation ≡ false → DefinitionTaken (xs ++ defined (Definition.type_operator names c f) ∷ []) (Definition.type_operator names c f)
+    → name_eq names.abstraction names.representation ≡ false
+    → DefinitionTaken (xs ++ defined (Definition.type_operator names c f) ∷ []) (Definition.type_operator names c f)
 new-operator-taken xs names c f new_operator new_abstraction new_representation apart =
     let d = defined (Definition.type_operator names c f) in
     let operator = (or_parts (is_some (operator_arity xs names.operator)) (list_any (is_input_operator_named names.operator) xs) new_operator).0 in
     let abstraction = (or_parts (is_some (generic_type xs names.abstraction)) (list_any (is_input_constant names.abstraction) xs) new_abstraction).0 in
-    let representation = (or_parts (is_some (generic_type xs names.representation)) (list_any (is_input_constant names.representation) xs) new_representation).0 in
+    let representation = (or_parts (is_some (generic_type xs names.representation)) (list_any (is_input_constant names.representation) xs) new_representation).0
+    in
     let others : name_eq names.representation names.abstraction ≡ false = symmetric name_eq name_eq-Decides names.abstraction names.representation apart in (
-      taken.OperatorTaken.of_arity (operator_arity-new xs (d ∷ []) names.operator operator ∙ or-nothing (defined_arity names.operator d) ∙ (rw (name_eq-refl names.operator) refl)),
-      taken.ConstantTaken.instance (abstraction_type names c) (generic_type-new xs (d ∷ []) names.abstraction abstraction ∙ or-nothing (defined_type names.abstraction d) ∙ (rw (name_eq-refl names.abstraction) refl)) (Instance-own (abstraction_type names c)),
-      taken.ConstantTaken.instance (representation_type names c) (generic_type-new xs (d ∷ []) names.representation representation ∙ or-nothing (defined_type names.representation d) ∙ (rw (others, name_eq-refl names.representation) refl)) (Instance-own (representation_type names c)),
+      taken.OperatorTaken.of_arity (operator_arity-new xs (d ∷ []) names.operator operator ∙ or-nothing (defined_arity names.operator d)
+          ∙ (rw (name_eq-refl names.operator) refl)),
+      taken.ConstantTaken.instance (abstraction_type names c)
+          (generic_type-new xs (d ∷ []) names.abstraction abstraction ∙ or-nothing (defined_type names.abstraction d)
+          ∙ (rw (name_eq-refl names.abstraction) refl)) (Instance-own (abstraction_type names c)),
+      taken.ConstantTaken.instance (representation_type names c)
+          (generic_type-new xs (d ∷ []) names.representation representation ∙ or-nothing (defined_type names.representation d)
+          ∙ (rw (others, name_eq-refl names.representation) refl)) (Instance-own (representation_type names c)),
     )

@@ -52,8 +52,16 @@ module _ (ps : List Symbol) where
   type_of-taken t a h e = type-taken [] (λ k b e. absurd (cc)) t a h e
 
   pub equation-taken : (a : HolType) (x y : Term) → TypeTaken ps a → TermTaken ps x → TermTaken ps y → TermTaken ps (equation a x y)
-  equation-taken a x y ha hx hy =
-      (((items.ConstantTaken.instance (equality_type generic) refl ((generic_variable, a) ∷ [], refl), function-taken a (function a bool) ha (function-taken a bool ha bool-taken)), hx), hy)
+  equation-taken a x y ha hx hy = (
+    (
+      (
+        items.ConstantTaken.instance (equality_type generic) refl ((generic_variable, a) ∷ [], refl),
+        function-taken a (function a bool) ha (function-taken a bool ha bool-taken),
+      ),
+      hx,
+    ),
+    hy,
+  )
 
   pub record Sides (a : HolType) (x y : Term) : Type 0 where
     pub ty : TypeTaken ps a
@@ -92,22 +100,27 @@ module _ (ps : List Symbol) where
 
 -- an instance by a function is one by pairs
 mutual
-  pairs-filled_in : (f : Name → HolType) (ns : List Name) (t : HolType) → AllByRecursion (IsIn ns) (variable_places t) → substitute (map (λ n. (n, f n)) ns) t ≡ filled_in f t
+  pairs-filled_in : (f : Name → HolType) (ns : List Name) (t : HolType) → AllByRecursion (IsIn ns) (variable_places t) → substitute (map (λ n. (n, f n)) ns) t
+      ≡ filled_in f t
   pairs-filled_in f ns (type.HolType.variable n) h = ap (λ o. unwrap_or o (type.HolType.variable n)) (lookup-told f ns n h.0)
   pairs-filled_in f ns (type.HolType.operator n ts) h = ap (type.HolType.operator n) (all_pairs-filled_in f ns ts h)
 
-  all_pairs-filled_in : (f : Name → HolType) (ns : List Name) (ts : HolTypes) → AllByRecursion (IsIn ns) (variable_places_of_all ts) → substitute_all (map (λ n. (n, f n)) ns) ts ≡ filled_in_all f ts
+  all_pairs-filled_in : (f : Name → HolType) (ns : List Name) (ts : HolTypes) → AllByRecursion (IsIn ns) (variable_places_of_all ts)
+      → substitute_all (map (λ n. (n, f n)) ns) ts ≡ filled_in_all f ts
   all_pairs-filled_in f ns type.HolTypes.none h = refl
   all_pairs-filled_in f ns (type.HolTypes.more t ts) h =
-      λ i. type.HolTypes.more (pairs-filled_in f ns t (All-left (IsIn ns) (variable_places t) (variable_places_of_all ts) h) i) (all_pairs-filled_in f ns ts (All-right (IsIn ns) (variable_places t) (variable_places_of_all ts) h) i)
+      λ i. type.HolTypes.more (pairs-filled_in f ns t (All-left (IsIn ns) (variable_places t) (variable_places_of_all ts) h) i)
+      (all_pairs-filled_in f ns ts (All-right (IsIn ns) (variable_places t) (variable_places_of_all ts) h) i)
 
 instance-substituted : (pairs : TypePairs) (g t : HolType) → Instance g t → Instance g (substitute pairs t)
 instance-substituted pairs g t h =
     let w = Instance-substitute pairs g t h in
     (map (λ n. (n, w.0 n)) (variable_places g), pairs-filled_in w.0 (variable_places g) g (All-each _ (variable_places g) (λ n k. k)) ∙ sym w.1)
 
-module _ (ps : List Symbol) (pairs : TypePairs) (terms : TermPairs) (types_taken : AllByRecursion (λ (p : Name × HolType). TypeTaken ps p.1) pairs) (terms_taken : AllByRecursion (λ (p : Variable × Term). TermTaken ps p.1) terms) where
-  image-taken : (qs : TypePairs) (n : Name) → AllByRecursion (λ (p : Name × HolType). TypeTaken ps p.1) qs → TypeTaken ps (unwrap_or (lookup (name_eq n) qs) (type.HolType.variable n))
+module _ (ps : List Symbol) (pairs : TypePairs) (terms : TermPairs) (types_taken : AllByRecursion (λ (p : Name × HolType). TypeTaken ps p.1) pairs)
+    (terms_taken : AllByRecursion (λ (p : Variable × Term). TermTaken ps p.1) terms) where
+  image-taken : (qs : TypePairs) (n : Name) → AllByRecursion (λ (p : Name × HolType). TypeTaken ps p.1) qs
+      → TypeTaken ps (unwrap_or (lookup (name_eq n) qs) (type.HolType.variable n))
   image-taken [] n h = tt
   image-taken (q ∷ qs) n h = go (name_eq n q.0) (image-taken qs n h.1)
     where
@@ -129,7 +142,8 @@ module _ (ps : List Symbol) (pairs : TypePairs) (terms : TermPairs) (types_taken
   constant-substituted n t (items.ConstantTaken.instance g e i) = items.ConstantTaken.instance g e (instance-substituted pairs g t i)
   constant-substituted n t (items.ConstantTaken.input h) = items.ConstantTaken.input h
 
-  term_image-taken : (qs : TermPairs) (v : Variable) → TypeTaken ps v.1 → AllByRecursion (λ (p : Variable × Term). TermTaken ps p.1) qs → TermTaken ps (term_image qs v)
+  term_image-taken : (qs : TermPairs) (v : Variable) → TypeTaken ps v.1 → AllByRecursion (λ (p : Variable × Term). TermTaken ps p.1) qs
+      → TermTaken ps (term_image qs v)
   term_image-taken [] v o h = o
   term_image-taken (q ∷ qs) v o h = go (variable_eq v q.0) (term_image-taken qs v o h.1)
     where

@@ -40,9 +40,13 @@ module _ (k : Kept) (t : TermId) (h : IsTermAt k.trees t.0) where
     pub beta_conv-typed : (ty : HolType) × HasType (term_at a.trees t.0) ty
     beta_conv-typed = some_of (type_of (term_at a.trees t.0)) own_term
 
-    module _ (redex : Redex) (parts : AreRedexParts k.trees t redex) (reduced : TermId) (n : IsNumberOf a.trees reduced (put (term_at k.trees redex.arg.0) (term_at k.trees redex.body.0))) where
-      pub beta_conv-ends : (mid : Kept) → Grows a mid → (concl : TermId) → ((ty : HolType) → HasType (term_at a.trees t.0) ty → IsNumberOf mid.trees concl (equation ty (term_at a.trees t.0) (term_at a.trees reduced.0)))
-          → (hyps : List TermId) → AreNumbersOf mid.trees hyps [] → Ends k (beta_conv_step (term_at k.trees t.0)) mid (new_step mid.trees by_rule.BetaConv [] (parameters.Term t) (record { hyps = hyps; concl = concl }))
+    module _ (redex : Redex) (parts : AreRedexParts k.trees t redex) (reduced : TermId)
+        (n : IsNumberOf a.trees reduced (put (term_at k.trees redex.arg.0) (term_at k.trees redex.body.0))) where
+      pub beta_conv-ends : (mid : Kept) → Grows a mid → (concl : TermId)
+          → ((ty : HolType) → HasType (term_at a.trees t.0) ty → IsNumberOf mid.trees concl (equation ty (term_at a.trees t.0) (term_at a.trees reduced.0)))
+          → (hyps : List TermId) → AreNumbersOf mid.trees hyps []
+          → Ends k (beta_conv_step (term_at k.trees t.0)) mid
+          (new_step mid.trees by_rule.BetaConv [] (parameters.Term t) (record { hyps = hyps; concl = concl }))
       beta_conv-ends mid o concl c hyps hs =
           let tree = term_at k.trees t.0 in
           let body = term_at k.trees redex.body.0 in
@@ -50,7 +54,10 @@ module _ (k : Kept) (t : TermId) (h : IsTermAt k.trees t.0) where
           let all = Grows-trans g o in
           let b = some_of (type_of tree) h in
           let typed : HasType (term_at a.trees t.0) b.0 = ap type_of own.is ∙ b.1 in
-          let made : IsNumberOf mid.trees concl (equation b.0 tree (put arg body)) = subst (IsNumberOf mid.trees concl) (ap₂ (equation b.0) own.is n.is) (c b.0 typed) in
+          let made : IsNumberOf mid.trees concl (equation b.0 tree (put arg body)) =
+          subst (IsNumberOf mid.trees concl) (ap₂ (equation b.0) own.is n.is) (c b.0 typed) in
           let stays : term_at mid.trees t.0 ≡ tree = (number-grown o own).is in
-          let makes = subst (λ w. Makes k.made (beta_conv_step w) (step_by by_rule.BetaConv [] (rule.Parameters.term w) (derived [] (equation b.0 w (put arg body))))) (sym parts.is) (beta_conv-makes k.made parts.ty b.0 body arg (ap type_of (sym parts.is) ∙ b.1)) in
+          let makes = subst
+          (λ w. Makes k.made (beta_conv_step w) (step_by by_rule.BetaConv [] (rule.Parameters.term w) (derived [] (equation b.0 w (put arg body)))))
+          (sym parts.is) (beta_conv-makes k.made parts.ty b.0 body arg (ap type_of (sym parts.is) ∙ b.1)) in
           ends_by all makes _ (stepped mid.trees by_rule.BetaConv [] (parameters.Term t) _ (ap rule.Parameters.term stays) hyps [] hs concl _ made)

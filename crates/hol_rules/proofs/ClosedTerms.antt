@@ -18,7 +18,8 @@ pub close_at-closed : (d : ℕ) (v : Variable) (t : Term) → free_places t ≡ 
 close_at-closed d v (free n c) e l = absurd (cc)
 close_at-closed d v (bound n) e l = grind arith
 close_at-closed d v (constant n c) e l = refl
-close_at-closed d v (app f x) e l = let p = both-empty (free_places f) (free_places x) e in ap₂ app (close_at-closed d v f p.0 (omega (arith, l))) (close_at-closed d v x p.1 (omega (arith, l)))
+close_at-closed d v (app f x) e l = let p = both-empty (free_places f) (free_places x) e in ap₂ app (close_at-closed d v f p.0 (omega (arith, l)))
+    (close_at-closed d v x p.1 (omega (arith, l)))
 close_at-closed d v (lam c b) e l = ap (lam c) (close_at-closed (suc d) v b e (omega (arith, l)))
 
 pub none-of : {A : Type 0} (xs : List A) → nat_eq (length xs) 0 ≡ true → xs ≡ []

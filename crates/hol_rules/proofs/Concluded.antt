@@ -48,25 +48,30 @@ pub refuses : {old mid : Kept} → Grows old mid → (rule : Result Step Kind) (
 refuses g rule fault h = record { concluded = tt; refused = fails-limited rule fault h; unchanged = g.made; keeps = g.trees }
 
 -- the same of an answer that hands on a fault
-pub refused : {old mid : Kept} → Grows old mid → (rule : Result Step Kind) (r : Result ℕ Fault) (fault : Fault) → IsErrAnd r (λ e. e ≡ fault) → Fails fault rule → Concludes old rule mid r
+pub refused : {old mid : Kept} → Grows old mid → (rule : Result Step Kind) (r : Result ℕ Fault) (fault : Fault) → IsErrAnd r (λ e. e ≡ fault) → Fails fault rule
+    → Concludes old rule mid r
 refused g rule (Ok v) fault h f = absurd h
 refused g rule (Err e) fault h f = refuses g rule e (subst (λ w. Fails w rule) (sym h) f)
 
 -- memory runs out, where at most types and terms came
-pub stopped : {old mid : Kept} → Grows old mid → (rule : Result Step Kind) (r : Result ℕ Fault) → IsErrAnd r (λ fault. fault ≡ Memory) → Concludes old rule mid r
+pub stopped : {old mid : Kept} → Grows old mid → (rule : Result Step Kind) (r : Result ℕ Fault) → IsErrAnd r (λ fault. fault ≡ Memory)
+    → Concludes old rule mid r
 stopped g rule r h = refused g rule r Memory h tt
 
 -- the conditions hold, and the step is concluded after types and terms came
-pub concludes : {old mid : Kept} → Grows old mid → (rule : Result Step Kind) (x : Step) → rule ≡ Ok x → (new : Kept) (result : Result ℕ Fault) → Concludes mid (Ok x) new result → Concludes old rule new result
+pub concludes : {old mid : Kept} → Grows old mid → (rule : Result Step Kind) (x : Step) → rule ≡ Ok x → (new : Kept) (result : Result ℕ Fault)
+    → Concludes mid (Ok x) new result → Concludes old rule new result
 concludes {old = old} {mid = mid} g rule x is new result h = subst (λ r. Concludes old r new result) (sym is) (record {
-  concluded = subst (λ made. IfOk result (λ id. (id ≡ length (steps_of made)) × ((y : Step) × (limited (Ok x) ≡ Ok y) × (new.made ≡ made ++ Made.step y ∷ [])))) g.made h.concluded;
+  concluded = subst (λ made. IfOk result (λ id. (id ≡ length (steps_of made)) × ((y : Step) × (limited (Ok x) ≡ Ok y) × (new.made ≡ made ++ Made.step y ∷ []))))
+      g.made h.concluded;
   refused = h.refused;
   unchanged = subst (λ made. OnErr result (new.made ≡ made)) g.made h.unchanged;
   keeps = Keeps-trans g.trees h.keeps;
 })
 
 -- a step whose sequent passes a limit
-pub refuses-step : {old mid : Kept} → Grows old mid → (x : Step) (fault : Fault) → Fails fault (sequent_in_limits x.sequent) → Concludes old (Ok x) mid (Err fault)
+pub refuses-step : {old mid : Kept} → Grows old mid → (x : Step) (fault : Fault) → Fails fault (sequent_in_limits x.sequent)
+    → Concludes old (Ok x) mid (Err fault)
 refuses-step g x fault h = record { concluded = tt; refused = go fault h; unchanged = g.made; keeps = g.trees }
   where
     go : (f : Fault) → Fails f (sequent_in_limits x.sequent) → Fails f (limited (Ok x))
@@ -74,7 +79,8 @@ refuses-step g x fault h = record { concluded = tt; refused = go fault h; unchan
     go (Refused kind) e = ap (λ r. r >> Ok x) e
 
 -- a step within the limits that is kept
-pub concludes-step : (old new : Kept) (x : Step) (id : ℕ) → sequent_in_limits x.sequent ≡ Ok tt → id ≡ step_count old → new ≡ record old { made = old.made ++ Made.step x ∷ [] } → Concludes old (Ok x) new (Ok id)
+pub concludes-step : (old new : Kept) (x : Step) (id : ℕ) → sequent_in_limits x.sequent ≡ Ok tt → id ≡ step_count old → new
+    ≡ record old { made = old.made ++ Made.step x ∷ [] } → Concludes old (Ok x) new (Ok id)
 concludes-step old new x id e n is = record {
   concluded = (n, (x, ap (λ r. r >> Ok x) e, ap (λ (k : Kept). k.made) is));
   refused = tt;
@@ -83,47 +89,60 @@ concludes-step old new x id e n is = record {
 }
 
 -- the same of an answer that hands on a fault
-pub refused-step : {old mid : Kept} → Grows old mid → (x : Step) (r : Result ℕ Fault) (fault : Fault) → IsErrAnd r (λ e. e ≡ fault) → Fails fault (sequent_in_limits x.sequent) → Concludes old (Ok x) mid r
+pub refused-step : {old mid : Kept} → Grows old mid → (x : Step) (r : Result ℕ Fault) (fault : Fault) → IsErrAnd r (λ e. e ≡ fault)
+    → Fails fault (sequent_in_limits x.sequent) → Concludes old (Ok x) mid r
 refused-step g x (Ok v) fault h f = absurd h
 refused-step g x (Err e) fault h f = refuses-step g x e (subst (λ w. Fails w (sequent_in_limits x.sequent)) (sym h) f)
 
 -- a step of numbers whose premises are copied, after what changed nothing
-pub copied-known : (old mid : Kept) → mid ≡ old → (x : OneStep) → AreParametersKnown old.trees x.parameters → IsKnown old.trees x.sequent → IsStepKnown mid.trees x
+pub copied-known : (old mid : Kept) → mid ≡ old → (x : OneStep) → AreParametersKnown old.trees x.parameters → IsKnown old.trees x.sequent
+    → IsStepKnown mid.trees x
 copied-known old mid same x p s = subst (λ (k : Kept). IsStepKnown k.trees x) (sym same) (record { parameters = p; sequent = s })
 
 module _ (old mid : Kept) (same : mid ≡ old) (kind : StepKind) (copy premises : List ℕ) (copied : copy ≡ premises) (p : Parameters) (s : Sequent) where
   pub copied-follows : IsStep old.made (new_step old.trees kind premises p s) → IsStep mid.made (new_step mid.trees kind copy p s)
-  copied-follows f = subst (λ (k : Kept). IsStep k.made (new_step k.trees kind copy p s)) (sym same) (subst (λ ns. IsStep old.made (new_step old.trees kind ns p s)) (sym copied) f)
+  copied-follows f = subst (λ (k : Kept). IsStep k.made (new_step k.trees kind copy p s)) (sym same)
+      (subst (λ ns. IsStep old.made (new_step old.trees kind ns p s)) (sym copied) f)
 
-  pub copied-concludes : (new : Kept) (id : ℕ) → sequent_in_limits (sequent_at old.trees s) ≡ Ok tt → id ≡ step_count mid → new ≡ record mid { made = mid.made ++ Made.step (new_step mid.trees kind copy p s) ∷ [] } → Concludes old (Ok (new_step old.trees kind premises p s)) new (Ok id)
+  pub copied-concludes : (new : Kept) (id : ℕ) → sequent_in_limits (sequent_at old.trees s) ≡ Ok tt → id ≡ step_count mid → new
+      ≡ record mid { made = mid.made ++ Made.step (new_step mid.trees kind copy p s) ∷ [] }
+      → Concludes old (Ok (new_step old.trees kind premises p s)) new (Ok id)
   copied-concludes new id e n is =
       concludes-step old new (new_step old.trees kind premises p s) id e (n ∙ ap step_count same)
       (is ∙ ap₂ (λ (k : Kept) ns. record k { made = k.made ++ Made.step (new_step k.trees kind ns p s) ∷ [] }) same copied)
 
 -- the same of a definition
 module _ (symbols : List Symbol) where
-  pub refuses-definition : {old mid : Kept} → Grows old mid → (rule : Result Step Kind) (fault : Fault) → Fails fault rule → Defines old symbols rule mid (Err fault)
+  pub refuses-definition : {old mid : Kept} → Grows old mid → (rule : Result Step Kind) (fault : Fault) → Fails fault rule
+      → Defines old symbols rule mid (Err fault)
   refuses-definition g rule fault h = record { concluded = tt; refused = fails-limited rule fault h; unchanged = g.made; keeps = g.trees }
 
-  pub refused-definition : {old mid : Kept} → Grows old mid → (rule : Result Step Kind) (r : Result ℕ Fault) (fault : Fault) → IsErrAnd r (λ e. e ≡ fault) → Fails fault rule → Defines old symbols rule mid r
+  pub refused-definition : {old mid : Kept} → Grows old mid → (rule : Result Step Kind) (r : Result ℕ Fault) (fault : Fault) → IsErrAnd r (λ e. e ≡ fault)
+      → Fails fault rule → Defines old symbols rule mid r
   refused-definition g rule (Ok v) fault h f = absurd h
   refused-definition g rule (Err e) fault h f = refuses-definition g rule e (subst (λ w. Fails w rule) (sym h) f)
 
-  pub stopped-definition : {old mid : Kept} → Grows old mid → (rule : Result Step Kind) (r : Result ℕ Fault) → IsErrAnd r (λ fault. fault ≡ Memory) → Defines old symbols rule mid r
+  pub stopped-definition : {old mid : Kept} → Grows old mid → (rule : Result Step Kind) (r : Result ℕ Fault) → IsErrAnd r (λ fault. fault ≡ Memory)
+      → Defines old symbols rule mid r
   stopped-definition g rule r h = refused-definition g rule r Memory h tt
 
-  pub concludes-definition : {old mid : Kept} → Grows old mid → (rule : Result Step Kind) (x : Step) → rule ≡ Ok x → (new : Kept) (result : Result ℕ Fault) → Defines mid symbols (Ok x) new result → Defines old symbols rule new result
+  pub concludes-definition : {old mid : Kept} → Grows old mid → (rule : Result Step Kind) (x : Step) → rule ≡ Ok x → (new : Kept) (result : Result ℕ Fault)
+      → Defines mid symbols (Ok x) new result → Defines old symbols rule new result
   concludes-definition {old = old} {mid = mid} g rule x is new result h = subst (λ r. Defines old symbols r new result) (sym is) (record {
-    concluded = subst (λ made. IfOk result (λ id. (id ≡ length (steps_of made)) × ((y : Step) × (limited (Ok x) ≡ Ok y) × (new.made ≡ (made ++ map Made.symbol symbols) ++ Made.step y ∷ [])))) g.made h.concluded;
+    concluded = subst
+        (λ made. IfOk result (λ id. (id ≡ length (steps_of made))
+        × ((y : Step) × (limited (Ok x) ≡ Ok y) × (new.made ≡ (made ++ map Made.symbol symbols) ++ Made.step y ∷ [])))) g.made h.concluded;
     refused = h.refused;
     unchanged = subst (λ made. OnErr result (new.made ≡ made)) g.made h.unchanged;
     keeps = Keeps-trans g.trees h.keeps;
   })
 
-  pub refuses-defined : {old mid : Kept} → Grows old mid → (x : Step) (fault : Fault) → Fails fault (sequent_in_limits x.sequent) → Defines old symbols (Ok x) mid (Err fault)
+  pub refuses-defined : {old mid : Kept} → Grows old mid → (x : Step) (fault : Fault) → Fails fault (sequent_in_limits x.sequent)
+      → Defines old symbols (Ok x) mid (Err fault)
   refuses-defined g x fault h = let r = refuses-step g x fault h in record { concluded = tt; refused = r.refused; unchanged = r.unchanged; keeps = r.keeps }
 
-  pub defines-step : (old new : Kept) (x : Step) (id : ℕ) → sequent_in_limits x.sequent ≡ Ok tt → id ≡ step_count old → Keeps old.trees new.trees → new.made ≡ (old.made ++ map Made.symbol symbols) ++ Made.step x ∷ [] → Defines old symbols (Ok x) new (Ok id)
+  pub defines-step : (old new : Kept) (x : Step) (id : ℕ) → sequent_in_limits x.sequent ≡ Ok tt → id ≡ step_count old → Keeps old.trees new.trees → new.made
+      ≡ (old.made ++ map Made.symbol symbols) ++ Made.step x ∷ [] → Defines old symbols (Ok x) new (Ok id)
   defines-step old new x id e n k is = record {
     concluded = (n, (x, ap (λ r. r >> Ok x) e, is));
     refused = tt;
@@ -131,7 +150,8 @@ module _ (symbols : List Symbol) where
     keeps = k;
   }
 
-  pub refused-defined : {old mid : Kept} → Grows old mid → (x : Step) (r : Result ℕ Fault) (fault : Fault) → IsErrAnd r (λ e. e ≡ fault) → Fails fault (sequent_in_limits x.sequent) → Defines old symbols (Ok x) mid r
+  pub refused-defined : {old mid : Kept} → Grows old mid → (x : Step) (r : Result ℕ Fault) (fault : Fault) → IsErrAnd r (λ e. e ≡ fault)
+      → Fails fault (sequent_in_limits x.sequent) → Defines old symbols (Ok x) mid r
   refused-defined g x (Ok v) fault h f = absurd h
   refused-defined g x (Err e) fault h f = refuses-defined g x e (subst (λ w. Fails w (sequent_in_limits x.sequent)) (sym h) f)
 
@@ -140,7 +160,10 @@ module _ (old mid : Kept) (same : mid ≡ old) (symbols : Kept → List Symbol) 
   pub same-follows : IsStep (old.made ++ map Made.symbol (symbols old)) (x old) → IsStep (mid.made ++ map Made.symbol (symbols mid)) (x mid)
   same-follows f = subst (λ (k : Kept). IsStep (k.made ++ map Made.symbol (symbols k)) (x k)) (sym same) f
 
-  pub same-defines : (new : Kept) (id : ℕ) → sequent_in_limits (x old).sequent ≡ Ok tt → id ≡ step_count mid → new ≡ record mid { made = (mid.made ++ map Made.symbol (symbols mid)) ++ Made.step (x mid) ∷ [] } → Defines old (symbols old) (Ok (x old)) new (Ok id)
+  pub same-defines : (new : Kept) (id : ℕ) → sequent_in_limits (x old).sequent ≡ Ok tt → id ≡ step_count mid → new
+      ≡ record mid { made = (mid.made ++ map Made.symbol (symbols mid)) ++ Made.step (x mid) ∷ [] } → Defines old (symbols old) (Ok (x old)) new (Ok id)
   same-defines new id e n is =
-      let now : new ≡ record old { made = (old.made ++ map Made.symbol (symbols old)) ++ Made.step (x old) ∷ [] } = is ∙ ap (λ (k : Kept). record k { made = (k.made ++ map Made.symbol (symbols k)) ++ Made.step (x k) ∷ [] }) same in
-      defines-step (symbols old) old new (x old) id e (n ∙ ap step_count same) (subst (λ (k : Kept). Keeps old.trees k.trees) (sym now) (Keeps-refl old.trees)) (ap (λ (k : Kept). k.made) now)
+      let now : new ≡ record old { made = (old.made ++ map Made.symbol (symbols old)) ++ Made.step (x old) ∷ [] } =
+      is ∙ ap (λ (k : Kept). record k { made = (k.made ++ map Made.symbol (symbols k)) ++ Made.step (x k) ∷ [] }) same in
+      defines-step (symbols old) old new (x old) id e (n ∙ ap step_count same) (subst (λ (k : Kept). Keeps old.trees k.trees) (sym now) (Keeps-refl old.trees))
+      (ap (λ (k : Kept). k.made) now)

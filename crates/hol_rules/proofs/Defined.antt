@@ -22,15 +22,18 @@ pub record AreNewly (trees : Trees) (symbols after : List Taken) (xs : List Step
   pub count : symbol_count ys ≡ length new
   pub takes : AreTakenAfter (symbols_at trees symbols) new
 
-module _ (trees : Trees) (symbols : List Taken) (xs : List Step) (ms : List OneMade) {memo : ParamMemo} (h : IsKept trees symbols xs ms memo) (after : List Taken) (ys : List OneMade) (new : List Symbol) (n : AreNewly trees symbols after xs ys new) (x : Step) where
+module _ (trees : Trees) (symbols : List Taken) (xs : List Step) (ms : List OneMade) {memo : ParamMemo} (h : IsKept trees symbols xs ms memo)
+    (after : List Taken) (ys : List OneMade) (new : List Symbol) (n : AreNewly trees symbols after xs ys new) (x : Step) where
   taken : IsKept trees after xs (ms ++ ys) memo
   taken = IsKept-symbols trees symbols xs ms h after new n.is ys n.names n.known n.numbered n.count n.takes
 
   taken_view : made_view trees after xs (ms ++ ys) ≡ made_view trees symbols xs ms ++ map Made.symbol new
   taken_view = made_view-symbols trees symbols xs ms h after new n.is ys n.names
 
-  pub made_view-defined : made_view trees after (xs ++ x ∷ []) ((ms ++ ys) ++ one.Step (length xs) ∷ []) ≡ (made_view trees symbols xs ms ++ map Made.symbol new) ++ Made.step (step_view trees x) ∷ []
+  pub made_view-defined : made_view trees after (xs ++ x ∷ []) ((ms ++ ys) ++ one.Step (length xs) ∷ [])
+      ≡ (made_view trees symbols xs ms ++ map Made.symbol new) ++ Made.step (step_view trees x) ∷ []
   made_view-defined = made_view-pushed trees after xs (ms ++ ys) taken x ∙ ap (λ l. l ++ Made.step (step_view trees x) ∷ []) taken_view
 
-  pub IsKept-defined : IsStepKnown trees x → IsStep (made_view trees symbols xs ms ++ map Made.symbol new) (step_view trees x) → IsKept trees after (xs ++ x ∷ []) ((ms ++ ys) ++ one.Step (length xs) ∷ []) memo
+  pub IsKept-defined : IsStepKnown trees x → IsStep (made_view trees symbols xs ms ++ map Made.symbol new) (step_view trees x)
+      → IsKept trees after (xs ++ x ∷ []) ((ms ++ ys) ++ one.Step (length xs) ∷ []) memo
   IsKept-defined known follows = IsKept-pushed trees after xs (ms ++ ys) taken x known (subst (λ m. IsStep m (step_view trees x)) (sym taken_view) follows)

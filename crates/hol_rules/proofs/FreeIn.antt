@@ -13,11 +13,16 @@ pub record AreSearched (trees : Trees) (v : AVariable) (all rest : List TermId) 
   pub searched : is_in variable_eq v (flat_map free_places (terms_at trees rest)) ≡ is_in variable_eq v (flat_map free_places (terms_at trees all))
 
 module _ (trees : Trees) (v : AVariable) (all rest : List TermId) (id : TermId) (h : AreSearched trees v all (id ∷ rest)) where
-  split : is_in variable_eq v (flat_map free_places (terms_at trees (id ∷ rest))) ≡ (is_in variable_eq v (free_places (term_at trees id.0)) || is_in variable_eq v (flat_map free_places (terms_at trees rest)))
+  split : is_in variable_eq v (flat_map free_places (terms_at trees (id ∷ rest)))
+      ≡ (is_in variable_eq v (free_places (term_at trees id.0)) || is_in variable_eq v (flat_map free_places (terms_at trees rest)))
   split = list_any-append (variable_eq v) (free_places (term_at trees id.0)) (flat_map free_places (terms_at trees rest))
 
   pub searched_on : false ≡ is_in variable_eq v (free_places (term_at trees id.0)) → AreSearched trees v all rest
-  searched_on e = record { known = h.known.1; searched = ap (λ b. b || is_in variable_eq v (flat_map free_places (terms_at trees rest))) e ∙ sym split ∙ h.searched }
+  searched_on e = record {
+    known = h.known.1;
+    searched = ap (λ b. b || is_in variable_eq v (flat_map free_places (terms_at trees rest))) e ∙ sym split
+        ∙ h.searched;
+  }
 
   pub searched_found : true ≡ is_in variable_eq v (free_places (term_at trees id.0)) → true ≡ is_in variable_eq v (flat_map free_places (terms_at trees all))
   searched_found e = ap (λ b. b || is_in variable_eq v (flat_map free_places (terms_at trees rest))) e ∙ sym split ∙ h.searched

@@ -52,7 +52,8 @@ module _ (k : Kept) (i : ℕ) (sides : Sides) (s : AreSides k i sides) (v : Vari
   V = variable_view k.trees v
 
   -- the two abstractions, made in turn
-  module _ (a b : Kept) (g : Grows k a) (h : Grows a b) (left right : TermId) (n : IsNumberOf a.trees left (abstraction V (term_at k.trees sides.left.0))) (m : IsNumberOf b.trees right (abstraction (variable_view a.trees v) (term_at a.trees sides.right.0))) where
+  module _ (a b : Kept) (g : Grows k a) (h : Grows a b) (left right : TermId) (n : IsNumberOf a.trees left (abstraction V (term_at k.trees sides.left.0)))
+      (m : IsNumberOf b.trees right (abstraction (variable_view a.trees v) (term_at a.trees sides.right.0))) where
     pub left_is : IsNumberOf b.trees left (abstraction V s.equation.left)
     left_is = subst (IsNumberOf b.trees left) (ap (abstraction V) s.left.is) (number-grown h n)
 
@@ -69,16 +70,22 @@ module _ (k : Kept) (i : ℕ) (sides : Sides) (s : AreSides k i sides) (v : Vari
     left_at_typed = subst (λ t. HasType t (function V.1 s.equation.ty)) (sym left_is.is) left_typed
 
     module _ (p : IsProof k.made) (l : i < length (steps_of k.made)) where
-      pub abs_thm-ends : false ≡ is_free_in V (sequent_at k.made i).hypotheses → (mid : Kept) → Grows b mid → (concl : TermId) → ((ty : HolType) → HasType (term_at b.trees left.0) ty → IsNumberOf mid.trees concl (equation ty (term_at b.trees left.0) (term_at b.trees right.0)))
-          → (hyps : List TermId) → AreNumbersOf mid.trees hyps (sequent_at mid.made i).hypotheses → (given : Variable) → given ≡ v → Ends k (abs_thm_step k.made V i) mid (new_step mid.trees by_rule.AbsThm (i ∷ []) (parameters.Variable given) (record { hyps = hyps; concl = concl }))
+      pub abs_thm-ends : false ≡ is_free_in V (sequent_at k.made i).hypotheses → (mid : Kept) → Grows b mid → (concl : TermId)
+          → ((ty : HolType) → HasType (term_at b.trees left.0) ty → IsNumberOf mid.trees concl (equation ty (term_at b.trees left.0) (term_at b.trees right.0)))
+          → (hyps : List TermId) → AreNumbersOf mid.trees hyps (sequent_at mid.made i).hypotheses → (given : Variable) → given ≡ v
+          → Ends k (abs_thm_step k.made V i) mid
+          (new_step mid.trees by_rule.AbsThm (i ∷ []) (parameters.Variable given) (record { hyps = hyps; concl = concl }))
       abs_thm-ends fresh mid o concl c hyps hs given same =
           let all = Grows-trans (Grows-trans g h) o in
           let ty = function V.1 s.equation.ty in
           let typed : HasType (term_at b.trees left.0) ty = subst (λ t. HasType t ty) (sym left_is.is) left_typed in
-          let made : IsNumberOf mid.trees concl (equation ty (abstraction V s.equation.left) (abstraction V s.equation.right)) = subst (IsNumberOf mid.trees concl) (ap₂ (equation ty) left_is.is right_is.is) (c ty typed) in
-          let hs : AreNumbersOf mid.trees hyps (sequent_at k.made i).hypotheses = subst (λ made. AreNumbersOf mid.trees hyps (sequent_at made i).hypotheses) all.made hs in
+          let made : IsNumberOf mid.trees concl (equation ty (abstraction V s.equation.left) (abstraction V s.equation.right)) =
+          subst (IsNumberOf mid.trees concl) (ap₂ (equation ty) left_is.is right_is.is) (c ty typed) in
+          let hs : AreNumbersOf mid.trees hyps (sequent_at k.made i).hypotheses =
+          subst (λ made. AreNumbersOf mid.trees hyps (sequent_at made i).hypotheses) all.made hs in
           let var : variable_view mid.trees given ≡ V = ap (variable_view mid.trees) same ∙ variable-grown all v known in
-          ends_by all (abs_thm-makes k.made p i l s.equation s.parts V (sym fresh)) _ (stepped mid.trees by_rule.AbsThm (i ∷ []) (parameters.Variable given) _ (ap rule.Parameters.variable var) hyps _ hs concl _ made)
+          ends_by all (abs_thm-makes k.made p i l s.equation s.parts V (sym fresh)) _
+          (stepped mid.trees by_rule.AbsThm (i ∷ []) (parameters.Variable given) _ (ap rule.Parameters.variable var) hyps _ hs concl _ made)
 
   pub abs_thm-free : true ≡ is_free_in V (sequent_at k.made i).hypotheses → abs_thm_step k.made V i ≡ Err VarInHyps
   abs_thm-free e = rw s.parts (unmet (not (is_free_in V (sequent_at k.made i).hypotheses)) VarInHyps _ (ap not (sym e)))
@@ -93,7 +100,8 @@ module _ (k : Kept) (i j : ℕ) (fs xs : Sides) (s : AreSides k i fs) (r : AreSi
     first_type = ap type_of first_is.is ∙ ap₂ application_type s.left_typed r.left_typed
 
     pub app_thm-mismatch : is_some (type_of (term_at a.trees left.0)) ≡ false → app_thm_step k.made i j ≡ Err TypeMismatch
-    app_thm-mismatch e = let none = no_type (application_type (Some s.equation.ty) (Some r.equation.ty)) (sym (ap is_some first_type) ∙ e) in rw (s.parts, r.parts, none) refl
+    app_thm-mismatch e = let none = no_type (application_type (Some s.equation.ty) (Some r.equation.ty)) (sym (ap is_some first_type) ∙ e) in rw
+        (s.parts, r.parts, none) refl
 
     pub first_term : is_some (type_of (term_at a.trees left.0)) ≡ true → (b : Kept) → Grows a b → IsTermAt b.trees left.0
     first_term e b h =
@@ -107,14 +115,21 @@ module _ (k : Kept) (i j : ℕ) (fs xs : Sides) (s : AreSides k i fs) (r : AreSi
       pub second_is : IsNumberOf b.trees right (app s.equation.right r.equation.right)
       second_is = subst (IsNumberOf b.trees right) (ap₂ app (number-grown g s.right).is (number-grown g r.right).is) m
 
-      pub app_thm-ends : (p : IsProof k.made) → i < length (steps_of k.made) → j < length (steps_of k.made) → is_some (type_of (term_at a.trees left.0)) ≡ true → (mid : Kept) → Grows b mid
-          → (concl : TermId) → ((ty : HolType) → HasType (term_at b.trees left.0) ty → IsNumberOf mid.trees concl (equation ty (term_at b.trees left.0) (term_at b.trees right.0)))
-          → (hyps : List TermId) → AreNumbersOf mid.trees hyps (joined (sequent_at mid.made i).hypotheses (sequent_at mid.made j).hypotheses) → Ends k (app_thm_step k.made i j) mid (new_step mid.trees by_rule.AppThm (i ∷ j ∷ []) parameters.Nothing (record { hyps = hyps; concl = concl }))
+      pub app_thm-ends : (p : IsProof k.made) → i < length (steps_of k.made) → j < length (steps_of k.made) → is_some (type_of (term_at a.trees left.0)) ≡ true
+          → (mid : Kept) → Grows b mid
+          → (concl : TermId)
+          → ((ty : HolType) → HasType (term_at b.trees left.0) ty
+          → IsNumberOf mid.trees concl (equation ty (term_at b.trees left.0) (term_at b.trees right.0)))
+          → (hyps : List TermId) → AreNumbersOf mid.trees hyps (joined (sequent_at mid.made i).hypotheses (sequent_at mid.made j).hypotheses)
+          → Ends k (app_thm_step k.made i j) mid (new_step mid.trees by_rule.AppThm (i ∷ j ∷ []) parameters.Nothing (record { hyps = hyps; concl = concl }))
       app_thm-ends p l q e mid o concl c hyps hs =
           let all = Grows-trans (Grows-trans g h) o in
           let ty = some_type (application_type (Some s.equation.ty) (Some r.equation.ty)) (sym (ap is_some first_type) ∙ e) in
           let left_is : IsNumberOf b.trees left (app s.equation.left r.equation.left) = number-grown h first_is in
           let typed : HasType (term_at b.trees left.0) ty.0 = ap type_of left_is.is ∙ ap₂ application_type s.left_typed r.left_typed ∙ ty.1 in
-          let made : IsNumberOf mid.trees concl (equation ty.0 (app s.equation.left r.equation.left) (app s.equation.right r.equation.right)) = subst (IsNumberOf mid.trees concl) (ap₂ (equation ty.0) left_is.is second_is.is) (c ty.0 typed) in
-          let hs : AreNumbersOf mid.trees hyps (joined (sequent_at k.made i).hypotheses (sequent_at k.made j).hypotheses) = subst (λ made. AreNumbersOf mid.trees hyps (joined (sequent_at made i).hypotheses (sequent_at made j).hypotheses)) all.made hs in
-          ends_by all (app_thm-makes k.made p i l s.equation s.parts j q r.equation r.parts ty.0 ty.1) _ (stepped mid.trees by_rule.AppThm (i ∷ j ∷ []) parameters.Nothing _ refl hyps _ hs concl _ made)
+          let made : IsNumberOf mid.trees concl (equation ty.0 (app s.equation.left r.equation.left) (app s.equation.right r.equation.right)) =
+          subst (IsNumberOf mid.trees concl) (ap₂ (equation ty.0) left_is.is second_is.is) (c ty.0 typed) in
+          let hs : AreNumbersOf mid.trees hyps (joined (sequent_at k.made i).hypotheses (sequent_at k.made j).hypotheses) =
+          subst (λ made. AreNumbersOf mid.trees hyps (joined (sequent_at made i).hypotheses (sequent_at made j).hypotheses)) all.made hs in
+          ends_by all (app_thm-makes k.made p i l s.equation s.parts j q r.equation r.parts ty.0 ty.1) _
+          (stepped mid.trees by_rule.AppThm (i ∷ j ∷ []) parameters.Nothing _ refl hyps _ hs concl _ made)

@@ -29,7 +29,8 @@ module _ {a b : Trees} (k : Keeps a b) where
   IsKnown-Keeps s h = (table_law.AreKnown-Keeps k s.hyps h.0, omega (arith, k.longer, h.1))
 
   pub sequent_at-Keeps : (s : Sequent) → IsKnown a s → sequent_at a s ≡ sequent_at b s
-  sequent_at-Keeps s h = ap₂ (λ hypotheses conclusion. record { hypotheses = hypotheses; conclusion = conclusion }) (table_law.terms_at-Keeps k s.hyps h.0) (table_law.term_in-Stays k.stays s.concl.0 h.1)
+  sequent_at-Keeps s h = ap₂ (λ hypotheses conclusion. record { hypotheses = hypotheses; conclusion = conclusion }) (table_law.terms_at-Keeps k s.hyps h.0)
+      (table_law.term_in-Stays k.stays s.concl.0 h.1)
 
   variable_view-Keeps : (v : Variable) → v.ty.0 < length a.types → variable_view a v ≡ variable_view b v
   variable_view-Keeps v h = ap (λ t. (v.name, t)) (type_law.tree_at-Stays k.types.stays v.ty.0 h)
@@ -57,14 +58,16 @@ module _ {a b : Trees} (k : Keeps a b) where
   parameters_view-Keeps parameters.Nothing h = refl
   parameters_view-Keeps (parameters.Term t) h = ap rule.Parameters.term (table_law.term_in-Stays k.stays t.0 h)
   parameters_view-Keeps (parameters.Variable v) h = ap rule.Parameters.variable (variable_view-Keeps v h)
-  parameters_view-Keeps (parameters.Subst s) h = ap₂ rule.Parameters.substitution (type_pairs-Keeps k s.types.items s.terms.items h) (term_pairs-Keeps k s.types.items s.terms.items h)
+  parameters_view-Keeps (parameters.Subst s) h = ap₂ rule.Parameters.substitution (type_pairs-Keeps k s.types.items s.terms.items h)
+      (term_pairs-Keeps k s.types.items s.terms.items h)
   parameters_view-Keeps (parameters.Sequent s) h = ap rule.Parameters.sequent (sequent_at-Keeps s h)
   parameters_view-Keeps (parameters.Const n t) h = ap (rule.Parameters.constant n) (table_law.term_in-Stays k.stays t.0 h)
   parameters_view-Keeps (parameters.List pairs) h = ap rule.Parameters.constants (pairs_at-Keeps pairs.items h)
   parameters_view-Keeps (parameters.TypeOp op abs rep names version) h = refl
 
   pub step_view-Keeps : (x : Step) → IsStepKnown a x → step_view a x ≡ step_view b x
-  step_view-Keeps x h = ap₂ (λ p s. record { kind = x.kind; premises = x.premises.items; parameters = p; sequent = s }) (parameters_view-Keeps x.parameters h.parameters) (sequent_at-Keeps x.sequent h.sequent)
+  step_view-Keeps x h = ap₂ (λ p s. record { kind = x.kind; premises = x.premises.items; parameters = p; sequent = s })
+      (parameters_view-Keeps x.parameters h.parameters) (sequent_at-Keeps x.sequent h.sequent)
 
   steps_view-Keeps : (xs : List Step) → AllByRecursion (IsStepKnown a) xs → steps_view a xs ≡ steps_view b xs
   steps_view-Keeps [] h = refl
@@ -75,9 +78,11 @@ module _ {a b : Trees} (k : Keeps a b) where
 
   AreStepsKnown-Keeps : (xs : List Step) → AllByRecursion (IsStepKnown a) xs → AllByRecursion (IsStepKnown b) xs
   AreStepsKnown-Keeps [] h = tt
-  AreStepsKnown-Keeps (x ∷ xs) h = (record { parameters = AreParametersKnown-Keeps x.parameters h.0.parameters; sequent = IsKnown-Keeps x.sequent h.0.sequent }, AreStepsKnown-Keeps xs h.1)
+  AreStepsKnown-Keeps (x ∷ xs) h =
+      (record { parameters = AreParametersKnown-Keeps x.parameters h.0.parameters; sequent = IsKnown-Keeps x.sequent h.0.sequent }, AreStepsKnown-Keeps xs h.1)
 
-  pub made_view-Keeps : (symbols : List Taken) (xs : List Step) (ms : List OneMade) → AreKnownSymbols a symbols → AllByRecursion (IsStepKnown a) xs → made_view a symbols xs ms ≡ made_view b symbols xs ms
+  pub made_view-Keeps : (symbols : List Taken) (xs : List Step) (ms : List OneMade) → AreKnownSymbols a symbols → AllByRecursion (IsStepKnown a) xs
+      → made_view a symbols xs ms ≡ made_view b symbols xs ms
   made_view-Keeps symbols xs ms taken h = ap₂ (λ xs steps. made_of xs steps ms) (symbols_at-Keeps k symbols taken) (steps_view-Keeps xs h)
 
   pub IsKept-Keeps : (symbols : List Taken) (xs : List Step) (ms : List OneMade) {memo : ParamMemo} → IsKept a symbols xs ms memo → IsKept b symbols xs ms memo
@@ -95,5 +100,6 @@ module _ {a b : Trees} (k : Keeps a b) where
         noted = AreNoted-keeps k memo h.noted;
       }
 
-  pub Grows-Keeps : (symbols : List Taken) (xs : List Step) (ms : List OneMade) {memo : ParamMemo} → IsKept a symbols xs ms memo → Grows (record { trees = a; made = made_view a symbols xs ms }) (record { trees = b; made = made_view b symbols xs ms })
+  pub Grows-Keeps : (symbols : List Taken) (xs : List Step) (ms : List OneMade) {memo : ParamMemo} → IsKept a symbols xs ms memo
+      → Grows (record { trees = a; made = made_view a symbols xs ms }) (record { trees = b; made = made_view b symbols xs ms })
   Grows-Keeps symbols xs ms h = record { trees = k; made = sym (made_view-Keeps symbols xs ms h.symbols_known h.known) }

@@ -22,7 +22,8 @@ use Rattle.hol_defs.specs.Faults.{first_failing, list_fault, Refuses}
 use Rattle.hol_rules.proofs.RuleSteps.{met}
 
 -- four conditions in a row
-four-refused : (b c d e : Bool) (r : Result Step Kind) (k : Kind) → first_failing ((b, NameTaken) ∷ (c, NotClosed) ∷ (d, ExtraTypeVars) ∷ (e, BadDefinitionList) ∷ []) ≡ Some k
+four-refused : (b c d e : Bool) (r : Result Step Kind) (k : Kind)
+    → first_failing ((b, NameTaken) ∷ (c, NotClosed) ∷ (d, ExtraTypeVars) ∷ (e, BadDefinitionList) ∷ []) ≡ Some k
     → (demand b NameTaken >> (demand c NotClosed >> (demand d ExtraTypeVars >> (demand e BadDefinitionList >> r)))) ≡ Err k
 four-refused false c d e r k h = ap Err (same_Some _ _ h)
 four-refused true false d e r k h = ap Err (same_Some _ _ h)
@@ -54,7 +55,8 @@ pub record AreFit (symbols : List Symbol) (pairs : ConstantPairs) (one : Sequent
 pub are-fit : (symbols : List Symbol) (pairs : ConstantPairs) (one : Sequent) → list_fault symbols pairs one ≡ None → AreFit symbols pairs one
 are-fit symbols pairs one none =
     let es : TermPairs = defining_equations pairs one.hypotheses in
-    let h = four-hold (not (list_any (is_taken_constant symbols) (names_of pairs))) (list_all (λ e. is_closed e.1) es) (list_all (λ e. has_type_variables_of e.0.1 e.1) es) (is_definition_list pairs one) none in
+    let h = four-hold (not (list_any (is_taken_constant symbols) (names_of pairs))) (list_all (λ e. is_closed e.1) es)
+    (list_all (λ e. has_type_variables_of e.0.1 e.1) es) (is_definition_list pairs one) none in
     record { new = h.first; closed = h.second; variables = h.third; list = h.fourth }
 
 module _ (made : List Made) (pairs : ConstantPairs) (i : ℕ) where
@@ -72,9 +74,12 @@ module _ (made : List Made) (pairs : ConstantPairs) (i : ℕ) where
   pub list-fails : (fault : Fault) → Refuses fault (list_fault (symbols_of made) pairs one) → Fails fault (define_const_list_step made pairs i)
   list-fails Memory h = tt
   list-fails (Refused k) h =
-      four-refused (not (list_any (is_taken_constant (symbols_of made)) (names_of pairs))) (list_all (λ e. is_closed e.1) es) (list_all (λ e. has_type_variables_of e.0.1 e.1) es) (is_definition_list pairs one) (Ok listed_step) k h
+      four-refused (not (list_any (is_taken_constant (symbols_of made)) (names_of pairs))) (list_all (λ e. is_closed e.1) es)
+      (list_all (λ e. has_type_variables_of e.0.1 e.1) es) (is_definition_list pairs one) (Ok listed_step) k h
 
   pub list-is : AreFit (symbols_of made) pairs one → define_const_list_step made pairs i ≡ Ok listed_step
   list-is h =
-      met (not (list_any (is_taken_constant (symbols_of made)) (names_of pairs))) NameTaken _ h.new ∙ met (list_all (λ e. is_closed e.1) es) NotClosed _ h.closed
-      ∙ met (list_all (λ e. has_type_variables_of e.0.1 e.1) es) ExtraTypeVars _ h.variables ∙ met (is_definition_list pairs one) BadDefinitionList (Ok listed_step) h.list
+      met (not (list_any (is_taken_constant (symbols_of made)) (names_of pairs))) NameTaken _ h.new
+      ∙ met (list_all (λ e. is_closed e.1) es) NotClosed _ h.closed
+      ∙ met (list_all (λ e. has_type_variables_of e.0.1 e.1) es) ExtraTypeVars _ h.variables
+      ∙ met (is_definition_list pairs one) BadDefinitionList (Ok listed_step) h.list

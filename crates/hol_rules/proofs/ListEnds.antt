@@ -27,7 +27,8 @@ use Rattle.hol_rules.proofs.ListConditions.{are-fit, listed_step, list-is}
 use Rattle.hol_rules.proofs.ListSymbols.{list-follows}
 
 -- what the step is made of, in a table that has grown
-module _ (k mid : Kept) (g : Grows k mid) (pairs : List (Name × Variable)) (h : ArePairsKnown k.trees pairs) (i : ℕ) (premise : Sequent) (stated : IsStated k.trees premise (sequent_at k.made i)) (typed : IsSequent (sequent_at k.made i)) where
+module _ (k mid : Kept) (g : Grows k mid) (pairs : List (Name × Variable)) (h : ArePairsKnown k.trees pairs) (i : ℕ) (premise : Sequent)
+    (stated : IsStated k.trees premise (sequent_at k.made i)) (typed : IsSequent (sequent_at k.made i)) where
   abbrev P : ConstantPairs
   P = pairs_at k.trees pairs
 
@@ -49,7 +50,8 @@ module _ (k mid : Kept) (g : Grows k mid) (pairs : List (Name × Variable)) (h :
   constants-are : constants_in (pairs_at mid.trees pairs) (numbers.sequent_at mid.trees premise) ≡ constants_in P S
   constants-are = ap₂ constants_in pairs-are premise-is
 
-  module _ (concl : TermId) (c : IsNumberOf mid.trees concl (sub [] (constants_put P) (term_at k.trees premise.concl.0))) (hyps : List TermId) (hs : AreNumbersOf mid.trees hyps []) where
+  module _ (concl : TermId) (c : IsNumberOf mid.trees concl (sub [] (constants_put P) (term_at k.trees premise.concl.0))) (hyps : List TermId)
+      (hs : AreNumbersOf mid.trees hyps []) where
     abbrev y : Step
     y = list_step mid.trees pairs i (record { hyps = hyps; concl = concl })
 
@@ -57,16 +59,26 @@ module _ (k mid : Kept) (g : Grows k mid) (pairs : List (Name × Variable)) (h :
     concl-is = c.is ∙ ap (λ (s : ASequent). sub [] (constants_put P) s.conclusion) stated.is
 
     same : y ≡ listed_step k.made P i
-    same = λ t. record { kind = by_rule.DefineConstList; premises = i ∷ []; parameters = rule.Parameters.constants (pairs-are t); sequent = rule.derived (hs.are t) (concl-is t) }
+    same = λ t. record {
+      kind = by_rule.DefineConstList;
+      premises = i ∷ [];
+      parameters = rule.Parameters.constants (pairs-are t);
+      sequent =
+          rule.derived (hs.are t) (concl-is t);
+    }
 
     module _ (none : list_fault (symbols_of k.made) P S ≡ None) where
-      pub list_at-follows : i < length (steps_of k.made) → IsStep (mid.made ++ map Made.symbol (constants_in (pairs_at mid.trees pairs) (numbers.sequent_at mid.trees premise))) y
+      pub list_at-follows : i < length (steps_of k.made)
+          → IsStep (mid.made ++ map Made.symbol (constants_in (pairs_at mid.trees pairs) (numbers.sequent_at mid.trees premise))) y
       list_at-follows l =
           subst (λ cs. IsStep (mid.made ++ map Made.symbol cs) y) (sym constants-are)
           (subst (λ m. IsStep (m ++ map Made.symbol (constants_in P S)) y) (sym g.made)
           (subst (IsStep (k.made ++ map Made.symbol (constants_in P S))) (sym same) (list-follows k.made P i l typed (are-fit (symbols_of k.made) P S none))))
 
-      pub list_at-ended : (new : Kept) (result : Result ℕ Fault) → Defines mid (constants_in (pairs_at mid.trees pairs) (numbers.sequent_at mid.trees premise)) (Ok y) new result → Defines k (constants_in P S) (define_const_list_step k.made P i) new result
+      pub list_at-ended : (new : Kept) (result : Result ℕ Fault)
+          → Defines mid (constants_in (pairs_at mid.trees pairs) (numbers.sequent_at mid.trees premise)) (Ok y) new result
+          → Defines k (constants_in P S) (define_const_list_step k.made P i) new result
       list_at-ended new result d =
-          concludes-definition (constants_in P S) g (define_const_list_step k.made P i) y (list-is k.made P i (are-fit (symbols_of k.made) P S none) ∙ ap Ok (sym same)) new result
+          concludes-definition (constants_in P S) g (define_const_list_step k.made P i) y
+          (list-is k.made P i (are-fit (symbols_of k.made) P S none) ∙ ap Ok (sym same)) new result
           (subst (λ cs. Defines mid cs (Ok y) new result) constants-are d)

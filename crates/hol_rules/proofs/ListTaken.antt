@@ -54,14 +54,17 @@ named-count trees [] = refl
 named-count trees (p ∷ ps) = ap suc (named-count trees ps)
 
 -- constants that are newly taken
-pub list-newly : (trees : Trees) (symbols after : List Taken) (xs : List Step) (pairs : List (Name × Variable)) (s : ASequent) → IsSequent s → symbols_at trees after ≡ symbols_at trees symbols ++ constants_in (pairs_at trees pairs) s → AreKnownSymbols trees after
-    → list_fault (symbols_at trees symbols) (pairs_at trees pairs) s ≡ None → AreNewly trees symbols after xs (named_constants pairs) (constants_in (pairs_at trees pairs) s)
+pub list-newly : (trees : Trees) (symbols after : List Taken) (xs : List Step) (pairs : List (Name × Variable)) (s : ASequent) → IsSequent s
+    → symbols_at trees after ≡ symbols_at trees symbols ++ constants_in (pairs_at trees pairs) s → AreKnownSymbols trees after
+    → list_fault (symbols_at trees symbols) (pairs_at trees pairs) s ≡ None
+    → AreNewly trees symbols after xs (named_constants pairs) (constants_in (pairs_at trees pairs) s)
 list-newly trees symbols after xs pairs s typed is known none =
     let P : ConstantPairs = pairs_at trees pairs in
     let fit = are-fit (symbols_at trees symbols) P s none in
     record {
       is = is;
-      names = ap (made_of (constants_in P s) (steps_view trees xs)) (named-names trees pairs) ∙ list-made (symbols_at trees symbols) P s typed fit (steps_view trees xs);
+      names = ap (made_of (constants_in P s) (steps_view trees xs)) (named-names trees pairs)
+          ∙ list-made (symbols_at trees symbols) P s typed fit (steps_view trees xs);
       known = known;
       numbered = named-numbered (length xs) pairs;
       count = named-count trees pairs ∙ list-count (symbols_at trees symbols) P s typed fit;
@@ -69,22 +72,32 @@ list-newly trees symbols after xs pairs s typed is known none =
     }
 
 -- what is judged by numbers is judged of the step
-pub list-judged : (trees : Trees) (symbols : List Taken) (made : List Made) (pairs : List (Name × Variable)) (s : Sequent) (ids : List TermId) (t : ASequent) → symbols_of made ≡ symbols_at trees symbols → ids ≡ s.hyps → sequent_at trees s ≡ t
-    → list_fault (symbols_of made) (pairs_at trees pairs) t ≡ list_fault (symbols_at trees symbols) (pairs_at trees pairs) (record { hypotheses = terms_at trees ids; conclusion = term_at trees s.concl.0 })
+pub list-judged : (trees : Trees) (symbols : List Taken) (made : List Made) (pairs : List (Name × Variable)) (s : Sequent) (ids : List TermId) (t : ASequent)
+    → symbols_of made ≡ symbols_at trees symbols → ids ≡ s.hyps → sequent_at trees s ≡ t
+    → list_fault (symbols_of made) (pairs_at trees pairs) t
+    ≡ list_fault (symbols_at trees symbols) (pairs_at trees pairs) (record { hypotheses = terms_at trees ids; conclusion = term_at trees s.concl.0 })
 list-judged trees symbols made pairs s ids t e f is =
-    ap₂ (λ ss u. list_fault ss (pairs_at trees pairs) u) e (sym is) ∙ ap (λ l. list_fault (symbols_at trees symbols) (pairs_at trees pairs) (record { hypotheses = terms_at trees l; conclusion = term_at trees s.concl.0 })) (sym f)
+    ap₂ (λ ss u. list_fault ss (pairs_at trees pairs) u) e (sym is)
+    ∙ ap (λ l. list_fault (symbols_at trees symbols) (pairs_at trees pairs)
+    (record { hypotheses = terms_at trees l; conclusion = term_at trees s.concl.0 })) (sym f)
 
 -- the constants are made, and then the step
-module _ (trees : Trees) (symbols : List Taken) (xs : List Step) (ms : List OneMade) {memo : ParamMemo} (h : IsKept trees symbols xs ms memo) (after : List Taken) (pairs : List (Name × Variable)) (s : ASequent) (typed : IsSequent s)
-    (is : symbols_at trees after ≡ symbols_at trees symbols ++ constants_in (pairs_at trees pairs) s) (known : AreKnownSymbols trees after) (none : list_fault (symbols_at trees symbols) (pairs_at trees pairs) s ≡ None) (x : Step) where
+module _ (trees : Trees) (symbols : List Taken) (xs : List Step) (ms : List OneMade) {memo : ParamMemo} (h : IsKept trees symbols xs ms memo)
+    (after : List Taken) (pairs : List (Name × Variable)) (s : ASequent) (typed : IsSequent s)
+    (is : symbols_at trees after ≡ symbols_at trees symbols ++ constants_in (pairs_at trees pairs) s) (known : AreKnownSymbols trees after)
+    (none : list_fault (symbols_at trees symbols) (pairs_at trees pairs) s ≡ None) (x : Step) where
   abbrev new : AreNewly trees symbols after xs (named_constants pairs) (constants_in (pairs_at trees pairs) s)
   new = list-newly trees symbols after xs pairs s typed is known none
 
   together : (ms ++ named_constants pairs) ++ one.Step (length xs) ∷ [] ≡ ms ++ (named_constants pairs ++ one.Step (length xs) ∷ [])
   together = append_assoc ms (named_constants pairs) (one.Step (length xs) ∷ [])
 
-  pub made_view-list : made_view trees after (xs ++ x ∷ []) (ms ++ (named_constants pairs ++ one.Step (length xs) ∷ [])) ≡ (made_view trees symbols xs ms ++ map Made.symbol (constants_in (pairs_at trees pairs) s)) ++ Made.step (step_view trees x) ∷ []
-  made_view-list = ap (made_view trees after (xs ++ x ∷ [])) (sym together) ∙ made_view-defined trees symbols xs ms h after (named_constants pairs) (constants_in (pairs_at trees pairs) s) new x
+  pub made_view-list : made_view trees after (xs ++ x ∷ []) (ms ++ (named_constants pairs ++ one.Step (length xs) ∷ []))
+      ≡ (made_view trees symbols xs ms ++ map Made.symbol (constants_in (pairs_at trees pairs) s)) ++ Made.step (step_view trees x) ∷ []
+  made_view-list = ap (made_view trees after (xs ++ x ∷ [])) (sym together)
+      ∙ made_view-defined trees symbols xs ms h after (named_constants pairs) (constants_in (pairs_at trees pairs) s) new x
 
-  pub IsKept-list : IsStepKnown trees x → IsStep (made_view trees symbols xs ms ++ map Made.symbol (constants_in (pairs_at trees pairs) s)) (step_view trees x) → IsKept trees after (xs ++ x ∷ []) (ms ++ (named_constants pairs ++ one.Step (length xs) ∷ [])) memo
-  IsKept-list k follows = subst (λ l. IsKept trees after (xs ++ x ∷ []) l memo) together (IsKept-defined trees symbols xs ms h after (named_constants pairs) (constants_in (pairs_at trees pairs) s) new x k follows)
+  pub IsKept-list : IsStepKnown trees x → IsStep (made_view trees symbols xs ms ++ map Made.symbol (constants_in (pairs_at trees pairs) s)) (step_view trees x)
+      → IsKept trees after (xs ++ x ∷ []) (ms ++ (named_constants pairs ++ one.Step (length xs) ∷ [])) memo
+  IsKept-list k follows = subst (λ l. IsKept trees after (xs ++ x ∷ []) l memo) together
+      (IsKept-defined trees symbols xs ms h after (named_constants pairs) (constants_in (pairs_at trees pairs) s) new x k follows)

@@ -17,12 +17,14 @@ greatest_by-last (u ∷ ts) t = omega (arith, greatest_by-last ts t)
 pub record IsSizing (trees : Trees) (ids rest : List TermId) (concl : TermId) (size : ℕ) : Type 0 where
   pub known : AreKnown trees rest
   pub fits : size ≤ 2 ^ 64 - 1
-  pub sizes : min (size + sum_by term_size (terms_at trees rest)) (2 ^ 64 - 1) ≡ min (sum_by term_size (terms_at trees ids ++ term_at trees concl.0 ∷ [])) (2 ^ 64 - 1)
+  pub sizes : min (size + sum_by term_size (terms_at trees rest)) (2 ^ 64 - 1)
+      ≡ min (sum_by term_size (terms_at trees ids ++ term_at trees concl.0 ∷ [])) (2 ^ 64 - 1)
 
 pub record IsDeepening (trees : Trees) (ids rest : List TermId) (concl : TermId) (depth : ℕ) : Type 0 where
   pub known : AreKnown trees rest
   pub fits : depth ≤ 2 ^ 64 - 1
-  pub depths : min (max depth (greatest_by term_depth (terms_at trees rest))) (2 ^ 64 - 1) ≡ min (greatest_by term_depth (terms_at trees ids ++ term_at trees concl.0 ∷ [])) (2 ^ 64 - 1)
+  pub depths : min (max depth (greatest_by term_depth (terms_at trees rest))) (2 ^ 64 - 1)
+      ≡ min (greatest_by term_depth (terms_at trees ids ++ term_at trees concl.0 ∷ [])) (2 ^ 64 - 1)
 
 commuted : (a b : ℕ) → a + b ≡ b + a
 commuted a b = grind arith
@@ -44,10 +46,13 @@ module _ (trees : Trees) (ids : List TermId) (concl : TermId) where
   sizing_begins size k e = record {
     known = k;
     fits = omega (arith, e);
-    sizes = size_first (term_size (term_at trees concl.0)) (sum_by term_size (terms_at trees ids)) size _ e (sum_by_push term_size (terms_at trees ids) (term_at trees concl.0) ∙ commuted (sum_by term_size (terms_at trees ids)) (term_size (term_at trees concl.0)));
+    sizes = size_first (term_size (term_at trees concl.0)) (sum_by term_size (terms_at trees ids)) size _ e
+        (sum_by_push term_size (terms_at trees ids) (term_at trees concl.0)
+        ∙ commuted (sum_by term_size (terms_at trees ids)) (term_size (term_at trees concl.0)));
   }
 
-  pub sizing_goes_on : (rest : List TermId) (id : TermId) (size part s : ℕ) → part ≡ min (term_size (term_at trees id.0)) (2 ^ 64 - 1) → s ≡ min (size + part) (2 ^ 64 - 1) → IsSizing trees ids (id ∷ rest) concl size → IsSizing trees ids rest concl s
+  pub sizing_goes_on : (rest : List TermId) (id : TermId) (size part s : ℕ) → part ≡ min (term_size (term_at trees id.0)) (2 ^ 64 - 1) → s
+      ≡ min (size + part) (2 ^ 64 - 1) → IsSizing trees ids (id ∷ rest) concl size → IsSizing trees ids rest concl s
   sizing_goes_on rest id size part s m e w = record {
     known = w.known.1;
     fits = omega (arith, e);
@@ -56,22 +61,27 @@ module _ (trees : Trees) (ids : List TermId) (concl : TermId) where
         ∙ ap (λ n. min (size + n) (2 ^ 64 - 1)) (sym (sum_by-cons term_size (term_at trees id.0) (terms_at trees rest))) ∙ w.sizes;
   }
 
-  pub sizing_ends : (size : ℕ) → IsSizing trees ids [] concl size → size ≡ min (sum_by term_size (terms_at trees ids ++ term_at trees concl.0 ∷ [])) (2 ^ 64 - 1)
+  pub sizing_ends : (size : ℕ) → IsSizing trees ids [] concl size → size
+      ≡ min (sum_by term_size (terms_at trees ids ++ term_at trees concl.0 ∷ [])) (2 ^ 64 - 1)
   sizing_ends size w = omega (arith, w.fits, w.sizes)
 
-  pub deepening_begins : (depth : ℕ) → AreKnown trees ids → depth ≡ min (term_depth (term_at trees concl.0)) (2 ^ 64 - 1) → IsDeepening trees ids ids concl depth
+  pub deepening_begins : (depth : ℕ) → AreKnown trees ids → depth ≡ min (term_depth (term_at trees concl.0)) (2 ^ 64 - 1)
+      → IsDeepening trees ids ids concl depth
   deepening_begins depth k e = record {
     known = k;
     fits = omega (arith, e);
-    depths = depth_first (term_depth (term_at trees concl.0)) (greatest_by term_depth (terms_at trees ids)) depth _ e (greatest_by-last (terms_at trees ids) (term_at trees concl.0));
+    depths = depth_first (term_depth (term_at trees concl.0)) (greatest_by term_depth (terms_at trees ids)) depth _ e
+        (greatest_by-last (terms_at trees ids) (term_at trees concl.0));
   }
 
-  pub deepening_goes_on : (rest : List TermId) (id : TermId) (depth part d : ℕ) → part ≡ min (term_depth (term_at trees id.0)) (2 ^ 64 - 1) → d ≡ max depth part → IsDeepening trees ids (id ∷ rest) concl depth → IsDeepening trees ids rest concl d
+  pub deepening_goes_on : (rest : List TermId) (id : TermId) (depth part d : ℕ) → part ≡ min (term_depth (term_at trees id.0)) (2 ^ 64 - 1) → d ≡ max depth part
+      → IsDeepening trees ids (id ∷ rest) concl depth → IsDeepening trees ids rest concl d
   deepening_goes_on rest id depth part d m e w = record {
     known = w.known.1;
     fits = omega (arith, e, m, w.fits);
     depths = depth_step depth (term_depth (term_at trees id.0)) (greatest_by term_depth (terms_at trees rest)) d (e ∙ ap (max depth) m) ∙ w.depths;
   }
 
-  pub deepening_ends : (depth : ℕ) → IsDeepening trees ids [] concl depth → depth ≡ min (greatest_by term_depth (terms_at trees ids ++ term_at trees concl.0 ∷ [])) (2 ^ 64 - 1)
+  pub deepening_ends : (depth : ℕ) → IsDeepening trees ids [] concl depth → depth
+      ≡ min (greatest_by term_depth (terms_at trees ids ++ term_at trees concl.0 ∷ [])) (2 ^ 64 - 1)
   deepening_ends depth w = omega (arith, w.fits, w.depths)

@@ -34,7 +34,8 @@ module _ {a b : Trees} (k : Keeps a b) where
   pub term_pairs_at-Keeps : (ps : List (Variable × TermId)) → AreTermPairsKnown a ps → term_pairs_at a ps ≡ term_pairs_at b ps
   term_pairs_at-Keeps [] h = refl
   term_pairs_at-Keeps (p ∷ ps) h =
-      ap₂ (λ q l. q ∷ l) (ap₂ (λ t u. ((p.0.name, t), u)) (type_law.tree_at-Stays k.types.stays p.0.ty.0 h.0) (term_in-Stays k.stays p.1.0 h.1.0)) (term_pairs_at-Keeps ps h.1.1)
+      ap₂ (λ q l. q ∷ l) (ap₂ (λ t u. ((p.0.name, t), u)) (type_law.tree_at-Stays k.types.stays p.0.ty.0 h.0) (term_in-Stays k.stays p.1.0 h.1.0))
+      (term_pairs_at-Keeps ps h.1.1)
 
   module _ (ps : List (Name × TypeId)) (qs : List (Variable × TermId)) (h : AreKnownPairs a ps qs) where
     pub AreKnownPairs-Keeps : AreKnownPairs b ps qs
@@ -73,5 +74,6 @@ are_fitting-Decides trees (p ∷ ps) =
     )
 
 -- a test of the numbers is one of the pairs
-pub are_fitting-same : (trees : Trees) (ps : List (Variable × TermId)) (r : Bool) → (IsTrue r ↔ ArePairsFitting trees ps) → are_fitting (term_pairs_at trees ps) ≡ r
+pub are_fitting-same : (trees : Trees) (ps : List (Variable × TermId)) (r : Bool) → (IsTrue r ↔ ArePairsFitting trees ps) → are_fitting (term_pairs_at trees ps)
+    ≡ r
 are_fitting-same trees ps r h = same_from_decides (are_fitting (term_pairs_at trees ps)) r (are_fitting-Decides trees ps) h

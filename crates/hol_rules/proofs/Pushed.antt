@@ -37,11 +37,13 @@ step_in-last : (xs : List proof.Step) (y : proof.Step) → step_in (xs ++ y ∷ 
 step_in-last [] y = refl
 step_in-last (x ∷ xs) y = step_in-last xs y
 
-made-front : (symbols : List Symbol) (xs ys : List proof.Step) (ms : List OneMade) → AllByRecursion (IsNumbered (length xs)) ms → made_of symbols (xs ++ ys) ms ≡ made_of symbols xs ms
+made-front : (symbols : List Symbol) (xs ys : List proof.Step) (ms : List OneMade) → AllByRecursion (IsNumbered (length xs)) ms → made_of symbols (xs ++ ys) ms
+    ≡ made_of symbols xs ms
 made-front symbols xs ys [] h = refl
 made-front symbols xs ys (one.InputConst n ∷ ms) h = ap (λ l. Made.symbol (Symbol.input_constant n) ∷ l) (made-front (other_symbols symbols) xs ys ms h.1)
 made-front symbols xs ys (one.InputOp n k ∷ ms) h = ap (λ l. Made.symbol (Symbol.input_operator n k) ∷ l) (made-front (other_symbols symbols) xs ys ms h.1)
-made-front symbols xs ys (one.Const n ∷ ms) h = ap (λ l. Made.symbol (constant_named n (first_symbol symbols)) ∷ l) (made-front (other_symbols symbols) xs ys ms h.1)
+made-front symbols xs ys (one.Const n ∷ ms) h = ap (λ l. Made.symbol (constant_named n (first_symbol symbols)) ∷ l)
+    (made-front (other_symbols symbols) xs ys ms h.1)
 made-front symbols xs ys (one.TypeOp n i ∷ ms) h = ap (λ l. type_operator_made n i (first_symbol symbols) ∷ l) (made-front (other_symbols symbols) xs ys ms h.1)
 made-front symbols xs ys (one.Step i ∷ ms) h = (λ t. Made.step (step_in-front xs ys i h.0 t) ∷ made-front symbols xs ys ms h.1 t)
 
@@ -62,16 +64,20 @@ symbol_count-append (one.TypeOp n i ∷ ms) ns = omega (arith, symbol_count-appe
 symbol_count-append (one.Step i ∷ ms) ns = symbol_count-append ms ns
 
 -- what is made after all these symbols is made of further ones
-pub made_of-append : (symbols more : List Symbol) (steps : List proof.Step) (ms ns : List OneMade) → symbol_count ms ≡ length symbols → made_of (symbols ++ more) steps (ms ++ ns) ≡ made_of symbols steps ms ++ made_of more steps ns
+pub made_of-append : (symbols more : List Symbol) (steps : List proof.Step) (ms ns : List OneMade) → symbol_count ms ≡ length symbols
+    → made_of (symbols ++ more) steps (ms ++ ns) ≡ made_of symbols steps ms ++ made_of more steps ns
 made_of-append [] more steps [] ns e = refl
 made_of-append (x ∷ xs) more steps [] ns e = absurd (omega (arith, e))
 made_of-append symbols more steps (one.Step i ∷ ms) ns e = ap (λ l. Made.step (step_in steps i) ∷ l) (made_of-append symbols more steps ms ns e)
 made_of-append [] more steps (one.InputConst n ∷ ms) ns e = absurd (omega (arith, e))
-made_of-append (x ∷ xs) more steps (one.InputConst n ∷ ms) ns e = ap (λ l. Made.symbol (Symbol.input_constant n) ∷ l) (made_of-append xs more steps ms ns (omega (arith, e)))
+made_of-append (x ∷ xs) more steps (one.InputConst n ∷ ms) ns e =
+    ap (λ l. Made.symbol (Symbol.input_constant n) ∷ l) (made_of-append xs more steps ms ns (omega (arith, e)))
 made_of-append [] more steps (one.InputOp n k ∷ ms) ns e = absurd (omega (arith, e))
-made_of-append (x ∷ xs) more steps (one.InputOp n k ∷ ms) ns e = ap (λ l. Made.symbol (Symbol.input_operator n k) ∷ l) (made_of-append xs more steps ms ns (omega (arith, e)))
+made_of-append (x ∷ xs) more steps (one.InputOp n k ∷ ms) ns e =
+    ap (λ l. Made.symbol (Symbol.input_operator n k) ∷ l) (made_of-append xs more steps ms ns (omega (arith, e)))
 made_of-append [] more steps (one.Const n ∷ ms) ns e = absurd (omega (arith, e))
-made_of-append (x ∷ xs) more steps (one.Const n ∷ ms) ns e = ap (λ l. Made.symbol (constant_named n x) ∷ l) (made_of-append xs more steps ms ns (omega (arith, e)))
+made_of-append (x ∷ xs) more steps (one.Const n ∷ ms) ns e =
+    ap (λ l. Made.symbol (constant_named n x) ∷ l) (made_of-append xs more steps ms ns (omega (arith, e)))
 made_of-append [] more steps (one.TypeOp n i ∷ ms) ns e = absurd (omega (arith, e))
 made_of-append (x ∷ xs) more steps (one.TypeOp n i ∷ ms) ns e = ap (λ l. type_operator_made n i x ∷ l) (made_of-append xs more steps ms ns (omega (arith, e)))
 
@@ -87,23 +93,29 @@ module _ (trees : Trees) (symbols : List Taken) (xs : List Step) (ms : List OneM
   many = length-map xs (step_view trees)
 
   -- what was made, and then the step
-  pub made_view-pushed : made_view trees symbols (xs ++ x ∷ []) (ms ++ one.Step (length xs) ∷ []) ≡ made_view trees symbols xs ms ++ Made.step (step_view trees x) ∷ []
+  pub made_view-pushed : made_view trees symbols (xs ++ x ∷ []) (ms ++ one.Step (length xs) ∷ []) ≡ made_view trees symbols xs ms
+      ++ Made.step (step_view trees x) ∷ []
   made_view-pushed =
       ap₂ (λ ss steps. made_of ss steps (ms ++ one.Step (length xs) ∷ [])) (sym (append-nil (symbols_at trees symbols))) steps-pushed
-      ∙ made_of-append (symbols_at trees symbols) [] (steps_view trees xs ++ step_view trees x ∷ []) ms (one.Step (length xs) ∷ []) (counted-at trees symbols (symbol_count ms) h.counted)
-      ∙ (λ t. made-front (symbols_at trees symbols) (steps_view trees xs) (step_view trees x ∷ []) ms (subst (λ n. AllByRecursion (IsNumbered n) ms) (sym many) h.numbered) t ++ Made.step (last t) ∷ [])
+      ∙ made_of-append (symbols_at trees symbols) [] (steps_view trees xs ++ step_view trees x ∷ []) ms (one.Step (length xs) ∷ [])
+      (counted-at trees symbols (symbol_count ms) h.counted)
+      ∙ (λ t. made-front (symbols_at trees symbols) (steps_view trees xs) (step_view trees x ∷ []) ms
+      (subst (λ n. AllByRecursion (IsNumbered n) ms) (sym many) h.numbered) t ++ Made.step (last t) ∷ [])
     where
       last : step_in (steps_view trees xs ++ step_view trees x ∷ []) (length xs) ≡ step_view trees x
       last = ap (step_in (steps_view trees xs ++ step_view trees x ∷ [])) (sym many) ∙ step_in-last (steps_view trees xs) (step_view trees x)
 
-  pub IsKept-pushed : IsStepKnown trees x → IsStep (made_view trees symbols xs ms) (step_view trees x) → IsKept trees symbols (xs ++ x ∷ []) (ms ++ one.Step (length xs) ∷ []) memo
+  pub IsKept-pushed : IsStepKnown trees x → IsStep (made_view trees symbols xs ms) (step_view trees x)
+      → IsKept trees symbols (xs ++ x ∷ []) (ms ++ one.Step (length xs) ∷ []) memo
   IsKept-pushed known follows =
       let more : length (xs ++ x ∷ []) ≡ length xs + 1 = length-append xs (x ∷ []) in
       record {
         distinct = h.distinct;
         known = All-append (IsStepKnown trees) xs (x ∷ []) h.known (known, tt {0});
-        numbered = All-append (IsNumbered (length (xs ++ x ∷ []))) ms (one.Step (length xs) ∷ []) (numbered-more (length xs) (length (xs ++ x ∷ [])) (omega (arith, more)) ms h.numbered) (omega (arith, more), tt {0});
-        steps = ap steps_of made_view-pushed ∙ steps_of-push (made_view trees symbols xs ms) (step_view trees x) ∙ ap (λ l. l ++ step_view trees x ∷ []) h.steps ∙ sym steps-pushed;
+        numbered = All-append (IsNumbered (length (xs ++ x ∷ []))) ms (one.Step (length xs) ∷ [])
+            (numbered-more (length xs) (length (xs ++ x ∷ [])) (omega (arith, more)) ms h.numbered) (omega (arith, more), tt {0});
+        steps = ap steps_of made_view-pushed ∙ steps_of-push (made_view trees symbols xs ms) (step_view trees x) ∙ ap (λ l. l ++ step_view trees x ∷ []) h.steps
+            ∙ sym steps-pushed;
         counted = omega (arith, symbol_count-append ms (one.Step (length xs) ∷ []), h.counted);
         symbols_taken = ap symbols_of made_view-pushed ∙ symbols_of-push (made_view trees symbols xs ms) (step_view trees x) ∙ h.symbols_taken;
         symbols_known = h.symbols_known;
@@ -119,13 +131,15 @@ module _ (trees : Trees) (symbols : List Taken) (xs : List Step) (ms : List OneM
 abbrev sequent_in : List proof.Step → ℕ → ASequent
 sequent_in steps i = slice_index_or (map (λ (y : proof.Step). y.sequent) steps) i (record { hypotheses = []; conclusion = bound 0 })
 
-sequent_in-view : (trees : Trees) (xs : List Step) (i : ℕ) (x : Step) → i < length xs → x ≡ get_or xs i x → sequent_in (steps_view trees xs) i ≡ numbers.sequent_at trees x.sequent
+sequent_in-view : (trees : Trees) (xs : List Step) (i : ℕ) (x : Step) → i < length xs → x ≡ get_or xs i x → sequent_in (steps_view trees xs) i
+    ≡ numbers.sequent_at trees x.sequent
 sequent_in-view trees [] i x l e = absurd (omega arith)
 sequent_in-view trees (y ∷ xs) zero x l e = ap (λ (z : Step). numbers.sequent_at trees z.sequent) (sym e)
 sequent_in-view trees (y ∷ xs) (suc i) x l e = sequent_in-view trees xs i x (omega arith) e
 
 -- the sequent of a step that was made is that of its numbers
-pub sequent_at-kept : (trees : Trees) (symbols : List Taken) (xs : List Step) (ms : List OneMade) {memo : ParamMemo} → IsKept trees symbols xs ms memo → (i : ℕ) (x : Step) → i < length (steps_of (made_view trees symbols xs ms)) → x ≡ get_or xs i x
+pub sequent_at-kept : (trees : Trees) (symbols : List Taken) (xs : List Step) (ms : List OneMade) {memo : ParamMemo} → IsKept trees symbols xs ms memo
+    → (i : ℕ) (x : Step) → i < length (steps_of (made_view trees symbols xs ms)) → x ≡ get_or xs i x
     → sequent_at (made_view trees symbols xs ms) i ≡ numbers.sequent_at trees x.sequent
 sequent_at-kept trees symbols xs ms h i x l e =
     let count : length (steps_of (made_view trees symbols xs ms)) ≡ length xs = ap length h.steps ∙ length-map xs (step_view trees) in

@@ -33,7 +33,8 @@ pub record Makes (made : List Made) (wanted : Result Step Kind) (x : Step) : Typ
 pub at_step : (m : List Made) (i : ℕ) → i < length (steps_of m) → slice_get (sequents_of m) i ≡ Some (sequent_at m i)
 at_step m i l = from (steps_of m) i l
   where
-    from : (xs : List Step) (i : ℕ) → i < length xs → slice_get (map (λ (y : Step). y.sequent) xs) i ≡ Some (slice_index_or (map (λ (y : Step). y.sequent) xs) i (record { hypotheses = []; conclusion = Term.bound 0 }))
+    from : (xs : List Step) (i : ℕ) → i < length xs → slice_get (map (λ (y : Step). y.sequent) xs) i
+        ≡ Some (slice_index_or (map (λ (y : Step). y.sequent) xs) i (record { hypotheses = []; conclusion = Term.bound 0 }))
     from [] i l = absurd (omega arith)
     from (x ∷ xs) zero l = refl
     from (x ∷ xs) (suc i) l = from xs i (omega arith)
@@ -44,7 +45,8 @@ said m p i l = All-get IsSequent (sequents_of m) i (sequent_at m i) (proof-seque
 
 -- a step without premises, and on one or two, that rests on no definition
 module _ (m : List Made) (x : Step) where
-  pub on_none : x.premises ≡ [] → Rule x.kind [] x.parameters x.sequent → definitions_used x.kind [] x.parameters ≡ [] → IsLawOfDefinition m x.kind x.premises x.parameters → IsStep m x
+  pub on_none : x.premises ≡ [] → Rule x.kind [] x.parameters x.sequent → definitions_used x.kind [] x.parameters ≡ []
+      → IsLawOfDefinition m x.kind x.premises x.parameters → IsStep m x
   on_none none r u law = record {
     premises = [];
     earlier = subst (λ ns. ArePremises (sequents_of m) ns []) (sym none) (tt {0});
@@ -52,7 +54,8 @@ module _ (m : List Made) (x : Step) where
     law = law;
   }
 
-  pub on_one : (i : ℕ) → i < length (steps_of m) → x.premises ≡ i ∷ [] → Rule x.kind (sequent_at m i ∷ []) x.parameters x.sequent → definitions_used x.kind (sequent_at m i ∷ []) x.parameters ≡ [] → IsLawOfDefinition m x.kind x.premises x.parameters → IsStep m x
+  pub on_one : (i : ℕ) → i < length (steps_of m) → x.premises ≡ i ∷ [] → Rule x.kind (sequent_at m i ∷ []) x.parameters x.sequent
+      → definitions_used x.kind (sequent_at m i ∷ []) x.parameters ≡ [] → IsLawOfDefinition m x.kind x.premises x.parameters → IsStep m x
   on_one i l one r u law = record {
     premises = sequent_at m i ∷ [];
     earlier = subst (λ ns. ArePremises (sequents_of m) ns (sequent_at m i ∷ [])) (sym one) (at_step m i l, tt {0});
@@ -60,7 +63,8 @@ module _ (m : List Made) (x : Step) where
     law = law;
   }
 
-  pub on_two : (i j : ℕ) → i < length (steps_of m) → j < length (steps_of m) → x.premises ≡ i ∷ j ∷ [] → Rule x.kind (sequent_at m i ∷ sequent_at m j ∷ []) x.parameters x.sequent
+  pub on_two : (i j : ℕ) → i < length (steps_of m) → j < length (steps_of m) → x.premises ≡ i ∷ j ∷ []
+      → Rule x.kind (sequent_at m i ∷ sequent_at m j ∷ []) x.parameters x.sequent
       → definitions_used x.kind (sequent_at m i ∷ sequent_at m j ∷ []) x.parameters ≡ [] → IsLawOfDefinition m x.kind x.premises x.parameters → IsStep m x
   on_two i j l k two r u law = record {
     premises = sequent_at m i ∷ sequent_at m j ∷ [];
@@ -93,10 +97,12 @@ of_type a t e = go (type_of t) e
     go None e = absurd (cc)
     go (Some b) e = ap Some ((type_eq-Decides b a).0 e)
 
-pub refl-makes : (m : List Made) (t : Term) (a : HolType) → HasType t a → Makes m (refl_step t) (step_by by_rule.Refl [] (Parameters.term t) (derived [] (equation a t t)))
+pub refl-makes : (m : List Made) (t : Term) (a : HolType) → HasType t a
+    → Makes m (refl_step t) (step_by by_rule.Refl [] (Parameters.term t) (derived [] (equation a t t)))
 refl-makes m t a h = record { is = rw h refl; follows = on_none m _ refl (rule.Rule.refl h refl) refl (tt {0}) }
 
-pub assume-makes : (m : List Made) (p : Term) → is_of_type bool p ≡ true → Makes m (assume_step p) (step_by by_rule.Assume [] (Parameters.term p) (derived (p ∷ []) p))
+pub assume-makes : (m : List Made) (p : Term) → is_of_type bool p ≡ true
+    → Makes m (assume_step p) (step_by by_rule.Assume [] (Parameters.term p) (derived (p ∷ []) p))
 assume-makes m p h = record { is = met _ NotBool _ h; follows = on_none m _ refl (rule.Rule.assume (of_type bool p h) refl) refl (tt {0}) }
 
 module _ (m : List Made) (p : IsProof m) (i : ℕ) (l : i < length (steps_of m)) (e : Equation) (parts : equation_of (sequent_at m i) ≡ Ok e) where
@@ -107,7 +113,9 @@ module _ (m : List Made) (p : IsProof m) (i : ℕ) (l : i < length (steps_of m))
   sym-makes = record { is = rw parts refl; follows = on_one m _ i l refl (rule.Rule.sym first refl) refl (tt {0}) }
 
   module _ (j : ℕ) (k : j < length (steps_of m)) where
-    pub eq_mp-makes : (sequent_at m j).conclusion ≡ e.left → Makes m (eq_mp_step m i j) (step_by by_rule.EqMp (i ∷ j ∷ []) nothing (derived (joined (sequent_at m i).hypotheses (sequent_at m j).hypotheses) e.right))
+    pub eq_mp-makes : (sequent_at m j).conclusion ≡ e.left
+        → Makes m (eq_mp_step m i j)
+        (step_by by_rule.EqMp (i ∷ j ∷ []) nothing (derived (joined (sequent_at m i).hypotheses (sequent_at m j).hypotheses) e.right))
     eq_mp-makes same =
         let left_type : HasType e.left e.ty = (equation-sides e.ty e.left e.right (sequent_at m i).conclusion first (said m p i l).conclusion).left in
         let truth : HasType e.left bool = subst (λ u. HasType u bool) same (said m p j k).conclusion in
@@ -118,7 +126,9 @@ module _ (m : List Made) (p : IsProof m) (i : ℕ) (l : i < length (steps_of m))
         }
 
     pub trans-makes : (f : Equation) → equation_of (sequent_at m j) ≡ Ok f → f.left ≡ e.right
-        → Makes m (trans_step m i j) (step_by by_rule.Trans (i ∷ j ∷ []) nothing (derived (joined (sequent_at m i).hypotheses (sequent_at m j).hypotheses) (equation e.ty e.left f.right)))
+        → Makes m (trans_step m i j)
+        (step_by by_rule.Trans (i ∷ j ∷ []) nothing
+        (derived (joined (sequent_at m i).hypotheses (sequent_at m j).hypotheses) (equation e.ty e.left f.right)))
     trans-makes f more same =
         let second = equation_is (sequent_at m j) f more in
         let middle : HasType e.right e.ty = (equation-sides e.ty e.left e.right (sequent_at m i).conclusion first (said m p i l).conclusion).right in

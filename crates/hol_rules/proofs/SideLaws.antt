@@ -28,7 +28,8 @@ use Rattle.hol_rules.specs.Premises.{AreNumbersOf, IsNumberOf, AreSides}
 pub known_term : (trees : Trees) (id : ℕ) → IsTermAt trees id → id < length trees.terms
 known_term trees id h = go (slice_get_cases trees.terms id).1
   where
-    go : ((x : Term) × (id < length trees.terms) × (slice_get trees.terms id ≡ Some x) × (get_or trees.terms id x ≡ x)) ⊎ ((length trees.terms ≤ id) × (slice_get trees.terms id ≡ None)) → id < length trees.terms
+    go : ((x : Term) × (id < length trees.terms) × (slice_get trees.terms id ≡ Some x) × (get_or trees.terms id x ≡ x))
+        ⊎ ((length trees.terms ≤ id) × (slice_get trees.terms id ≡ None)) → id < length trees.terms
     go (inl w) = w.1
     go (inr w) = absurd (let e = ap (λ o. unwrap_or o (bound 0)) w.1 in let f = subst IsTerm e h in cc)
 
@@ -41,10 +42,13 @@ number_term trees id t a n h = subst IsTerm (sym n.is) (term_of t a h)
 
 -- an equation is taken apart
 equation_parts-equation : (a : HolType) (l r : Term) → equation_parts (equation a l r) ≡ Some (record { ty = a; left = l; right = r })
-equation_parts-equation a l r = ap (λ b. if b then Some (record { ty = a; left = l; right = r }) else None) ((type_eq-Decides (equality_type a) (equality_type a)).1 refl)
+equation_parts-equation a l r = ap (λ b. if b then Some (record { ty = a; left = l; right = r }) else None)
+    ((type_eq-Decides (equality_type a) (equality_type a)).1 refl)
 
-pub sides_are : (k : Kept) (id : ℕ) (concl left right : TermId) → IsNumberOf k.trees concl (sequent_at k.made id).conclusion → HasType (sequent_at k.made id).conclusion bool
-    → IsEquation (term_at k.trees concl.0) (term_at k.trees left.0) (term_at k.trees right.0) → left.0 < concl.0 → right.0 < concl.0 → AreSides k id (record { left = left; right = right })
+pub sides_are : (k : Kept) (id : ℕ) (concl left right : TermId) → IsNumberOf k.trees concl (sequent_at k.made id).conclusion
+    → HasType (sequent_at k.made id).conclusion bool
+    → IsEquation (term_at k.trees concl.0) (term_at k.trees left.0) (term_at k.trees right.0) → left.0 < concl.0 → right.0 < concl.0
+    → AreSides k id (record { left = left; right = right })
 sides_are k id concl left right n t e l r =
     let l-tree = term_at k.trees left.0 in
     let r-tree = term_at k.trees right.0 in
@@ -59,7 +63,8 @@ sides_are k id concl left right n t e l r =
       right_typed = typed.right;
     }
 
-pub no_sides : (trees : Trees) (concl : TermId) (t : Term) → IsNumberOf trees concl t → ((l r : Term) → IsEquation (term_at trees concl.0) l r → ⊥) → ok_or (equation_parts t) NotEquation ≡ Err NotEquation
+pub no_sides : (trees : Trees) (concl : TermId) (t : Term) → IsNumberOf trees concl t → ((l r : Term) → IsEquation (term_at trees concl.0) l r → ⊥)
+    → ok_or (equation_parts t) NotEquation ≡ Err NotEquation
 no_sides trees concl t n none = go (equation_parts t) refl
   where
     go : (o : Option Equation) → equation_parts t ≡ o → ok_or (equation_parts t) NotEquation ≡ Err NotEquation
@@ -72,11 +77,13 @@ truth_value r t b h d = same_from_decides r (type_eq b bool) d (type_eq-Decides 
 
 -- hypotheses that were taken from a list
 pub numbered : (trees : Trees) (ids : List TermId) (r : Result (List TermId) Memory) → IsDistinct trees.terms → AreKnown trees ids
-    → IfOk r (λ hyps. (ts : Trees) → IsDistinct ts.terms → AreKnown ts ids → terms_at ts hyps ≡ distinct term_eq (terms_at ts ids)) → IfOk r (λ hyps. (ts : Trees) → AreKnown ts ids → AreKnown ts hyps)
+    → IfOk r (λ hyps. (ts : Trees) → IsDistinct ts.terms → AreKnown ts ids → terms_at ts hyps ≡ distinct term_eq (terms_at ts ids))
+    → IfOk r (λ hyps. (ts : Trees) → AreKnown ts ids → AreKnown ts hyps)
     → IfOk r (λ hyps. AreNumbersOf trees hyps (distinct term_eq (terms_at trees ids)))
 numbered trees ids (Ok hyps) d k f g = record { known = g trees k; are = f trees d k }
 numbered trees ids (Err e) d k f g = tt
 
 -- lists of numbers are equal where the test says so
 pub ids_equal : (xs ys : List TermId) (r : Bool) → r ≡ pointwise same_id xs ys → r ≡ true → xs ≡ ys
-ids_equal xs ys r e t = (slice_eq-Decides (λ p q. Decides-like (same_id p q) (λ f i. record { 0 = f i }) (ap (λ (id : TermId). id.0)) (Decides-eqb p.0 q.0)) xs ys r e).0 t
+ids_equal xs ys r e t =
+    (slice_eq-Decides (λ p q. Decides-like (same_id p q) (λ f i. record { 0 = f i }) (ap (λ (id : TermId). id.0)) (Decides-eqb p.0 q.0)) xs ys r e).0 t

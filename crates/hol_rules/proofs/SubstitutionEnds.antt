@@ -36,15 +36,19 @@ module _ (k : Kept) (types : List (Name × TypeId)) (terms : List (Variable × T
   pub pairs-unfit : (r : Bool) → (IsTrue r ↔ ArePairsFitting k.trees terms) → r ≡ false → pairs_fit U ≡ Err BadSubst
   pairs-unfit r d e = ap (λ b. demand b BadSubst) (are_fitting-same k.trees terms r d ∙ e)
 
-  module _ (h : AreKnownPairs k.trees types terms) (mid : Kept) (g : Grows k mid) (given : Substitution) (e : given.types.items ≡ types) (f : given.terms.items ≡ terms) where
+  module _ (h : AreKnownPairs k.trees types terms) (mid : Kept) (g : Grows k mid) (given : Substitution) (e : given.types.items ≡ types)
+      (f : given.terms.items ≡ terms) where
     pub given_known : AreKnownPairs mid.trees given.types.items given.terms.items
-    given_known = subst (λ qs. AreKnownPairs mid.trees given.types.items qs) (sym f) (subst (λ ps. AreKnownPairs mid.trees ps terms) (sym e) (AreKnownPairs-Keeps g.trees types terms h))
+    given_known = subst (λ qs. AreKnownPairs mid.trees given.types.items qs) (sym f)
+        (subst (λ ps. AreKnownPairs mid.trees ps terms) (sym e) (AreKnownPairs-Keeps g.trees types terms h))
 
     given_is : parameters_view mid.trees (parameters.Subst given) ≡ rule.Parameters.substitution T U
     given_is =
-        ap₂ rule.Parameters.substitution (ap (pairs_at mid.trees.types) e ∙ sym (type_pairs-Keeps g.trees types terms h)) (ap (term_pairs_at mid.trees) f ∙ sym (term_pairs-Keeps g.trees types terms h))
+        ap₂ rule.Parameters.substitution (ap (pairs_at mid.trees.types) e ∙ sym (type_pairs-Keeps g.trees types terms h))
+        (ap (term_pairs_at mid.trees) f ∙ sym (term_pairs-Keeps g.trees types terms h))
 
-    pub subst-ends : ArePairsFitting k.trees terms → i < length (steps_of k.made) → (s : Sequent) → IsStated mid.trees s (substituted T U (sequent_at k.made i)) → Ends k (subst_step k.made T U i) mid (new_step mid.trees by_rule.Subst (i ∷ []) (parameters.Subst given) s)
+    pub subst-ends : ArePairsFitting k.trees terms → i < length (steps_of k.made) → (s : Sequent) → IsStated mid.trees s (substituted T U (sequent_at k.made i))
+        → Ends k (subst_step k.made T U i) mid (new_step mid.trees by_rule.Subst (i ∷ []) (parameters.Subst given) s)
     subst-ends fits l s n =
         ends_by g (subst-makes k.made T U i l (ArePairsFitting-at k.trees terms fits) (are_fitting-same k.trees terms true (λ _. fits, λ _. refl))) _
         (λ x. record { kind = by_rule.Subst; premises = i ∷ []; parameters = given_is x; sequent = n.is x })

@@ -34,7 +34,8 @@ pub refuses-type : {old mid : Kept} → Grows old mid → (rule : Result NewType
 refuses-type g rule fault h = record { concluded = tt; refused = h; unchanged = g.made; keeps = g.trees }
 
 -- the same of an answer that hands on a fault
-pub refused-type : {old mid : Kept} → Grows old mid → (rule : Result NewType Kind) (r : Result (ℕ × ℕ) Fault) (fault : Fault) → IsErrAnd r (λ e. e ≡ fault) → Fails fault rule → DefinesType old rule mid r
+pub refused-type : {old mid : Kept} → Grows old mid → (rule : Result NewType Kind) (r : Result (ℕ × ℕ) Fault) (fault : Fault) → IsErrAnd r (λ e. e ≡ fault)
+    → Fails fault rule → DefinesType old rule mid r
 refused-type g rule (Ok ids) fault h f = absurd h
 refused-type g rule (Err e) fault h f = refuses-type g rule e (subst (λ w. Fails w rule) (sym h) f)
 
@@ -42,9 +43,12 @@ refused-type g rule (Err e) fault h f = refuses-type g rule e (subst (λ w. Fail
 pub Grows-made : {a b c : Kept} → Grows a b → Keeps b.trees c.trees → c.made ≡ b.made → Grows a c
 Grows-made g k e = record { trees = Keeps-trans g.trees k; made = e ∙ g.made }
 
-pub laws-grown : {k mid : Kept} (g : Grows k mid) (names : TypeNames) (i : ℕ) (parts : TypeParts) (h : AreTypeParts k names i parts) (version : Version) (laws : Laws) → AreLaws version mid.trees names (type_at k.trees parts.whole.0) (term_at k.trees parts.predicate.0) laws
+pub laws-grown : {k mid : Kept} (g : Grows k mid) (names : TypeNames) (i : ℕ) (parts : TypeParts) (h : AreTypeParts k names i parts) (version : Version)
+    (laws : Laws) → AreLaws version mid.trees names (type_at k.trees parts.whole.0) (term_at k.trees parts.predicate.0) laws
     → AreLaws version mid.trees names (type_at mid.trees parts.whole.0) (term_at mid.trees parts.predicate.0) laws
-laws-grown {mid = mid} g names i parts h version laws l = subst (λ (p : HolType × Term). AreLaws version mid.trees names p.0 p.1 laws) (λ t. (sym (whole-grown g names i parts h) t, sym (predicate-grown g names i parts h) t)) l
+laws-grown {mid = mid} g names i parts h version laws l =
+    subst (λ (p : HolType × Term). AreLaws version mid.trees names p.0 p.1 laws)
+    (λ t. (sym (whole-grown g names i parts h) t, sym (predicate-grown g names i parts h) t)) l
 
 module _ (version : Version) (k : Kept) (names : TypeNames) (i : ℕ) (parts : TypeParts) (h : AreTypeParts k names i parts) where
   abbrev c : HolType
@@ -61,34 +65,43 @@ module _ (version : Version) (k : Kept) (names : TypeNames) (i : ℕ) (parts : T
   limit-fails Memory e = tt
   limit-fails (Refused kind) e = limits ∙ ap (λ r. r >> Ok (made_of_type version names i c f)) e
 
-  module _ (small : AreSmall (type_measures version names c f)) (mid : Kept) (g : Grows k mid) (laws : Laws) (l : AreLaws version mid.trees names c f laws) where
-    counts : (nat_le (parameter_count (sequent_at mid.trees laws.first)) greatest_parameter_count && nat_le (parameter_count (sequent_at mid.trees laws.second)) greatest_parameter_count)
-        ≡ (nat_le (parameter_count (first_law_of version names c)) greatest_parameter_count && nat_le (parameter_count (second_law_of version names c f)) greatest_parameter_count)
-    counts = ap₂ (λ s t. nat_le (parameter_count s) greatest_parameter_count && nat_le (parameter_count t) greatest_parameter_count) l.first.is l.second.is
+  module _ (small : AreSmall (type_measures version names c f)) (mid : Kept) (g : Grows k mid) (laws : Laws) (l : AreLaws version mid.trees names c f laws)
+    where
+      counts : (nat_le (parameter_count (sequent_at mid.trees laws.first)) greatest_parameter_count && nat_le (parameter_count (sequent_at mid.trees laws.second))
+          greatest_parameter_count)
+          ≡ (nat_le (parameter_count (first_law_of version names c)) greatest_parameter_count && nat_le (parameter_count (second_law_of version names c f))
+          greatest_parameter_count)
+      counts = ap₂ (λ s t. nat_le (parameter_count s) greatest_parameter_count && nat_le (parameter_count t) greatest_parameter_count) l.first.is l.second.is
 
-    abbrev are_few : Bool
-    are_few = nat_le (parameter_count (sequent_at mid.trees laws.first)) greatest_parameter_count && nat_le (parameter_count (sequent_at mid.trees laws.second)) greatest_parameter_count
+      abbrev are_few : Bool
+      are_few = nat_le (parameter_count (sequent_at mid.trees laws.first)) greatest_parameter_count && nat_le (parameter_count (sequent_at mid.trees laws.second))
+          greatest_parameter_count
 
-    counted : in_limits (type_measures version names c f) ≡ demand are_few TooManyParams
-    counted = measures-counted names c f version small ∙ ap (λ d. demand d TooManyParams) (sym counts)
+      counted : in_limits (type_measures version names c f) ≡ demand are_few TooManyParams
+      counted = measures-counted names c f version small ∙ ap (λ d. demand d TooManyParams) (sym counts)
 
-    -- the number of parameters is judged last
-    pub type-many : (fault : Fault) → Fails fault (demand are_few TooManyParams) → Fails fault (type_laws version k.made names i)
-    type-many fault e = limit-fails fault (subst (Fails fault) (sym counted) e)
+      -- the number of parameters is judged last
+      pub type-many : (fault : Fault) → Fails fault (demand are_few TooManyParams) → Fails fault (type_laws version k.made names i)
+      type-many fault e = limit-fails fault (subst (Fails fault) (sym counted) e)
 
-    -- within the limits
-    pub type-is : are_few ≡ true → type_laws version k.made names i ≡ Ok (made_of_type version names i c f)
-    type-is e = limits ∙ ap (λ r. r >> Ok (made_of_type version names i c f)) (counted ∙ ap (λ d. demand d TooManyParams) e)
+      -- within the limits
+      pub type-is : are_few ≡ true → type_laws version k.made names i ≡ Ok (made_of_type version names i c f)
+      type-is e = limits ∙ ap (λ r. r >> Ok (made_of_type version names i c f)) (counted ∙ ap (λ d. demand d TooManyParams) e)
 
-    -- what is concluded there
-    pub type-ended : (new : Kept) (ids : ℕ × ℕ) → (ids.0 ≡ step_count mid) × (ids.1 ≡ step_count mid + 1) → new.made ≡ with_type mid.made (made_of_type version names i (type_at mid.trees parts.whole.0) (term_at mid.trees parts.predicate.0)) → Keeps mid.trees new.trees
-        → type_laws version k.made names i ≡ Ok (made_of_type version names i c f) → DefinesType k (type_laws version k.made names i) new (Ok ids)
-    type-ended new ids n made keeps is = record {
-      concluded = (n.0 ∙ ap (λ m. step_count (record { trees = k.trees; made = m })) g.made, (n.1 ∙ ap (λ m. step_count (record { trees = k.trees; made = m }) + 1) g.made, (made_of_type version names i c f, is, made ∙ same)));
-      refused = tt;
-      unchanged = tt;
-      keeps = Keeps-trans g.trees keeps;
-    }
-      where
-        same : with_type mid.made (made_of_type version names i (type_at mid.trees parts.whole.0) (term_at mid.trees parts.predicate.0)) ≡ with_type k.made (made_of_type version names i c f)
-        same = λ t. with_type (g.made t) (made_of_type version names i (whole-grown g names i parts h t) (predicate-grown g names i parts h t))
+      -- what is concluded there
+      pub type-ended : (new : Kept) (ids : ℕ × ℕ) → (ids.0 ≡ step_count mid) × (ids.1 ≡ step_count mid + 1) → new.made
+          ≡ with_type mid.made (made_of_type version names i (type_at mid.trees parts.whole.0) (term_at mid.trees parts.predicate.0)) → Keeps mid.trees new.trees
+          → type_laws version k.made names i ≡ Ok (made_of_type version names i c f) → DefinesType k (type_laws version k.made names i) new (Ok ids)
+      type-ended new ids n made keeps is = record {
+        concluded = (
+          n.0 ∙ ap (λ m. step_count (record { trees = k.trees; made = m })) g.made,
+          (n.1 ∙ ap (λ m. step_count (record { trees = k.trees; made = m }) + 1) g.made, (made_of_type version names i c f, is, made ∙ same)),
+        );
+        refused = tt;
+        unchanged = tt;
+        keeps = Keeps-trans g.trees keeps;
+      }
+        where
+          same : with_type mid.made (made_of_type version names i (type_at mid.trees parts.whole.0) (term_at mid.trees parts.predicate.0))
+              ≡ with_type k.made (made_of_type version names i c f)
+          same = λ t. with_type (g.made t) (made_of_type version names i (whole-grown g names i parts h t) (predicate-grown g names i parts h t))

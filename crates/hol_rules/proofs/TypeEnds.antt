@@ -41,7 +41,8 @@ named_first false r e = refl
 named_first true r e = absurd (cc)
 
 -- three conditions, the last two together
-three-refused : (b c d : Bool) (r : Result NewType Kind) (k : Kind) → first_failing ((b, NameTaken) ∷ (c, NotClosed) ∷ (d, BadTypeVars) ∷ []) ≡ Some k → (demand b NameTaken >> ((demand c NotClosed >> demand d BadTypeVars) >> r)) ≡ Err k
+three-refused : (b c d : Bool) (r : Result NewType Kind) (k : Kind) → first_failing ((b, NameTaken) ∷ (c, NotClosed) ∷ (d, BadTypeVars) ∷ []) ≡ Some k
+    → (demand b NameTaken >> ((demand c NotClosed >> demand d BadTypeVars) >> r)) ≡ Err k
 three-refused false c d r k e = ap Err (same_Some _ _ e)
 three-refused true false d r k e = ap Err (same_Some _ _ e)
 three-refused true true false r k e = ap Err (same_Some _ _ e)
@@ -66,19 +67,23 @@ module _ (made : List Made) (names : TypeNames) (i : ℕ) where
   concl = (sequent_at made i).conclusion
 
   -- where the conclusion is no application
-  pub without_application : (version : Version) → application_parts concl ≡ None → type_laws version made names i ≡ Err (if are_new (symbols_of made) names then NotTheSequent else NameTaken)
+  pub without_application : (version : Version) → application_parts concl ≡ None → type_laws version made names i
+      ≡ Err (if are_new (symbols_of made) names then NotTheSequent else NameTaken)
   without_application version e = rw e (go (are_new (symbols_of made) names) (nat_eq (length (sequent_at made i).hypotheses) 0))
     where
-      go : (b h : Bool) → ◌≡◌ {A = Result NewType Kind} (demand b NameTaken >> (Ok (tt {0}) >> (demand h NotTheSequent >> Err NotTheSequent))) (Err (if b then NotTheSequent else NameTaken))
+      go : (b h : Bool) → ◌≡◌ {A = Result NewType Kind} (demand b NameTaken >> (Ok (tt {0}) >> (demand h NotTheSequent >> Err NotTheSequent)))
+          (Err (if b then NotTheSequent else NameTaken))
       go false h = refl
       go true true = refl
       go true false = refl
 
-  pub default-fails : (version : Version) (fault : Fault) → fault ≡ Refused (if are_new (symbols_of made) names then NotTheSequent else NameTaken) → application_parts concl ≡ None → Fails fault (type_laws version made names i)
+  pub default-fails : (version : Version) (fault : Fault) → fault ≡ Refused (if are_new (symbols_of made) names then NotTheSequent else NameTaken)
+      → application_parts concl ≡ None → Fails fault (type_laws version made names i)
   default-fails version fault e none = subst (λ g. Fails g (type_laws version made names i)) (sym e) (without_application version none)
 
   module _ (f t : Term) (is : concl ≡ app f t) where
-    pub type-fails : (version : Version) (fault : Fault) → Refuses fault (operator_fault (symbols_of made) names f) → Fails fault (type_laws version made names i)
+    pub type-fails : (version : Version) (fault : Fault) → Refuses fault (operator_fault (symbols_of made) names f)
+        → Fails fault (type_laws version made names i)
     type-fails version Memory h = tt
     type-fails version (Refused k) h = rw is (three-refused (are_new (symbols_of made) names) (is_closed f) (are_type_variables_of names.variables f) _ k h)
 
@@ -107,8 +112,10 @@ no-application trees (view.App f x) h = absurd (h f x refl)
 no-application trees (view.Lam ty b) h = refl
 
 -- the conclusion of a step, by its number
-pub concl-view : (k : Kept) (i : ℕ) (concl : TermId) (v : TermView) (t : Trees) → t ≡ k.trees → IsNumberOf k.trees concl (sequent_at k.made i).conclusion → Holds t concl.0 (tree_of_view t v) → (sequent_at k.made i).conclusion ≡ tree_of_view k.trees v
-concl-view k i concl v t e n h = sym n.is ∙ Some-term_in k.trees.terms concl.0 (tree_of_view k.trees v) (subst (λ (u : Trees). Holds u concl.0 (tree_of_view u v)) e h)
+pub concl-view : (k : Kept) (i : ℕ) (concl : TermId) (v : TermView) (t : Trees) → t ≡ k.trees → IsNumberOf k.trees concl (sequent_at k.made i).conclusion
+    → Holds t concl.0 (tree_of_view t v) → (sequent_at k.made i).conclusion ≡ tree_of_view k.trees v
+concl-view k i concl v t e n h = sym n.is ∙ Some-term_in k.trees.terms concl.0 (tree_of_view k.trees v)
+    (subst (λ (u : Trees). Holds u concl.0 (tree_of_view u v)) e h)
 
 -- and its hypotheses
 module _ (k : Kept) (i : ℕ) (s : Sequent) (ids : List TermId) (e : numbers.sequent_at k.trees s ≡ sequent_at k.made i) (f : ids ≡ s.hyps) where
@@ -130,5 +137,8 @@ module _ (k : Kept) (i : ℕ) (s : Sequent) (ids : List TermId) (e : numbers.seq
 
 -- what is left to be judged are the limits
 pub type-limits : (version : Version) (k : Kept) (names : TypeNames) (i : ℕ) (parts : TypeParts) → AreTypeParts k names i parts
-    → type_laws version k.made names i ≡ (in_limits (type_measures version names (type_at k.trees parts.whole.0) (term_at k.trees parts.predicate.0)) >> Ok (made_of_type version names i (type_at k.trees parts.whole.0) (term_at k.trees parts.predicate.0)))
-type-limits version k names i parts h = rw (h.holds, h.no_hypotheses, h.typed, h.new.operator, h.new.abstraction, h.new.representation, h.new.apart, h.closed, h.variables) refl
+    → type_laws version k.made names i
+    ≡ (in_limits (type_measures version names (type_at k.trees parts.whole.0) (term_at k.trees parts.predicate.0)) >> Ok
+    (made_of_type version names i (type_at k.trees parts.whole.0) (term_at k.trees parts.predicate.0)))
+type-limits version k names i parts h = rw
+    (h.holds, h.no_hypotheses, h.typed, h.new.operator, h.new.abstraction, h.new.representation, h.new.apart, h.closed, h.variables) refl

@@ -59,17 +59,20 @@ get-left (y ∷ xs) ys (suc i) x e = get-left xs ys i x e
 premise-more : (m ys : List Made) (i : ℕ) (s : Sequent) → slice_get (sequents_of m) i ≡ Some s → slice_get (sequents_of (m ++ ys)) i ≡ Some s
 premise-more m ys i s e = ap (λ l. slice_get l i) (sequents_of-append m ys) ∙ get-left (sequents_of m) (sequents_of ys) i s e
 
-used : (m : List Made) (names : TypeNames) (c : HolType) (f u p : Term) → p ≡ app f u → HasType u c → IsAmong (definitions_of m) (Definition.type_operator names c f) → AllByRecursion (IsAmong (definitions_of m)) (type_definition_in names p)
+used : (m : List Made) (names : TypeNames) (c : HolType) (f u p : Term) → p ≡ app f u → HasType u c
+    → IsAmong (definitions_of m) (Definition.type_operator names c f) → AllByRecursion (IsAmong (definitions_of m)) (type_definition_in names p)
 used m names c f u p is h k =
     subst (λ q. AllByRecursion (IsAmong (definitions_of m)) (type_definition_in names q)) (sym is)
     (subst (λ o. AllByRecursion (IsAmong (definitions_of m)) (option_to_list (option_map (λ c. Definition.type_operator names c f) o))) (sym h) (k, tt {0}))
 
 -- a law in an article of a version follows by its rule
-first_rule : (version : Version) (names : TypeNames) (c : HolType) (f : Term) (one : Sequent) → IsTypeDefinition names c f one → rule.Rule FirstLaw (one ∷ []) (rule.Parameters.type_operator names version) (first_law_of version names c)
+first_rule : (version : Version) (names : TypeNames) (c : HolType) (f : Term) (one : Sequent) → IsTypeDefinition names c f one
+    → rule.Rule FirstLaw (one ∷ []) (rule.Parameters.type_operator names version) (first_law_of version names c)
 first_rule Five names c f one d = rule.Rule.first_law_free d refl
 first_rule Six names c f one d = rule.Rule.first_law d refl
 
-second_rule : (version : Version) (names : TypeNames) (c : HolType) (f : Term) (one : Sequent) → IsTypeDefinition names c f one → rule.Rule SecondLaw (one ∷ []) (rule.Parameters.type_operator names version) (second_law_of version names c f)
+second_rule : (version : Version) (names : TypeNames) (c : HolType) (f : Term) (one : Sequent) → IsTypeDefinition names c f one
+    → rule.Rule SecondLaw (one ∷ []) (rule.Parameters.type_operator names version) (second_law_of version names c f)
 second_rule Five names c f one d = rule.Rule.second_law_free d refl
 second_rule Six names c f one d = rule.Rule.second_law d refl
 
@@ -98,7 +101,8 @@ module _ {a b : Kept} (g : Grows a b) (names : TypeNames) (i : ℕ) (parts : Typ
     variables = ap (are_type_variables_of names.variables) predicate-grown ∙ h.variables;
   }
 
-module _ (k : Kept) (proof : IsProof k.made) (names : TypeNames) (i : ℕ) (l : i < length (steps_of k.made)) (parts : TypeParts) (h : AreTypeParts k names i parts) where
+module _ (k : Kept) (proof : IsProof k.made) (names : TypeNames) (i : ℕ) (l : i < length (steps_of k.made)) (parts : TypeParts)
+    (h : AreTypeParts k names i parts) where
   abbrev c : HolType
   c = type_at k.trees parts.whole.0
 
@@ -121,7 +125,13 @@ module _ (k : Kept) (proof : IsProof k.made) (names : TypeNames) (i : ℕ) (l : 
   type-without = closed-typed f (function c bool) h.closed predicate-type
 
   pub type-defined : IsDefinedBy k.made names c f i
-  type-defined = record { one = one_sequent; at = at_step k.made i l; defines = definition; taken = taking.Takes.type_operator h.new predicate-type h.closed h.variables }
+  type-defined = record {
+    one = one_sequent;
+    at = at_step k.made i l;
+    defines = definition;
+    taken =
+        taking.Takes.type_operator h.new predicate-type h.closed h.variables;
+  }
 
   -- the conclusion, by its number
   pub concl-term : IsTermAt k.trees parts.concl.0
@@ -146,7 +156,11 @@ module _ (k : Kept) (proof : IsProof k.made) (names : TypeNames) (i : ℕ) (l : 
   first-follows version = record {
     premises = one_sequent ∷ [];
     earlier = (premise, tt {0});
-    follows = record { rule = first_rule version names c f one_sequent definition; defined = used taken names c f h.witness one_sequent.conclusion h.holds h.typed among };
+    follows = record {
+      rule = first_rule version names c f one_sequent definition;
+      defined =
+          used taken names c f h.witness one_sequent.conclusion h.holds h.typed among;
+    };
     law = record { c = c; f = f; number = i; among = among-last k.made made; is = refl };
   }
 
@@ -159,21 +173,40 @@ module _ (k : Kept) (proof : IsProof k.made) (names : TypeNames) (i : ℕ) (l : 
     earlier = (premise-more taken (Made.step (made_of_type version names i c f).first ∷ []) i one_sequent premise, tt {0});
     follows = record {
       rule = second_rule version names c f one_sequent definition;
-      defined = used (more version) names c f h.witness one_sequent.conclusion h.holds h.typed (subst (λ es. IsAmong es d) (sym (definitions_of-append taken (Made.step (made_of_type version names i c f).first ∷ []))) (among-front (definitions_of taken) [] d among));
+      defined = used (more version) names c f h.witness one_sequent.conclusion h.holds h.typed
+          (subst (λ es. IsAmong es d) (sym (definitions_of-append taken (Made.step (made_of_type version names i c f).first ∷ [])))
+          (among-front (definitions_of taken) [] d among));
     };
-    law = record { c = c; f = f; number = i; among = among-front taken (Made.step (made_of_type version names i c f).first ∷ []) made (among-last k.made made); is = refl };
+    law = record {
+      c = c;
+      f = f;
+      number = i;
+      among =
+          among-front taken (Made.step (made_of_type version names i c f).first ∷ []) made (among-last k.made made);
+      is = refl;
+    };
   }
 
 -- the step of a law, of what its numbers stand for
-module _ (version : Version) (trees : Trees) (kind : StepKind) (i : ℕ) (names : TypeNames) (s : OneSequent) (t : Sequent) (x : OneStep) (law : IsLawStep version kind names i s x) (n : IsStated trees s t) where
+module _ (version : Version) (trees : Trees) (kind : StepKind) (i : ℕ) (names : TypeNames) (s : OneSequent) (t : Sequent) (x : OneStep)
+    (law : IsLawStep version kind names i s x) (n : IsStated trees s t) where
   law_step-is : step_view trees x ≡ step_by kind (i ∷ []) (rule.Parameters.type_operator names version) t
-  law_step-is = λ j. record { kind = law.by_rule j; premises = law.premise j; parameters = law.given trees j; sequent = (ap (numbers.sequent_at trees) law.says ∙ n.is) j }
+  law_step-is = λ j. record {
+    kind = law.by_rule j;
+    premises = law.premise j;
+    parameters = law.given trees j;
+    sequent =
+        (ap (numbers.sequent_at trees) law.says ∙ n.is) j;
+  }
 
   law_step-known : IsStepKnown trees x
   law_step-known = record { parameters = law.known trees; sequent = subst (numbers.IsKnown trees) (sym law.says) n.known }
 
-module _ (version : Version) (a b : Trees) (k : Keeps a b) (symbols after : List Taken) (xs : List OneStep) (ms : List OneMade) {memo : ParamMemo} (h : IsKept a symbols xs ms memo) (names : TypeNames) (i : ℕ) (l : i < length (steps_of (made_view a symbols xs ms))) (parts : TypeParts)
-    (p : AreTypeParts (record { trees = a; made = made_view a symbols xs ms }) names i parts) (laws : Laws) (s : AreLaws version a names (type_at a parts.whole.0) (term_at a parts.predicate.0) laws) (steps : LawSteps) (q : AreLawSteps version names i laws steps)
+module _ (version : Version) (a b : Trees) (k : Keeps a b) (symbols after : List Taken) (xs : List OneStep) (ms : List OneMade) {memo : ParamMemo}
+    (h : IsKept a symbols xs ms memo) (names : TypeNames) (i : ℕ) (l : i < length (steps_of (made_view a symbols xs ms))) (parts : TypeParts)
+    (p : AreTypeParts (record { trees = a; made = made_view a symbols xs ms }) names i parts) (laws : Laws)
+    (s : AreLaws version a names (type_at a parts.whole.0) (term_at a parts.predicate.0) laws) (steps : LawSteps)
+    (q : AreLawSteps version names i laws steps)
     (is : TakesType names (term_at a parts.concl.0) (symbols_at a symbols) (symbols_at b after)) (known : AreKnownSymbols b after) where
   abbrev now : Kept
   now = record { trees = a; made = made_view a symbols xs ms }
@@ -209,7 +242,8 @@ module _ (version : Version) (a b : Trees) (k : Keeps a b) (symbols after : List
   stays = made_view-Keeps k symbols xs ms h.symbols_known h.known
 
   defined-view : made_view b after xs (ms ++ one.TypeOp names.operator i ∷ []) ≡ old ++ defined ∷ []
-  defined-view = made_view-things b symbols xs ms kept after (new ∷ []) newly (one.TypeOp names.operator i ∷ []) (defined ∷ []) refl ∙ ap (λ l. l ++ defined ∷ []) (sym stays)
+  defined-view = made_view-things b symbols xs ms kept after (new ∷ []) newly (one.TypeOp names.operator i ∷ []) (defined ∷ []) refl
+      ∙ ap (λ l. l ++ defined ∷ []) (sym stays)
 
   defined-kept : IsKept b after xs (ms ++ one.TypeOp names.operator i ∷ []) memo
   defined-kept =
@@ -235,26 +269,32 @@ module _ (version : Version) (a b : Trees) (k : Keeps a b) (symbols after : List
   second-stays = sym (step_view-Keeps k steps.second second-known) ∙ second-is
 
   first-view : made_view b after (xs ++ steps.first ∷ []) noted ≡ (old ++ defined ∷ []) ++ Made.step (made_of_type version names i whole predicate).first ∷ []
-  first-view = made_view-pushed b after xs (ms ++ one.TypeOp names.operator i ∷ []) defined-kept steps.first ∙ (λ j. defined-view j ++ Made.step (first-stays j) ∷ [])
+  first-view = made_view-pushed b after xs (ms ++ one.TypeOp names.operator i ∷ []) defined-kept steps.first
+      ∙ (λ j. defined-view j ++ Made.step (first-stays j) ∷ [])
 
   first-kept : IsKept b after (xs ++ steps.first ∷ []) noted memo
   first-kept =
       IsKept-pushed b after xs (ms ++ one.TypeOp names.operator i ∷ []) defined-kept steps.first (IsStepKnown-Keeps k steps.first first-known)
-      (subst (λ m. IsStep m (step_view b steps.first)) (sym defined-view) (subst (IsStep (old ++ defined ∷ [])) (sym first-stays) (first-follows now h.proof names i l parts p version)))
+      (subst (λ m. IsStep m (step_view b steps.first)) (sym defined-view)
+      (subst (IsStep (old ++ defined ∷ [])) (sym first-stays) (first-follows now h.proof names i l parts p version)))
 
-  both-view : made_view b after (with_laws xs steps) (noted ++ one.Step (length (xs ++ steps.first ∷ [])) ∷ []) ≡ with_type old (made_of_type version names i whole predicate)
+  both-view : made_view b after (with_laws xs steps) (noted ++ one.Step (length (xs ++ steps.first ∷ [])) ∷ [])
+      ≡ with_type old (made_of_type version names i whole predicate)
   both-view = made_view-pushed b after (xs ++ steps.first ∷ []) noted first-kept steps.second ∙ (λ j. first-view j ++ Made.step (second-stays j) ∷ [])
 
   both-kept : IsKept b after (with_laws xs steps) (noted ++ one.Step (length (xs ++ steps.first ∷ [])) ∷ []) memo
   both-kept =
       IsKept-pushed b after (xs ++ steps.first ∷ []) noted first-kept steps.second (IsStepKnown-Keeps k steps.second second-known)
-      (subst (λ m. IsStep m (step_view b steps.second)) (sym first-view) (subst (IsStep ((old ++ defined ∷ []) ++ Made.step (made_of_type version names i whole predicate).first ∷ [])) (sym second-stays) (second-follows now h.proof names i l parts p version)))
+      (subst (λ m. IsStep m (step_view b steps.second)) (sym first-view)
+      (subst (IsStep ((old ++ defined ∷ []) ++ Made.step (made_of_type version names i whole predicate).first ∷ [])) (sym second-stays)
+      (second-follows now h.proof names i l parts p version)))
 
   next : length (xs ++ steps.first ∷ []) ≡ length xs + 1
   next = length-append xs (steps.first ∷ [])
 
   -- the operator is made, and then the steps
-  pub made_view-type : made_view b after (with_laws xs steps) (with_operator ms names.operator i (length xs)) ≡ with_type old (made_of_type version names i whole predicate)
+  pub made_view-type : made_view b after (with_laws xs steps) (with_operator ms names.operator i (length xs))
+      ≡ with_type old (made_of_type version names i whole predicate)
   made_view-type = ap (λ n. made_view b after (with_laws xs steps) (noted ++ one.Step n ∷ [])) (sym next) ∙ both-view
 
   pub IsKept-type : IsKept b after (with_laws xs steps) (with_operator ms names.operator i (length xs)) memo

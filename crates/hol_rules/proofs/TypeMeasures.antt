@@ -51,14 +51,16 @@ one_fails d e g h = go (nat_le d g) refl
     go false f = refl
     go true f = let l = le_is d g f in not_le e g (omega (arith, h, l))
 
-five : (a b c d e g : ℕ) → a ≤ max d e → b ≤ max d e → c ≤ max d e → (nat_le a g && (nat_le b g && (nat_le c g && (nat_le d g && (nat_le e g && true))))) ≡ nat_le (max d e) g
+five : (a b c d e g : ℕ) → a ≤ max d e → b ≤ max d e → c ≤ max d e → (nat_le a g && (nat_le b g && (nat_le c g && (nat_le d g && (nat_le e g && true)))))
+    ≡ nat_le (max d e) g
 five a b c d e g i j k = go (nat_le (max d e) g) refl
   where
     go : (r : Bool) → nat_le (max d e) g ≡ r → (nat_le a g && (nat_le b g && (nat_le c g && (nat_le d g && (nat_le e g && true))))) ≡ nat_le (max d e) g
     go true f =
         let l = le_is (max d e) g f in
         five_hold (nat_le a g) (nat_le b g) (nat_le c g) (nat_le d g) (nat_le e g)
-        (is_le a g (omega (arith, l, i))) (is_le b g (omega (arith, l, j))) (is_le c g (omega (arith, l, k))) (is_le d g (omega (arith, l))) (is_le e g (omega (arith, l))) ∙ sym f
+        (is_le a g (omega (arith, l, i))) (is_le b g (omega (arith, l, j))) (is_le c g (omega (arith, l, k))) (is_le d g (omega (arith, l)))
+        (is_le e g (omega (arith, l))) ∙ sym f
     go false f = last_fail (nat_le a g) (nat_le b g) (nat_le c g) (nat_le d g) (nat_le e g) (one_fails d e g (le_not (max d e) g f)) ∙ sym f
 
 size_of_variables : (ns : List Name) → types_size (types_of (map variable ns)) ≡ length ns
@@ -88,7 +90,8 @@ abbrev first_depth : ℕ → ℕ → ℕ
 first_depth c p = max (equation_depth (arrow p p) (1 + max p (1 + max (1 + arrow c p) (1 + max (1 + arrow p c) 1))) (1 + max p 1)) 0
 
 abbrev second_depth : ℕ → ℕ → ℕ → ℕ
-second_depth c p f = max (equation_depth (arrow c 1) (1 + max c (equation_depth c (1 + max (1 + arrow p c) (1 + max (1 + arrow c p) 1)) 1)) (1 + max c (1 + max f 1))) 0
+second_depth c p f = max
+    (equation_depth (arrow c 1) (1 + max c (equation_depth c (1 + max (1 + arrow p c) (1 + max (1 + arrow c p) 1)) 1)) (1 + max c (1 + max f 1))) 0
 
 arrow-is : (a b : ℕ) → arrow a b ≡ 2 + max a b
 arrow-is a b = omega arith
@@ -133,7 +136,8 @@ second_deep c p f h =
     let e = equation-is (arrow c 1) (1 + max c inner) (1 + max c (1 + max f 1)) l in
     last c p f (arrow c 1) inner (equation_depth (arrow c 1) (1 + max c inner) (1 + max c (1 + max f 1))) h a b e
   where
-    last : (c p f r n d : ℕ) → 1 ≤ p → n ≡ 7 + max c p → r ≡ 2 + max c 1 → d ≡ max (max (7 + r) (2 + (1 + max c n))) (1 + (1 + max c (1 + max f 1))) → max d 0 ≡ max (max c p + 10) (f + 3)
+    last : (c p f r n d : ℕ) → 1 ≤ p → n ≡ 7 + max c p → r ≡ 2 + max c 1 → d ≡ max (max (7 + r) (2 + (1 + max c n))) (1 + (1 + max c (1 + max f 1))) → max d 0
+        ≡ max (max c p + 10) (f + 3)
     last c p f r n d h a b e = omega (arith, h, a, b, e)
 
 -- the depths of the laws of version 5
@@ -244,7 +248,8 @@ module _ (names : TypeNames) (c : HolType) (f : Term) where
   depth_of_first Six = ap (first_depth (type_depth c)) depth_of_part ∙ first_deep (type_depth c) part_depth one_deep
 
   depth_of_second : (version : Version) → sequent_depth (second_law_of version names c f) ≡ deepest_depth version (type_depth c) part_depth (term_depth f)
-  depth_of_second Five = ap (λ p. free_second_depth (type_depth c) p (term_depth f)) depth_of_part ∙ free_second_deep (type_depth c) part_depth (term_depth f) one_deep
+  depth_of_second Five = ap (λ p. free_second_depth (type_depth c) p (term_depth f)) depth_of_part ∙ free_second_deep (type_depth c) part_depth (term_depth f)
+      one_deep
   depth_of_second Six = ap (λ p. second_depth (type_depth c) p (term_depth f)) depth_of_part ∙ second_deep (type_depth c) part_depth (term_depth f) one_deep
 
   module _ (version : Version) where
@@ -259,7 +264,8 @@ module _ (names : TypeNames) (c : HolType) (f : Term) where
         let g = size_of_first version in
         let h = size_of_second version in
         let l = larger-types version in
-        five (type_size (new_type names)) (type_size (abstraction_type names c)) (type_size (representation_type names c)) (sequent_size (first_law_of version names c)) (sequent_size (second_law_of version names c f)) greatest_size
+        five (type_size (new_type names)) (type_size (abstraction_type names c)) (type_size (representation_type names c))
+        (sequent_size (first_law_of version names c)) (sequent_size (second_law_of version names c f)) greatest_size
         (omega (arith, a, g, l)) (omega (arith, b, g, l)) (omega (arith, d, g, l)) ∙ (λ i. nat_le (max (g i) (h i)) greatest_size)
 
     depths : list_all (λ m. nat_le m.depth greatest_depth) measures ≡ nat_le (second_law_depth version c many f) greatest_depth
@@ -268,13 +274,17 @@ module _ (names : TypeNames) (c : HolType) (f : Term) where
         let h = depth_of_second version in
         let d = type_depth c in
         let e = term_depth f in
-        five (type_depth (new_type names)) (type_depth (abstraction_type names c)) (type_depth (representation_type names c)) (sequent_depth (first_law_of version names c)) (sequent_depth (second_law_of version names c f)) greatest_depth
-        (under _ _ _ _ _ _ depth_of_part g h (part-under version d part_depth e)) (under _ _ _ _ _ _ depth_of_abstraction g h (function-under version d part_depth e)) (under _ _ _ _ _ _ depth_of_representation g h (function-under version d part_depth e))
+        five (type_depth (new_type names)) (type_depth (abstraction_type names c)) (type_depth (representation_type names c))
+        (sequent_depth (first_law_of version names c)) (sequent_depth (second_law_of version names c f)) greatest_depth
+        (under _ _ _ _ _ _ depth_of_part g h (part-under version d part_depth e))
+        (under _ _ _ _ _ _ depth_of_abstraction g h (function-under version d part_depth e))
+        (under _ _ _ _ _ _ depth_of_representation g h (function-under version d part_depth e))
         ∙ ap (λ n. nat_le n greatest_depth) ((λ i. max (g i) (h i)) ∙ deepest version d part_depth e)
 
     -- what is too large
     pub measures-large : greatest_size < larger_law_size version c many f → in_limits measures ≡ Err TooLarge
-    measures-large l = unmet (list_all (λ m. nat_le m.size greatest_size) measures) TooLarge _ (sizes ∙ not_le (larger_law_size version c many f) greatest_size l)
+    measures-large l = unmet (list_all (λ m. nat_le m.size greatest_size) measures) TooLarge _
+        (sizes ∙ not_le (larger_law_size version c many f) greatest_size l)
 
     -- what isn't, and is too deep
     pub measures-deep : larger_law_size version c many f ≤ greatest_size → greatest_depth < second_law_depth version c many f → in_limits measures ≡ Err TooDeep
@@ -284,7 +294,11 @@ module _ (names : TypeNames) (c : HolType) (f : Term) where
 
     -- what is neither
     pub measures-small : larger_law_size version c many f ≤ greatest_size → second_law_depth version c many f ≤ greatest_depth → AreSmall measures
-    measures-small s l = record { sizes = sizes ∙ is_le (larger_law_size version c many f) greatest_size s; depths = depths ∙ is_le (second_law_depth version c many f) greatest_depth l }
+    measures-small s l = record {
+      sizes = sizes ∙ is_le (larger_law_size version c many f) greatest_size s;
+      depths =
+          depths ∙ is_le (second_law_depth version c many f) greatest_depth l;
+    }
 
     and-true : (b : Bool) → (b && true) ≡ b
     and-true true = refl
@@ -292,7 +306,11 @@ module _ (names : TypeNames) (c : HolType) (f : Term) where
 
     -- the number of parameters is judged last
     pub measures-counted : AreSmall measures
-        → in_limits measures ≡ demand (nat_le (parameter_count (first_law_of version names c)) greatest_parameter_count && nat_le (parameter_count (second_law_of version names c f)) greatest_parameter_count) TooManyParams
+        → in_limits measures ≡ demand
+        (nat_le (parameter_count (first_law_of version names c)) greatest_parameter_count && nat_le (parameter_count (second_law_of version names c f))
+        greatest_parameter_count) TooManyParams
     measures-counted h =
-        met (list_all (λ m. nat_le m.size greatest_size) measures) TooLarge _ h.sizes ∙ met (list_all (λ m. nat_le m.depth greatest_depth) measures) TooDeep _ h.depths
-        ∙ ap (λ b. demand (nat_le (parameter_count (first_law_of version names c)) greatest_parameter_count && b) TooManyParams) (and-true (nat_le (parameter_count (second_law_of version names c f)) greatest_parameter_count))
+        met (list_all (λ m. nat_le m.size greatest_size) measures) TooLarge _ h.sizes
+        ∙ met (list_all (λ m. nat_le m.depth greatest_depth) measures) TooDeep _ h.depths
+        ∙ ap (λ b. demand (nat_le (parameter_count (first_law_of version names c)) greatest_parameter_count && b) TooManyParams)
+        (and-true (nat_le (parameter_count (second_law_of version names c f)) greatest_parameter_count))

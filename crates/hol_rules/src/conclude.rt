@@ -15,9 +15,9 @@ use crate::limits::check_limits;
 use crate::made::{Made, Parameters, Step, StepId};
 use crate::proof::Proof;
 use common::{Fault, Memory};
-use hol_variables::ParamMemo;
 use hol_spec::StepKind;
 use hol_term::TermTable;
+use hol_variables::ParamMemo;
 use sequent::Sequent;
 use std::alloc::Global;
 

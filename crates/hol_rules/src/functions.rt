@@ -15,9 +15,9 @@ ghost use Rattle.hol_rules.specs.Views.{variable_view};
 use crate::made::{Parameters, StepId};
 use crate::proof::Proof;
 use common::{Fault, Kind, Memory};
-use hol_variables::ParamMemo;
 use hol_spec::StepKind;
 use hol_term::{TermId, TermTable, Variable};
+use hol_variables::ParamMemo;
 use sequent::Sequent;
 
 impl Proof {

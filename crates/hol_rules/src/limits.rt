@@ -7,9 +7,9 @@ ghost use Rattle.hol_variables.specs.Noted.{AreNoted};
 ghost use Rattle.sequent.specs.Sequents.{sequent_at, IsKnown};
 
 use common::{Fault, Kind};
-use hol_variables::ParamMemo;
 use hol_spec::{GREATEST_DEPTH, GREATEST_PARAMETER_COUNT, GREATEST_SIZE};
 use hol_term::TermTable;
+use hol_variables::ParamMemo;
 use sequent::Sequent;
 
 // Refuses what passes a limit: that of size, or else that of depth, or else that of the number of parameters.

@@ -11,9 +11,9 @@ ghost use Rattle.hol_rules.specs.Views.{made_of, parameters_view, step_at, step_
 use crate::made::{Made, Parameters, Step, StepId};
 use common::Memory;
 use hol_defs::Symbols;
-use hol_variables::ParamMemo;
 use hol_spec::StepKind;
 use hol_term::TermTable;
+use hol_variables::ParamMemo;
 use sequent::Sequent;
 use std::alloc::Global;
 use std::marker::Model;

@@ -26,10 +26,10 @@ use crate::proof::Proof;
 use common::{Fault, Kind, Memory};
 use hol_defs::Symbols;
 use hol_name::Name;
-use hol_variables::ParamMemo;
 use hol_spec::{GREATEST_DEPTH, GREATEST_PARAMETER_COUNT, GREATEST_SIZE, StepKind, Version};
 use hol_term::{TermId, TermTable, TermView};
 use hol_type::TypeId;
+use hol_variables::ParamMemo;
 use sequent::{Hyps, Sequent};
 use std::alloc::Global;
 

@@ -22,7 +22,8 @@ TypeOfInstance = (a b : HolType) (u body : Term) → HasType u a → type_under 
 
 -- Substitution of terms of their variables' types keeps the type, with the types put.
 abbrev pub TypeOfSubstitution : Type 0
-TypeOfSubstitution = (types : TypePairs) (terms : TermPairs) (t : Term) (a : HolType) → AreFitting terms → HasType t a → HasType (sub types terms t) (substitute types a)
+TypeOfSubstitution = (types : TypePairs) (terms : TermPairs) (t : Term) (a : HolType) → AreFitting terms → HasType t a → HasType (sub types terms t)
+    (substitute types a)
 
 -- The law of loose numbers: a typed term has no number that passes its binders.
 abbrev pub LooseTyped : Type 0

@@ -9,7 +9,8 @@ use Rattle.hol_spec.specs.declared.StepKind.{StepKind}
 
 -- Each rule makes sequents of sequents: hypotheses without repeats and a conclusion, all of type `bool`.
 abbrev pub RulesGiveSequents : Type 0
-RulesGiveSequents = (kind : StepKind) (premises : List Sequent) (parameters : Parameters) (s : Sequent) → Rule kind premises parameters s → AllByRecursion IsSequent premises → IsSequent s
+RulesGiveSequents = (kind : StepKind) (premises : List Sequent) (parameters : Parameters) (s : Sequent) → Rule kind premises parameters s
+    → AllByRecursion IsSequent premises → IsSequent s
 
 -- What each step of a proof says derives from the proof's definitions and assumptions.
 abbrev pub ProofsDerive : Type 0

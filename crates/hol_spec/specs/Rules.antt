@@ -88,7 +88,8 @@ pub data Rule : StepKind → List Sequent → Parameters → Sequent → Type 0 
       → Rule ProveHyp (one ∷ two ∷ []) nothing s
   -- the premise with types put, then terms; hypotheses that become equal are one, the first
   subst : {types : TypePairs} {terms : TermPairs} {one s : Sequent} → AreFitting terms
-      → s ≡ derived (distinct term_eq (map (sub types terms) one.hypotheses)) (sub types terms one.conclusion) → Rule Subst (one ∷ []) (substitution types terms) s
+      → s ≡ derived (distinct term_eq (map (sub types terms) one.hypotheses)) (sub types terms one.conclusion)
+      → Rule Subst (one ∷ []) (substitution types terms) s
   -- what an article assumes
   recorded : {s : Sequent} → IsSequent s → Rule Axiom [] (sequent s) s
   -- the premise's conclusion, under its hypotheses and perhaps more

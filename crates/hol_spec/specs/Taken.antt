@@ -49,7 +49,8 @@ ParametersTaken symbols Parameters.nothing = Unit {0}
 ParametersTaken symbols (Parameters.term t) = TermTaken symbols t
 ParametersTaken symbols (Parameters.variable v) = TypeTaken symbols v.1
 ParametersTaken symbols (Parameters.substitution types terms) =
-    AllByRecursion (λ (p : Name × HolType). TypeTaken symbols p.1) types × AllByRecursion (λ (p : Variable × Term). TypeTaken symbols p.0.1 × TermTaken symbols p.1) terms
+    AllByRecursion (λ (p : Name × HolType). TypeTaken symbols p.1) types
+    × AllByRecursion (λ (p : Variable × Term). TypeTaken symbols p.0.1 × TermTaken symbols p.1) terms
 ParametersTaken symbols (Parameters.sequent s) = TermsTaken symbols s
 ParametersTaken symbols (Parameters.constant n t) = TermTaken symbols t
 ParametersTaken symbols (Parameters.constants pairs) = AllByRecursion (λ (p : Name × Variable). TypeTaken symbols p.1.1) pairs

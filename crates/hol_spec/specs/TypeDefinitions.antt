@@ -40,7 +40,8 @@ represented names c t = app (constant names.representation (representation_type 
 abbrev pub first_law : TypeNames → HolType → Sequent
 first_law names c = record {
   hypotheses = [];
-  conclusion = equation (function (new_type names) (new_type names)) (lam (new_type names) (abstracted names c (represented names c (bound 0)))) (lam (new_type names) (bound 0));
+  conclusion = equation (function (new_type names) (new_type names)) (lam (new_type names) (abstracted names c (represented names c (bound 0))))
+      (lam (new_type names) (bound 0));
 }
 
 -- |- (\r. rep (abs r) = r) = (\r. f r)

@@ -16,7 +16,8 @@ terms_from-two types ts (n ∷ a) b = terms_from-two types (ts ++ tree_of_node (
 
 goes_on : (types : List HolType) (ts : List Term) (es : List Entry) → (l : List Term) × (ts ++ l ≡ terms_from types ts es)
 goes_on types ts [] = ([], append-nil ts)
-goes_on types ts (n ∷ es) = let h = goes_on types (ts ++ tree_of_node (over types ts) n.node ∷ []) es in (tree_of_node (over types ts) n.node ∷ h.0, sym (append_assoc ts (tree_of_node (over types ts) n.node ∷ []) h.0) ∙ h.1)
+goes_on types ts (n ∷ es) = let h = goes_on types (ts ++ tree_of_node (over types ts) n.node ∷ []) es in
+    (tree_of_node (over types ts) n.node ∷ h.0, sym (append_assoc ts (tree_of_node (over types ts) n.node ∷ []) h.0) ∙ h.1)
 
 split : (types : List HolType) (n : ℕ) (es : List Entry) → terms_of types es ≡ terms_from types (terms_of types (take n es)) (drop n es)
 split types n es = ap (terms_of types) (sym (take-append-drop n es)) ∙ terms_from-two types [] (take n es) (drop n es)

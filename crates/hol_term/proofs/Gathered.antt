@@ -71,21 +71,25 @@ gathered-append head [] ys = refl
 gathered-append head (x ∷ xs) ys = ap (λ l. head x ++ l) (gathered-append head xs ys) ∙ sym (append_assoc (head x) (gathered head xs) (gathered head ys))
 
 -- of elements that are taken once the same is gathered, if each of it is taken once
-module _ {A B : Type 0} (same : A → A → Bool) (itself : (x : A) → same x x ≡ true) (eq : B → B → Bool) (decides : (x y : B) → eq x y ≡ true → x ≡ y) (head : B → List A) where
+module _ {A B : Type 0} (same : A → A → Bool) (itself : (x : A) → same x x ≡ true) (eq : B → B → Bool) (decides : (x y : B) → eq x y ≡ true → x ≡ y)
+    (head : B → List A) where
   was_gathered : (y : B) (xs : List B) (found : List A) → is_in eq y xs ≡ true → AreIn same (union same found (gathered head xs)) (head y)
   was_gathered y [] found e = absurd (cc)
   was_gathered y (x ∷ xs) found e = subst (λ l. AreIn same l (head y)) (sym (union-append same (head x) (gathered head xs) found)) (⊎_elim
-      (λ a. AreIn-union same itself (gathered head xs) (union same found (head x)) (head y) (subst (λ z. AreIn same (union same found (head x)) (head z)) (sym (decides y x a)) (AreIn-itself same itself (head x) found)))
+      (λ a. AreIn-union same itself (gathered head xs) (union same found (head x)) (head y)
+      (subst (λ z. AreIn same (union same found (head x)) (head z)) (sym (decides y x a)) (AreIn-itself same itself (head x) found)))
       (λ b. was_gathered y xs (union same found (head x)) b)
       (or_either (eq y x) (list_any (eq y) xs) e))
 
-  step : (b : Bool) (y : B) (ys xs : List B) (found : List A) → is_in eq y xs ≡ b → union same found (gathered head (cond b xs (xs ++ y ∷ []) ++ ys)) ≡ union same found (gathered head (xs ++ y ∷ ys))
+  step : (b : Bool) (y : B) (ys xs : List B) (found : List A) → is_in eq y xs ≡ b → union same found (gathered head (cond b xs (xs ++ y ∷ []) ++ ys))
+      ≡ union same found (gathered head (xs ++ y ∷ ys))
   step false y ys xs found e = ap (λ l. union same found (gathered head l)) (append_assoc xs (y ∷ []) ys)
   step true y ys xs found e =
       ap (union same found) (gathered-append head xs ys)
       ∙ union-append same (gathered head xs) (gathered head ys) found
       ∙ ap (λ l. union same l (gathered head ys)) (sym (union-there same (head y) (union same found (gathered head xs)) (was_gathered y xs found e)))
-      ∙ sym (ap (union same found) (gathered-append head xs (y ∷ ys)) ∙ union-append same (gathered head xs) (head y ++ gathered head ys) found ∙ union-append same (head y) (gathered head ys) (union same found (gathered head xs)))
+      ∙ sym (ap (union same found) (gathered-append head xs (y ∷ ys)) ∙ union-append same (gathered head xs) (head y ++ gathered head ys) found
+      ∙ union-append same (head y) (gathered head ys) (union same found (gathered head xs)))
 
   pub gathered-union : (ys xs : List B) (found : List A) → union same found (gathered head (union eq xs ys)) ≡ union same found (gathered head (xs ++ ys))
   gathered-union [] xs found = ap (λ l. union same found (gathered head l)) (sym (append-nil xs))
@@ -119,11 +123,16 @@ free_in n t (lam u b ∷ xs) = free_in n t xs
 none_more : (y : Term) (xs : List Term) → free_head y ≡ [] → gathered free_head (xs ++ y ∷ []) ≡ gathered free_head xs
 none_more y xs e = gathered-append free_head xs (y ∷ []) ∙ ap (λ l. gathered free_head xs ++ (l ++ [])) e ∙ append-nil (gathered free_head xs)
 
-none_step : (b : Bool) (y : Term) (ys xs : List Term) → free_head y ≡ [] → union variable_eq (gathered free_head (cond b xs (xs ++ y ∷ []))) (gathered free_head ys) ≡ union variable_eq (gathered free_head xs) (gathered free_head (y ∷ ys))
+none_step : (b : Bool) (y : Term) (ys xs : List Term) → free_head y ≡ []
+    → union variable_eq (gathered free_head (cond b xs (xs ++ y ∷ []))) (gathered free_head ys)
+    ≡ union variable_eq (gathered free_head xs) (gathered free_head (y ∷ ys))
 none_step true y ys xs e = ap (λ l. union variable_eq (gathered free_head xs) (l ++ gathered free_head ys)) (sym e)
-none_step false y ys xs e = ap (λ l. union variable_eq l (gathered free_head ys)) (none_more y xs e) ∙ ap (λ l. union variable_eq (gathered free_head xs) (l ++ gathered free_head ys)) (sym e)
+none_step false y ys xs e = ap (λ l. union variable_eq l (gathered free_head ys)) (none_more y xs e) ∙ ap
+    (λ l. union variable_eq (gathered free_head xs) (l ++ gathered free_head ys)) (sym e)
 
-free_step : (b : Bool) (y : Term) (ys xs : List Term) → is_in term_eq y xs ≡ b → union variable_eq (gathered free_head (cond b xs (xs ++ y ∷ []))) (gathered free_head ys) ≡ union variable_eq (gathered free_head xs) (gathered free_head (y ∷ ys))
+free_step : (b : Bool) (y : Term) (ys xs : List Term) → is_in term_eq y xs ≡ b
+    → union variable_eq (gathered free_head (cond b xs (xs ++ y ∷ []))) (gathered free_head ys)
+    ≡ union variable_eq (gathered free_head xs) (gathered free_head (y ∷ ys))
 free_step b (bound k) ys xs e = none_step b (bound k) ys xs refl
 free_step b (constant m u) ys xs e = none_step b (constant m u) ys xs refl
 free_step b (app f x) ys xs e = none_step b (app f x) ys xs refl
@@ -144,4 +153,5 @@ free_of_distinct t = free_union (subterms t) [] ∙ ap (distinct variable_eq) (f
 
 -- the type variables of the parts of a term, each part taken once
 pub types_of_distinct : (t : Term) → distinct name_eq (gathered type_head (distinct term_eq (subterms t))) ≡ distinct name_eq (type_variable_places t)
-types_of_distinct t = gathered-union name_eq (λ n. (name_eq-Decides n n).1 refl) term_eq (λ x y e. (term_eq-Decides x y).0 e) type_head (subterms t) [] [] ∙ ap (distinct name_eq) (types_of_parts t)
+types_of_distinct t = gathered-union name_eq (λ n. (name_eq-Decides n n).1 refl) term_eq (λ x y e. (term_eq-Decides x y).0 e) type_head (subterms t) [] [] ∙ ap
+    (distinct name_eq) (types_of_parts t)

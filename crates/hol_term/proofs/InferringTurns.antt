@@ -31,21 +31,30 @@ use Rattle.hol_term.proofs.SubstitutionTurns.{size-positive}
 use Rattle.hol_term.proofs.Typings.{in_closed, in_leaf, in_bound}
 
 -- a walk over the same lists
-pub same_inferring : (root : Option HolType) (b : Trees) (ls ms : List (List TypeId)) (found notes : List (Seat × Option TypeId)) (steps others : List Step) (types more : List (Option TypeId)) → ms ≡ ls → notes ≡ found → others ≡ steps → more ≡ types
+pub same_inferring : (root : Option HolType) (b : Trees) (ls ms : List (List TypeId)) (found notes : List (Seat × Option TypeId)) (steps others : List Step)
+    (types more : List (Option TypeId)) → ms ≡ ls → notes ≡ found → others ≡ steps → more ≡ types
     → IsInferring root b ls found steps types → IsInferring root b ms notes others more
 same_inferring root b ls ms found notes steps others types more d e f g w =
-    subst (λ l. IsInferring root b l notes others more) (sym d) (subst (λ l. IsInferring root b ls l others more) (sym e) (subst (λ l. IsInferring root b ls found l more) (sym f) (subst (IsInferring root b ls found steps) (sym g) w)))
+    subst (λ l. IsInferring root b l notes others more) (sym d)
+    (subst (λ l. IsInferring root b ls l others more) (sym e)
+    (subst (λ l. IsInferring root b ls found l more) (sym f) (subst (IsInferring root b ls found steps) (sym g) w)))
 
-AreTypeNumbers-Keeps : {a b : List HolType} → type.Keeps a b → (ids : List (Option TypeId)) (os : List (Option HolType)) → AreTypeNumbers a ids os → AreTypeNumbers b ids os
+AreTypeNumbers-Keeps : {a b : List HolType} → type.Keeps a b → (ids : List (Option TypeId)) (os : List (Option HolType)) → AreTypeNumbers a ids os
+    → AreTypeNumbers b ids os
 AreTypeNumbers-Keeps k [] [] h = tt
 AreTypeNumbers-Keeps k (id ∷ ids) (o ∷ os) h = (IsTypeNumber-Keeps k id o h.0, AreTypeNumbers-Keeps k ids os h.1)
 AreTypeNumbers-Keeps k [] (o ∷ os) h = absurd h
 AreTypeNumbers-Keeps k (id ∷ ids) [] h = absurd h
 
 -- with more types and more lists, the steps come to the same
-module _ (a b : Trees) (k : Keeps a b) (ls ms : List (List TypeId)) (kept : KeepsLists ls ms) (known : (i : ℕ) (l : List TypeId) → slice_get ls i ≡ Some l → type.AreKnown a.types l) where
+module _ (a b : Trees) (k : Keeps a b) (ls ms : List (List TypeId)) (kept : KeepsLists ls ms)
+    (known : (i : ℕ) (l : List TypeId) → slice_get ls i ≡ Some l → type.AreKnown a.types l) where
   HasSeatType-later : (s : Seat) (o : Option HolType) → HasSeatType a ls s o → HasSeatType b ms s o
-  HasSeatType-later s o h = (IsSeat-later a b k ls ms kept s h.0, sym (seat_type-later a b k ls ms kept s h.0 (known s.scope.0 (list_in ls s.scope.0) (list_in-Some ls s.scope.0 h.0.1))) ∙ h.1)
+  HasSeatType-later s o h = (
+    IsSeat-later a b k ls ms kept s h.0,
+    sym
+        (seat_type-later a b k ls ms kept s h.0 (known s.scope.0 (list_in ls s.scope.0) (list_in-Some ls s.scope.0 h.0.1))) ∙ h.1,
+  )
 
   Ends-later : (root : Option HolType) (steps : List Step) (os : List (Option HolType)) → Ends a ls root steps os → Ends b ms root steps os
   Ends-later root [] os h = h
@@ -58,10 +67,12 @@ module _ (a b : Trees) (k : Keeps a b) (ls ms : List (List TypeId)) (kept : Keep
   Ends-later root (Abstract s ty ∷ rest) [] h = absurd h
 
 -- a walk at its beginning, and at its end
-pub inferring_begins : (b : Trees) (ls : List (List TypeId)) (found : List (Seat × Option TypeId)) (s : Seat) → IsSeat b ls s → AreTypings b ls found → IsInferring (seat_type b ls s) b ls found (Visit s ∷ []) []
+pub inferring_begins : (b : Trees) (ls : List (List TypeId)) (found : List (Seat × Option TypeId)) (s : Seat) → IsSeat b ls s → AreTypings b ls found
+    → IsInferring (seat_type b ls s) b ls found (Visit s ∷ []) []
 inferring_begins b ls found s seat typings = record { typings = typings; values = []; numbers = tt; ends = (seat_type b ls s, (seat, refl), refl) }
 
-pub inferring_ends : (root : Option HolType) (b : Trees) (ls : List (List TypeId)) (found : List (Seat × Option TypeId)) (types : List (Option TypeId)) → IsInferring root b ls found [] types → NotEmpty types
+pub inferring_ends : (root : Option HolType) (b : Trees) (ls : List (List TypeId)) (found : List (Seat × Option TypeId)) (types : List (Option TypeId))
+    → IsInferring root b ls found [] types → NotEmpty types
 inferring_ends root b ls found types w = go types w.values w.numbers w.ends
   where
     go : (types : List (Option TypeId)) (os : List (Option HolType)) → AreTypeNumbers b.types types os → os ≡ root ∷ [] → NotEmpty types
@@ -69,7 +80,8 @@ inferring_ends root b ls found types w = go types w.values w.numbers w.ends
     go [] (o ∷ os) h e = absurd h
     go (r ∷ types) os h e = tt
 
-pub inferring_gives : (root : Option HolType) (b : Trees) (ls : List (List TypeId)) (found : List (Seat × Option TypeId)) (types : List (Option TypeId)) (r : Option TypeId) → IsInferring root b ls found [] (r ∷ types) → IsTypeNumber b.types r root
+pub inferring_gives : (root : Option HolType) (b : Trees) (ls : List (List TypeId)) (found : List (Seat × Option TypeId)) (types : List (Option TypeId))
+    (r : Option TypeId) → IsInferring root b ls found [] (r ∷ types) → IsTypeNumber b.types r root
 inferring_gives root b ls found types r w = go w.values w.numbers w.ends
   where
     top : List (Option HolType) → Option HolType
@@ -81,10 +93,14 @@ inferring_gives root b ls found types r w = go w.values w.numbers w.ends
     go (o ∷ os) h e = let same : o ≡ root = ap top e in subst (IsTypeNumber b.types r) same h.0
 
 -- a type that is found and noted
-module _ (root : Option HolType) (b g : Trees) (k : Keeps b g) (ls : List (List TypeId)) (found more : List (Seat × Option TypeId)) (s : Seat) (steps : List Step) (types : List (Option TypeId)) (r : Option TypeId) (notes : (q : Seat) (u : Option TypeId) → IsNoted more q u → IsNoted found q u ⊎ ((q ≡ s) × (u ≡ r))) where
-  kept : (os : List (Option HolType)) (o : Option HolType) → AreTypings b ls found → AreTypeNumbers b.types types os → HasSeatType b ls s o → IsTypeNumber g.types r o → Ends b ls root steps (o ∷ os) → IsInferring root g ls more steps (r ∷ types)
+module _ (root : Option HolType) (b g : Trees) (k : Keeps b g) (ls : List (List TypeId)) (found more : List (Seat × Option TypeId)) (s : Seat)
+    (steps : List Step) (types : List (Option TypeId)) (r : Option TypeId)
+    (notes : (q : Seat) (u : Option TypeId) → IsNoted more q u → IsNoted found q u ⊎ ((q ≡ s) × (u ≡ r))) where
+  kept : (os : List (Option HolType)) (o : Option HolType) → AreTypings b ls found → AreTypeNumbers b.types types os → HasSeatType b ls s o
+      → IsTypeNumber g.types r o → Ends b ls root steps (o ∷ os) → IsInferring root g ls more steps (r ∷ types)
   kept os o typings numbers at h ends = record {
-    typings = AreTypings-noted b g k ls ls found more s r (KeepsLists-refl ls) at.0 (binders_known b ls found typings s.scope.0 at.0.1) (AreTypings-Keeps b g ls found k typings) (subst (IsTypeNumber g.types r) (sym at.1) h) notes;
+    typings = AreTypings-noted b g k ls ls found more s r (KeepsLists-refl ls) at.0 (binders_known b ls found typings s.scope.0 at.0.1)
+        (AreTypings-Keeps b g ls found k typings) (subst (IsTypeNumber g.types r) (sym at.1) h) notes;
     values = o ∷ os;
     numbers = (h, AreTypeNumbers-Keeps k.types types os numbers);
     ends = Ends-later b g k ls ls (KeepsLists-refl ls) typings.known root steps (o ∷ os) ends;
@@ -94,20 +110,25 @@ module _ (root : Option HolType) (b g : Trees) (k : Keeps b g) (ls : List (List 
 pub visit_less : (b : Trees) (s : Seat) (steps : List Step) → count b.terms steps < count b.terms (Visit s ∷ steps)
 visit_less b s steps = let l = size-positive (term_at b s.id.0) in omega (arith, l)
 
-pub application_count : (b : Trees) (s : Seat) (steps : List Step) (f x : TermId) → term_at b s.id.0 ≡ app (term_at b f.0) (term_at b x.0) → count b.terms (Visit (record { id = f; scope = s.scope }) ∷ Visit (record { id = x; scope = s.scope }) ∷ Apply s ∷ steps) < count b.terms (Visit s ∷ steps)
+pub application_count : (b : Trees) (s : Seat) (steps : List Step) (f x : TermId) → term_at b s.id.0 ≡ app (term_at b f.0) (term_at b x.0)
+    → count b.terms (Visit (record { id = f; scope = s.scope }) ∷ Visit (record { id = x; scope = s.scope }) ∷ Apply s ∷ steps) < count b.terms
+    (Visit s ∷ steps)
 application_count b s steps f x at = let e = ap term_size at in omega (arith, e)
 
-pub abstraction_count : (b : Trees) (s : Seat) (steps : List Step) (ty : TypeId) (scope : ScopeId) (x : TermId) → term_at b s.id.0 ≡ lam (type_at b ty.0) (term_at b x.0) → count b.terms (Visit (record { id = x; scope = scope }) ∷ Abstract s ty ∷ steps) < count b.terms (Visit s ∷ steps)
+pub abstraction_count : (b : Trees) (s : Seat) (steps : List Step) (ty : TypeId) (scope : ScopeId) (x : TermId) → term_at b s.id.0
+    ≡ lam (type_at b ty.0) (term_at b x.0) → count b.terms (Visit (record { id = x; scope = scope }) ∷ Abstract s ty ∷ steps) < count b.terms (Visit s ∷ steps)
 abstraction_count b s steps ty scope x at = let e = ap term_size at in omega (arith, e)
 
-module _ (root : Option HolType) (b : Trees) (ls : List (List TypeId)) (found : List (Seat × Option TypeId)) (s : Seat) (steps : List Step) (types : List (Option TypeId)) (w : IsInferring root b ls found (Visit s ∷ steps) types) where
+module _ (root : Option HolType) (b : Trees) (ls : List (List TypeId)) (found : List (Seat × Option TypeId)) (s : Seat) (steps : List Step)
+    (types : List (Option TypeId)) (w : IsInferring root b ls found (Visit s ∷ steps) types) where
   pub visit_known : IsSeat b ls s
   visit_known = w.ends.1.0
 
   pub visit_binders : type.AreKnown b.types (list_in ls s.scope.0)
   visit_binders = binders_known b ls found w.typings s.scope.0 w.ends.1.0.1
 
-  pub found_again : (r : Option TypeId) → ((loose (term_at b s.id.0) ≡ 0) × IsTypeNumber b.types r (type_of (term_at b s.id.0))) ⊎ IsNoted found s r → IsInferring root b ls found steps (r ∷ types)
+  pub found_again : (r : Option TypeId) → ((loose (term_at b s.id.0) ≡ 0) × IsTypeNumber b.types r (type_of (term_at b s.id.0))) ⊎ IsNoted found s r
+      → IsInferring root b ls found steps (r ∷ types)
   found_again r h = record { typings = w.typings; values = w.ends.0 ∷ w.values; numbers = (own, w.numbers); ends = w.ends.2 }
     where
       own : IsTypeNumber b.types r w.ends.0
@@ -117,9 +138,11 @@ module _ (root : Option HolType) (b : Trees) (ls : List (List TypeId)) (found : 
           h)
 
   -- a leaf
-  module _ (more : List (Seat × Option TypeId)) (r : Option TypeId) (notes : (q : Seat) (u : Option TypeId) → IsNoted more q u → IsNoted found q u ⊎ ((q ≡ s) × (u ≡ r))) where
+  module _ (more : List (Seat × Option TypeId)) (r : Option TypeId)
+      (notes : (q : Seat) (u : Option TypeId) → IsNoted more q u → IsNoted found q u ⊎ ((q ≡ s) × (u ≡ r))) where
     found_at : IsTypeNumber b.types r (seat_type b ls s) → IsInferring root b ls more steps (r ∷ types)
-    found_at h = kept root b b (Keeps-refl b) ls found more s steps types r notes w.values w.ends.0 w.typings w.numbers w.ends.1 (subst (IsTypeNumber b.types r) w.ends.1.1 h) w.ends.2
+    found_at h = kept root b b (Keeps-refl b) ls found more s steps types r notes w.values w.ends.0 w.typings w.numbers w.ends.1
+        (subst (IsTypeNumber b.types r) w.ends.1.1 h) w.ends.2
 
     pub found_leaf : IsLeaf (term_at b s.id.0) → IsTypeNumber b.types r (type_of (term_at b s.id.0)) → IsInferring root b ls more steps (r ∷ types)
     found_leaf leaf h = found_at (in_leaf b (list_in ls s.scope.0) s.id.0 r leaf h)
@@ -129,7 +152,8 @@ module _ (root : Option HolType) (b : Trees) (ls : List (List TypeId)) (found : 
 
   -- an application
   module _ (f x : TermId) (e : term_at b s.id.0 ≡ app (term_at b f.0) (term_at b x.0)) (lf : f.0 < s.id.0) (lx : x.0 < s.id.0) where
-    pub infer_application : IsInferring root b ls found (Visit (record { id = f; scope = s.scope }) ∷ Visit (record { id = x; scope = s.scope }) ∷ Apply s ∷ steps) types
+    pub infer_application : IsInferring root b ls found
+        (Visit (record { id = f; scope = s.scope }) ∷ Visit (record { id = x; scope = s.scope }) ∷ Apply s ∷ steps) types
     infer_application =
         let bs = list_in ls s.scope.0 in
         let lt = w.ends.1.0.0 in
@@ -150,7 +174,9 @@ module _ (root : Option HolType) (b : Trees) (ls : List (List TypeId)) (found : 
         }
 
   -- an abstraction, once its variable is put before the binders
-  module _ (ms : List (List TypeId)) (ty : TypeId) (keeps : KeepsLists ls ms) (adds : AddsList ls ms (ty ∷ list_in ls s.scope.0)) (scope : ScopeId) (entered : slice_get ms scope.0 ≡ Some (ty ∷ list_in ls s.scope.0)) (x : TermId) (e : term_at b s.id.0 ≡ lam (type_at b ty.0) (term_at b x.0)) (lx : x.0 < s.id.0) (lt : ty.0 < length b.types) where
+  module _ (ms : List (List TypeId)) (ty : TypeId) (keeps : KeepsLists ls ms) (adds : AddsList ls ms (ty ∷ list_in ls s.scope.0)) (scope : ScopeId)
+      (entered : slice_get ms scope.0 ≡ Some (ty ∷ list_in ls s.scope.0)) (x : TermId) (e : term_at b s.id.0 ≡ lam (type_at b ty.0) (term_at b x.0))
+      (lx : x.0 < s.id.0) (lt : ty.0 < length b.types) where
     pub infer_abstraction : IsInferring root b ms found (Visit (record { id = x; scope = scope }) ∷ Abstract s ty ∷ steps) types
     infer_abstraction =
         let bs = list_in ls s.scope.0 in
@@ -169,7 +195,8 @@ module _ (root : Option HolType) (b : Trees) (ls : List (List TypeId)) (found : 
               type_at b ty.0,
               type_law.tree_at-Holds b.types ty.0 lt,
               HasSeatType-later b b (Keeps-refl b) ls ms keeps w.typings.known s made (w.ends.1.0, same),
-              Ends-later b b (Keeps-refl b) ls ms keeps w.typings.known root steps (made ∷ w.values) (subst (λ o. Ends b ls root steps (o ∷ w.values)) (sym w.ends.1.1 ∙ same) w.ends.2),
+              Ends-later b b (Keeps-refl b) ls ms keeps w.typings.known root steps (made ∷ w.values)
+                  (subst (λ o. Ends b ls root steps (o ∷ w.values)) (sym w.ends.1.1 ∙ same) w.ends.2),
             ),
           );
         }
@@ -188,13 +215,15 @@ module _ (root : Option HolType) (b : Trees) (ls : List (List TypeId)) (found : 
   pub apply_one : (x : Option TypeId) (types : List (Option TypeId)) → IsInferring root b ls found (Apply s ∷ steps) (x ∷ types) → NotEmpty types
   apply_one x types w = go types w.values w.numbers w.ends
     where
-      go : (types : List (Option TypeId)) (os : List (Option HolType)) → AreTypeNumbers b.types (x ∷ types) os → Ends b ls root (Apply s ∷ steps) os → NotEmpty types
+      go : (types : List (Option TypeId)) (os : List (Option HolType)) → AreTypeNumbers b.types (x ∷ types) os → Ends b ls root (Apply s ∷ steps) os
+          → NotEmpty types
       go [] [] h e = absurd e
       go [] (o ∷ []) h e = absurd e
       go [] (o ∷ p ∷ os) h e = absurd h.1
       go (r ∷ types) os h e = tt
 
-  pub apply_known : (x f : Option TypeId) (types : List (Option TypeId)) → IsInferring root b ls found (Apply s ∷ steps) (x ∷ f ∷ types) → (o : Option HolType) × IsTypeNumber b.types f o
+  pub apply_known : (x f : Option TypeId) (types : List (Option TypeId)) → IsInferring root b ls found (Apply s ∷ steps) (x ∷ f ∷ types) → (o : Option HolType)
+      × IsTypeNumber b.types f o
   apply_known x f types w = go w.values w.numbers
     where
       go : (os : List (Option HolType)) → AreTypeNumbers b.types (x ∷ f ∷ types) os → (o : Option HolType) × IsTypeNumber b.types f o
@@ -202,11 +231,15 @@ module _ (root : Option HolType) (b : Trees) (ls : List (List TypeId)) (found : 
       go (o ∷ []) h = absurd h.1
       go (o ∷ p ∷ os) h = (p, h.1.0)
 
-  pub found_application : (more : List (Seat × Option TypeId)) (r : Option TypeId) → ((q : Seat) (u : Option TypeId) → IsNoted more q u → IsNoted found q u ⊎ ((q ≡ s) × (u ≡ r)))
-      → (x f : Option TypeId) (types : List (Option TypeId)) → IsInferring root b ls found (Apply s ∷ steps) (x ∷ f ∷ types) → ((o p : Option HolType) → IsTypeNumber b.types f o → IsTypeNumber b.types x p → IsTypeNumber b.types r (application_type o p)) → IsInferring root b ls more steps (r ∷ types)
+  pub found_application : (more : List (Seat × Option TypeId)) (r : Option TypeId)
+      → ((q : Seat) (u : Option TypeId) → IsNoted more q u → IsNoted found q u ⊎ ((q ≡ s) × (u ≡ r)))
+      → (x f : Option TypeId) (types : List (Option TypeId)) → IsInferring root b ls found (Apply s ∷ steps) (x ∷ f ∷ types)
+      → ((o p : Option HolType) → IsTypeNumber b.types f o → IsTypeNumber b.types x p → IsTypeNumber b.types r (application_type o p))
+      → IsInferring root b ls more steps (r ∷ types)
   found_application more r notes x f types w h = go w.values w.numbers w.ends
     where
-      go : (os : List (Option HolType)) → AreTypeNumbers b.types (x ∷ f ∷ types) os → Ends b ls root (Apply s ∷ steps) os → IsInferring root b ls more steps (r ∷ types)
+      go : (os : List (Option HolType)) → AreTypeNumbers b.types (x ∷ f ∷ types) os → Ends b ls root (Apply s ∷ steps) os
+          → IsInferring root b ls more steps (r ∷ types)
       go [] n e = absurd e
       go (o ∷ []) n e = absurd e
       go (o ∷ p ∷ os) n e = kept root b b (Keeps-refl b) ls found more s steps types r notes os (application_type p o) w.typings n.1.1 e.0 (h p o n.1.0 n.0) e.1
@@ -215,24 +248,32 @@ module _ (root : Option HolType) (b : Trees) (ls : List (List TypeId)) (found : 
   pub abstract_one : (types : List (Option TypeId)) → IsInferring root b ls found (Abstract s ty ∷ steps) types → NotEmpty types
   abstract_one types w = go types w.values w.numbers w.ends
     where
-      go : (types : List (Option TypeId)) (os : List (Option HolType)) → AreTypeNumbers b.types types os → Ends b ls root (Abstract s ty ∷ steps) os → NotEmpty types
+      go : (types : List (Option TypeId)) (os : List (Option HolType)) → AreTypeNumbers b.types types os → Ends b ls root (Abstract s ty ∷ steps) os
+          → NotEmpty types
       go [] [] h e = absurd e
       go [] (o ∷ os) h e = absurd h
       go (r ∷ types) os h e = tt
 
-  pub abstract_known : (x : Option TypeId) (types : List (Option TypeId)) → IsInferring root b ls found (Abstract s ty ∷ steps) (x ∷ types) → (ty.0 < length b.types) × ((o : Option HolType) × IsTypeNumber b.types x o)
+  pub abstract_known : (x : Option TypeId) (types : List (Option TypeId)) → IsInferring root b ls found (Abstract s ty ∷ steps) (x ∷ types)
+      → (ty.0 < length b.types) × ((o : Option HolType) × IsTypeNumber b.types x o)
   abstract_known x types w = go w.values w.numbers w.ends
     where
-      go : (os : List (Option HolType)) → AreTypeNumbers b.types (x ∷ types) os → Ends b ls root (Abstract s ty ∷ steps) os → (ty.0 < length b.types) × ((o : Option HolType) × IsTypeNumber b.types x o)
+      go : (os : List (Option HolType)) → AreTypeNumbers b.types (x ∷ types) os → Ends b ls root (Abstract s ty ∷ steps) os → (ty.0 < length b.types)
+          × ((o : Option HolType) × IsTypeNumber b.types x o)
       go [] h e = absurd h
       go (o ∷ os) h e = (slice_get_within b.types ty.0 e.0 e.1, (o, h.0))
 
-  pub found_abstraction : (g : Trees) → Keeps b g → (more : List (Seat × Option TypeId)) (r : Option TypeId) → ((q : Seat) (u : Option TypeId) → IsNoted more q u → IsNoted found q u ⊎ ((q ≡ s) × (u ≡ r)))
-      → (x : Option TypeId) (types : List (Option TypeId)) → IsInferring root b ls found (Abstract s ty ∷ steps) (x ∷ types) → ((o : Option HolType) → IsTypeNumber b.types x o → IsTypeNumber g.types r (option_map (function (type_at b ty.0)) o)) → IsInferring root g ls more steps (r ∷ types)
+  pub found_abstraction : (g : Trees) → Keeps b g → (more : List (Seat × Option TypeId)) (r : Option TypeId)
+      → ((q : Seat) (u : Option TypeId) → IsNoted more q u → IsNoted found q u ⊎ ((q ≡ s) × (u ≡ r)))
+      → (x : Option TypeId) (types : List (Option TypeId)) → IsInferring root b ls found (Abstract s ty ∷ steps) (x ∷ types)
+      → ((o : Option HolType) → IsTypeNumber b.types x o → IsTypeNumber g.types r (option_map (function (type_at b ty.0)) o))
+      → IsInferring root g ls more steps (r ∷ types)
   found_abstraction g k more r notes x types w h = go w.values w.numbers w.ends
     where
-      go : (os : List (Option HolType)) → AreTypeNumbers b.types (x ∷ types) os → Ends b ls root (Abstract s ty ∷ steps) os → IsInferring root g ls more steps (r ∷ types)
+      go : (os : List (Option HolType)) → AreTypeNumbers b.types (x ∷ types) os → Ends b ls root (Abstract s ty ∷ steps) os
+          → IsInferring root g ls more steps (r ∷ types)
       go [] n e = absurd e
       go (o ∷ os) n e =
           let same : type_at b ty.0 ≡ e.0 = type_law.Holds-tree_at b.types ty.0 e.0 e.1 in
-          kept root b g k ls found more s steps types r notes os (option_map (function e.0) o) w.typings n.1 e.2 (subst (λ t. IsTypeNumber g.types r (option_map (function t) o)) same (h o n.0)) e.3
+          kept root b g k ls found more s steps types r notes os (option_map (function e.0) o) w.typings n.1 e.2
+          (subst (λ t. IsTypeNumber g.types r (option_map (function t) o)) same (h o n.0)) e.3

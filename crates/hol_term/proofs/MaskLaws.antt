@@ -49,10 +49,12 @@ HasBit-own n = bit_at-pow_same (bit_of n)
 
 -- the mask of two parts together has the bits of either
 pub HasBits-left : (r m k : ℕ) (t : Term) → r ≡ bit_or m k → HasBits m t → HasBits r t
-HasBits-left r m k t e h = subst (λ x. HasBits x t) (sym e) (EachFree-weaker (λ v. HasBit m v.0) (λ v. HasBit (bit_or m k) v.0) (λ v b. HasBit-left m k v.0 b) t h)
+HasBits-left r m k t e h = subst (λ x. HasBits x t) (sym e)
+    (EachFree-weaker (λ v. HasBit m v.0) (λ v. HasBit (bit_or m k) v.0) (λ v b. HasBit-left m k v.0 b) t h)
 
 pub HasBits-right : (r m k : ℕ) (t : Term) → r ≡ bit_or m k → HasBits k t → HasBits r t
-HasBits-right r m k t e h = subst (λ x. HasBits x t) (sym e) (EachFree-weaker (λ v. HasBit k v.0) (λ v. HasBit (bit_or m k) v.0) (λ v b. HasBit-right m k v.0 b) t h)
+HasBits-right r m k t e h = subst (λ x. HasBits x t) (sym e)
+    (EachFree-weaker (λ v. HasBit k v.0) (λ v. HasBit (bit_or m k) v.0) (λ v b. HasBit-right m k v.0 b) t h)
 
 -- names of masks that share no bit differ
 pub names_apart : (m k : ℕ) (n o : Name) → bit_and m k ≡ 0 → HasBit m n → HasBit k o → n ≡ o → ⊥
@@ -64,7 +66,8 @@ names_apart m k n o none hm hk e =
 
 -- a variable isn't free in a tree whose mask lacks the bit of its name
 pub IsWithout-mask : (m k : ℕ) (v : AVariable) (t : Term) → bit_and m k ≡ 0 → HasBit k v.0 → HasBits m t → IsWithout v t
-IsWithout-mask m k v t none own h = EachFree-weaker (λ w. HasBit m w.0) (λ w. w ≡ v → ⊥) (λ w has e. names_apart m k w.0 v.0 none has own (ap (λ (x : AVariable). x.0) e)) t h
+IsWithout-mask m k v t none own h = EachFree-weaker (λ w. HasBit m w.0) (λ w. w ≡ v → ⊥)
+    (λ w has e. names_apart m k w.0 v.0 none has own (ap (λ (x : AVariable). x.0) e)) t h
 
 -- to close over a variable that isn't free in the tree leaves it alone, where no number passes the binders
 pub close_at-without : (d : ℕ) (v : AVariable) (t : Term) → IsWithout v t → loose t ≤ d → close_at d v t ≡ t
@@ -88,24 +91,30 @@ HasBit-with_pairs m [] n h = h
 HasBit-with_pairs m (p ∷ ps) n h = HasBit-with_pairs (bit_or m (2 ^ bit_of p.0.name)) ps n (HasBit-left m (2 ^ bit_of p.0.name) n h)
 
 -- no pair has a variable of a name of which the mask has the bit, where it has none of theirs
-lookup-without : (trees : Trees) (m k : ℕ) (ps : List (Variable × TermId)) (n : Name) (a : HolType) → bit_and m (with_pairs k ps) ≡ 0 → HasBit m n → lookup (variable_eq (n, a)) (term_pairs_at trees ps) ≡ None
+lookup-without : (trees : Trees) (m k : ℕ) (ps : List (Variable × TermId)) (n : Name) (a : HolType) → bit_and m (with_pairs k ps) ≡ 0 → HasBit m n
+    → lookup (variable_eq (n, a)) (term_pairs_at trees ps) ≡ None
 lookup-without trees m k [] n a none h = refl
 lookup-without trees m k (p ∷ ps) n a none h = first (lookup-without trees m (bit_or k (2 ^ bit_of p.0.name)) ps n a none h)
   where
     own : HasBit (with_pairs k (p ∷ ps)) p.0.name
     own = HasBit-with_pairs (bit_or k (2 ^ bit_of p.0.name)) ps p.0.name (HasBit-right k (2 ^ bit_of p.0.name) p.0.name (HasBit-own p.0.name))
 
-    go : (b : Bool) → variable_eq (n, a) (p.0.name, type_at trees p.0.ty.0) ≡ b → lookup (variable_eq (n, a)) (term_pairs_at trees ps) ≡ None → lookup (variable_eq (n, a)) (term_pairs_at trees (p ∷ ps)) ≡ None
-    go true e rest = absurd (names_apart m (with_pairs k (p ∷ ps)) n p.0.name none h own (ap (λ (x : AVariable). x.0) ((variable_eq-Decides (n, a) (p.0.name, type_at trees p.0.ty.0)).0 e)))
+    go : (b : Bool) → variable_eq (n, a) (p.0.name, type_at trees p.0.ty.0) ≡ b → lookup (variable_eq (n, a)) (term_pairs_at trees ps) ≡ None
+        → lookup (variable_eq (n, a)) (term_pairs_at trees (p ∷ ps)) ≡ None
+    go true e rest = absurd
+        (names_apart m (with_pairs k (p ∷ ps)) n p.0.name none h own
+        (ap (λ (x : AVariable). x.0) ((variable_eq-Decides (n, a) (p.0.name, type_at trees p.0.ty.0)).0 e)))
     go false e rest = ap (λ b. cond b (Some (term_at trees p.1.0)) (lookup (variable_eq (n, a)) (term_pairs_at trees ps))) e ∙ rest
 
     first : lookup (variable_eq (n, a)) (term_pairs_at trees ps) ≡ None → lookup (variable_eq (n, a)) (term_pairs_at trees (p ∷ ps)) ≡ None
     first rest = go (variable_eq (n, a) (p.0.name, type_at trees p.0.ty.0)) refl rest
 
 -- no pair has a variable that is free in a tree whose mask has no bit of theirs
-AreAbsent-mask : (trees : Trees) (m : ℕ) (ps : List (Variable × TermId)) → bit_and m (with_pairs 0 ps) ≡ 0 → (t : Term) → HasBits m t → AreAbsent (term_pairs_at trees ps) t
+AreAbsent-mask : (trees : Trees) (m : ℕ) (ps : List (Variable × TermId)) → bit_and m (with_pairs 0 ps) ≡ 0 → (t : Term) → HasBits m t
+    → AreAbsent (term_pairs_at trees ps) t
 AreAbsent-mask trees m ps none t h =
-    EachFree-weaker (λ v. HasBit m v.0) (λ v. lookup (variable_eq v) (term_pairs_at trees ps) ≡ None) (λ v has. lookup-without trees m 0 ps v.0 v.1 none has) t h
+    EachFree-weaker (λ v. HasBit m v.0) (λ v. lookup (variable_eq v) (term_pairs_at trees ps) ≡ None) (λ v has. lookup-without trees m 0 ps v.0 v.1 none has) t
+    h
 
 -- no pairs have none
 pub AreAbsent-none : (t : Term) → AreAbsent [] t
@@ -118,7 +127,8 @@ AreAbsent-none (lam a b) = AreAbsent-none b
 -- nor does one pair more, whose variable isn't free in the tree
 pub AreAbsent-more : (v : AVariable) (u : Term) (pairs : TermPairs) (t : Term) → IsWithout v t → AreAbsent pairs t → AreAbsent ((v, u) ∷ pairs) t
 AreAbsent-more v u pairs t h k =
-    EachFree-both (λ w. w ≡ v → ⊥) (λ w. lookup (variable_eq w) pairs ≡ None) (λ w. lookup (variable_eq w) ((v, u) ∷ pairs) ≡ None) (λ w other rest. go w other rest (variable_eq w v) refl) t h k
+    EachFree-both (λ w. w ≡ v → ⊥) (λ w. lookup (variable_eq w) pairs ≡ None) (λ w. lookup (variable_eq w) ((v, u) ∷ pairs) ≡ None)
+    (λ w other rest. go w other rest (variable_eq w v) refl) t h k
   where
     go : (w : AVariable) → (w ≡ v → ⊥) → lookup (variable_eq w) pairs ≡ None → (b : Bool) → variable_eq w v ≡ b → lookup (variable_eq w) ((v, u) ∷ pairs) ≡ None
     go w other rest true e = absurd (other ((variable_eq-Decides w v).0 e))
@@ -133,9 +143,11 @@ sub-absent pairs (app f x) h = ap₂ app (sub-absent pairs f h.0) (sub-absent pa
 sub-absent pairs (lam a b) h = ap₂ lam (substitute-nothing a) (sub-absent pairs b h)
 
 -- so it is with a tree of a table
-pub its_image-absent : (trees : Trees) (types : List (Name × TypeId)) (terms : List (Variable × TermId)) (id : TermId) → types ≡ [] → AreAbsent (term_pairs_at trees terms) (term_at trees id.0) → IsItsImage trees types terms id
+pub its_image-absent : (trees : Trees) (types : List (Name × TypeId)) (terms : List (Variable × TermId)) (id : TermId) → types ≡ []
+    → AreAbsent (term_pairs_at trees terms) (term_at trees id.0) → IsItsImage trees types terms id
 its_image-absent trees types terms id no_types h =
     subst (λ l. image_of trees l terms (term_at trees id.0) ≡ term_at trees id.0) (sym no_types) (sub-absent (term_pairs_at trees terms) (term_at trees id.0) h)
 
-pub its_image : (trees : Trees) (types : List (Name × TypeId)) (terms : List (Variable × TermId)) (m : ℕ) (id : TermId) → types ≡ [] → HasBits m (term_at trees id.0) → bit_and m (with_pairs 0 terms) ≡ 0 → IsItsImage trees types terms id
+pub its_image : (trees : Trees) (types : List (Name × TypeId)) (terms : List (Variable × TermId)) (m : ℕ) (id : TermId) → types ≡ []
+    → HasBits m (term_at trees id.0) → bit_and m (with_pairs 0 terms) ≡ 0 → IsItsImage trees types terms id
 its_image trees types terms m id no_types h none = its_image-absent trees types terms id no_types (AreAbsent-mask trees m terms none (term_at trees id.0) h)

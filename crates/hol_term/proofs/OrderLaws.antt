@@ -94,22 +94,26 @@ module _ (types : List HolType) (es : List Entry) (t : IsTable types es) where
   -- so it is where the variable has a greater number
   pub without-before : (v : Variable) (i j : ℕ) → i < length (terms_of types es) → i < j → Holds trees j (free v.0 v.1) → IsWithout v (term_at trees i)
   without-before v i j lt before own =
-      without-later v (term_at trees i) i (term_in-Some (terms_of types es) i lt) (λ k h. let same = t.distinct.each k j (free v.0 v.1) h own in omega (arith, same, before))
+      without-later v (term_at trees i) i (term_in-Some (terms_of types es) i lt)
+      (λ k h. let same = t.distinct.each k j (free v.0 v.1) h own in omega (arith, same, before))
 
   module _ (name : Name) (ty : TypeId) (i : ℕ) (lt : i < length (terms_of types es)) where
     -- and where its node has a greater one, or none
     pub without-found : (n : ℕ) → i < n → Has (nodes_of es) n (node.Free name ty) → IsWithout (name, tree_at types ty.0) (term_at trees i)
     without-found n before h =
         let e = Some-nodes_of es n (node.Free name ty) h in
-        without-before (name, tree_at types ty.0) i n lt before (terms_of-Some types es n e.0 (t.lower n e.0 e.1) e.1 ∙ ap (λ m. Some (tree_of_node trees m)) e.2)
+        without-before (name, tree_at types ty.0) i n lt before
+        (terms_of-Some types es n e.0 (t.lower n e.0 e.1) e.1 ∙ ap (λ m. Some (tree_of_node trees m)) e.2)
 
     pub without-lacking : ty.0 < length types → Lacks (nodes_of es) (node.Free name ty) → IsWithout (name, tree_at types ty.0) (term_at trees i)
-    without-lacking own lacks = without-later (name, tree_at types ty.0) (term_at trees i) i (term_in-Some (terms_of types es) i lt) (λ k h. absurd (lacks k (node_at k h)))
+    without-lacking own lacks = without-later (name, tree_at types ty.0) (term_at trees i) i (term_in-Some (terms_of types es) i lt)
+        (λ k h. absurd (lacks k (node_at k h)))
       where
         node_at : (k : ℕ) → Holds trees k (free name (tree_at types ty.0)) → Has (nodes_of es) k (node.Free name ty)
         node_at k h =
             let e = entry_of k (free name (tree_at types ty.0)) h in
             let few = slice_get_within (terms_of types es) k (free name (tree_at types ty.0)) h in
             let same : e.0.node ≡ node.Free name ty
-            = tree_of_node-same trees t.one_each t.distinct e.0.node (node.Free name ty) (PartsBelow-more (omega (arith, few)) (omega arith) e.0.node (t.lower k e.0 e.1)) own e.2 in
+            = tree_of_node-same trees t.one_each t.distinct e.0.node (node.Free name ty)
+            (PartsBelow-more (omega (arith, few)) (omega arith) e.0.node (t.lower k e.0 e.1)) own e.2 in
             nodes_of-Some es k e.0 e.1 ∙ ap Some same

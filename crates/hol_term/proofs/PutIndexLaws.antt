@@ -23,7 +23,8 @@ same_variable-refl : (v : Variable) → same_variable v v ≡ true
 same_variable-refl v = and_from (name_eq v.name v.name) (nat_eq v.ty.0 v.ty.0) ((name_eq-Decides v.name v.name).1 refl) (eq-eqb v.ty.0 v.ty.0 refl)
 
 -- two tests of which one alone may say yes, in either order
-swapped : (a b : Bool) (x y : TermId) (o : Option TermId) → (a ≡ true → b ≡ true → x ≡ y) → cond a (Some x) (cond b (Some y) o) ≡ cond b (Some y) (cond a (Some x) o)
+swapped : (a b : Bool) (x y : TermId) (o : Option TermId) → (a ≡ true → b ≡ true → x ≡ y) → cond a (Some x) (cond b (Some y) o)
+    ≡ cond b (Some y) (cond a (Some x) o)
 swapped true true x y o h = ap Some (h refl refl)
 swapped true false x y o h = refl
 swapped false true x y o h = refl
@@ -52,19 +53,23 @@ module _ (v k : Variable) (u : TermId) where
           absurd (false≢true (sym is ∙ ap (same_variable k) (sym one) ∙ same_variable-refl k)))
 
   -- so it is behind other pairs
-  lookup-behind : (front es : List (Variable × TermId)) → lookup (same_variable v) (front ++ insert_entry same_variable es k u) ≡ lookup (same_variable v) (front ++ (k, u) ∷ es)
+  lookup-behind : (front es : List (Variable × TermId)) → lookup (same_variable v) (front ++ insert_entry same_variable es k u)
+      ≡ lookup (same_variable v) (front ++ (k, u) ∷ es)
   lookup-behind [] es = lookup-insert_entry es
   lookup-behind (e ∷ front) es = ap (λ o. cond (same_variable v e.0) (Some e.1) o) (lookup-behind front es)
 
 -- a list is its front and its last item
 front-last : {X : Type 0} (xs : List X) (d : X) → 1 ≤ length xs → take (length xs - 1) xs ++ get_or xs (length xs - 1) d ∷ [] ≡ xs
 front-last xs d h =
-    ap (λ l. take (length xs - 1) xs ++ l) (sym (drop_more xs (length xs - 1) d (omega arith) ∙ ap (λ l. get_or xs (length xs - 1) d ∷ l) (drop_all (length xs - 1 + 1) xs (omega arith))))
+    ap (λ l. take (length xs - 1) xs ++ l)
+    (sym (drop_more xs (length xs - 1) d (omega arith) ∙ ap (λ l. get_or xs (length xs - 1) d ∷ l) (drop_all (length xs - 1 + 1) xs (omega arith))))
     ∙ take-append-drop (length xs - 1) xs
 
 -- the pairs but the last, and then those that were noted after the last, tell what all pairs tell
-pub noted_goes_on : (v : Variable) (pairs rest firsts new : List (Variable × TermId)) (p : Variable × TermId) (k : Variable) → 1 ≤ length rest → p ≡ get_or rest (length rest - 1) p → k ≡ p.0 → new ≡ insert_entry same_variable firsts k p.1
-    → lookup (same_variable v) (rest ++ firsts) ≡ lookup (same_variable v) pairs → lookup (same_variable v) (take (length rest - 1) rest ++ new) ≡ lookup (same_variable v) pairs
+pub noted_goes_on : (v : Variable) (pairs rest firsts new : List (Variable × TermId)) (p : Variable × TermId) (k : Variable) → 1 ≤ length rest → p
+    ≡ get_or rest (length rest - 1) p → k ≡ p.0 → new ≡ insert_entry same_variable firsts k p.1
+    → lookup (same_variable v) (rest ++ firsts) ≡ lookup (same_variable v) pairs → lookup (same_variable v) (take (length rest - 1) rest ++ new)
+    ≡ lookup (same_variable v) pairs
 noted_goes_on v pairs rest firsts new p k some last is put h =
     let front = take (length rest - 1) rest in
     let test = lookup (same_variable v) in

@@ -43,7 +43,8 @@ one_only (x ∷ []) d l h = refl
 one_only (x ∷ y ∷ ids) d l h = absurd (let w = h in omega (arith, w))
 
 -- a variable that isn't free in a tree is not the one that is closed over
-pub closed_without : (a : Trees) (ids : List TermId) (v : TermId) (c : Change) (t : Term) → ids ≡ v ∷ [] → AreKnown a ids → ((w : Variable) → Holds a v.0 (free w.0 w.1) → IsWithout w t) → CanClose (terms_at a ids) c → c ≡ Close → IsWithout (variable_of (terms_at a ids)) t
+pub closed_without : (a : Trees) (ids : List TermId) (v : TermId) (c : Change) (t : Term) → ids ≡ v ∷ [] → AreKnown a ids
+    → ((w : Variable) → Holds a v.0 (free w.0 w.1) → IsWithout w t) → CanClose (terms_at a ids) c → c ≡ Close → IsWithout (variable_of (terms_at a ids)) t
 closed_without a ids v c t one known without closing e =
     let w = closing e in
     let is : term_at a v.0 ≡ free w.0.0 w.0.1 = ap first (ap (terms_at a) (sym one) ∙ w.1) in
@@ -55,7 +56,8 @@ closed_without a ids v c t one known without closing e =
     first (x ∷ xs) = x
 
 -- what is left alone is what is wanted
-pub alone_wanted : (a : Trees) (ids : List TermId) (p : Place) → p.id.0 < length a.terms → IsLeftAlone (terms_at a ids) a p → Holds a p.id.0 (wanted (terms_at a ids) a p)
+pub alone_wanted : (a : Trees) (ids : List TermId) (p : Place) → p.id.0 < length a.terms → IsLeftAlone (terms_at a ids) a p
+    → Holds a p.id.0 (wanted (terms_at a ids) a p)
 alone_wanted a ids p lt alone =
     let e : wanted (terms_at a ids) a p ≡ term_at a p.id.0 = ⊎_elim
     (λ none. ap (λ c. changed (terms_at a ids) c p.depth (term_at a p.id.0)) none ∙ lift_at-zero p.depth (term_at a p.id.0))
@@ -74,7 +76,8 @@ changed-lam args Replace d ty b = refl
 changed-lam args Close d ty b = refl
 
 -- a bound number that stands for one
-pub made_bound : (a g : Trees) (ids : List TermId) (p : Place) (n m : ℕ) (id : TermId) → term_at a p.id.0 ≡ bound n → IsReplaced ids p n (Renamed m) → Holds g id.0 (bound m) → Holds g id.0 (wanted (terms_at a ids) a p)
+pub made_bound : (a g : Trees) (ids : List TermId) (p : Place) (n m : ℕ) (id : TermId) → term_at a p.id.0 ≡ bound n → IsReplaced ids p n (Renamed m)
+    → Holds g id.0 (bound m) → Holds g id.0 (wanted (terms_at a ids) a p)
 made_bound a g ids p n m id e r h =
     h ∙ ap Some (sym (ap (changed (terms_at a ids) p.change p.depth) e ∙ r.1 (terms_at a ids) (length-map ids (λ i. term_at a i.0))))
 
@@ -91,10 +94,12 @@ turns_of_all-at a (x ∷ ids) (suc i) id e = omega (arith, turns_of_all-at a ids
 map-reverse : {X Y : Type 0} (f : X → Y) (xs : List X) → map f (reverse xs) ≡ reverse (map f xs)
 map-reverse f [] = refl
 map-reverse f (x ∷ xs) =
-    ap (map f) (reverse-append (x ∷ []) xs) ∙ map-append f (reverse xs) (x ∷ []) ∙ ap (λ l. l ++ f x ∷ []) (map-reverse f xs) ∙ sym (reverse-append (f x ∷ []) (map f xs))
+    ap (map f) (reverse-append (x ∷ []) xs) ∙ map-append f (reverse xs) (x ∷ []) ∙ ap (λ l. l ++ f x ∷ []) (map-reverse f xs)
+    ∙ sym (reverse-append (f x ∷ []) (map f xs))
 
 -- an argument that is lifted stands for the number
-module _ (a : Trees) (ids : List TermId) (p place : Place) (n : ℕ) (id : TermId) (r : IsReplaced ids p n (Argument id)) (is : place ≡ record { id = id; depth = 0; change = Raise p.depth }) where
+module _ (a : Trees) (ids : List TermId) (p place : Place) (n : ℕ) (id : TermId) (r : IsReplaced ids p n (Argument id))
+    (is : place ≡ record { id = id; depth = 0; change = Raise p.depth }) where
   pub argument_place : length a.terms < 2 ^ 63 → AreKnown a ids → IsPlace a place
   argument_place small g =
       let lt = AreKnown-at a ids r.3.0 id r.3.1 g in
@@ -109,7 +114,8 @@ module _ (a : Trees) (ids : List TermId) (p place : Place) (n : ℕ) (id : TermI
   pub argument_wanted : term_at a p.id.0 ≡ bound n → wanted (terms_at a ids) a place ≡ wanted (terms_at a ids) a p
   argument_wanted e =
       let args = terms_at a ids in
-      let at = ap (λ l. slice_get l (n - p.depth)) (sym (map-reverse (λ (i : TermId). term_at a i.0) ids)) ∙ slice_get-map (λ (i : TermId). term_at a i.0) (reverse ids) (n - p.depth) ∙ ap (option_map (λ (i : TermId). term_at a i.0)) r.2 in
+      let at = ap (λ l. slice_get l (n - p.depth)) (sym (map-reverse (λ (i : TermId). term_at a i.0) ids))
+      ∙ slice_get-map (λ (i : TermId). term_at a i.0) (reverse ids) (n - p.depth) ∙ ap (option_map (λ (i : TermId). term_at a i.0)) r.2 in
       let w : wanted args a p ≡ lift p.depth (term_at a id.0) =
       ap (λ c. changed args c p.depth (term_at a p.id.0)) r.0
       ∙ ap (put_all_at p.depth args) e
@@ -144,12 +150,14 @@ loose-leaf (constant n a) l = omega arith
 loose-leaf (app f x) l = absurd l
 loose-leaf (lam t b) l = absurd l
 
-one_id : (a : Trees) (ids : List TermId) (x : Term) → AreKnown a ids → terms_at a ids ≡ x ∷ [] → (w : TermId) × ((ids ≡ w ∷ []) × ((w.0 < length a.terms) × (term_at a w.0 ≡ x)))
+one_id : (a : Trees) (ids : List TermId) (x : Term) → AreKnown a ids → terms_at a ids ≡ x ∷ [] → (w : TermId)
+    × ((ids ≡ w ∷ []) × ((w.0 < length a.terms) × (term_at a w.0 ≡ x)))
 one_id a [] x g e = absurd (cc)
 one_id a (w ∷ []) x g e = (w, (refl, (g.0, cc)))
 one_id a (w ∷ u ∷ ids) x g e = absurd (cc)
 
-pub leaf_alone : (a : Trees) (ids : List TermId) (p : Place) → IsDistinct a.terms → p.id.0 < length a.terms → AreKnown a ids → IsLeaf (term_at a p.id.0) → CanClose (terms_at a ids) p.change → ((p.change ≡ Close) × (ids ≡ p.id ∷ []) → ⊥) → Holds a p.id.0 (wanted (terms_at a ids) a p)
+pub leaf_alone : (a : Trees) (ids : List TermId) (p : Place) → IsDistinct a.terms → p.id.0 < length a.terms → AreKnown a ids → IsLeaf (term_at a p.id.0)
+    → CanClose (terms_at a ids) p.change → ((p.change ≡ Close) × (ids ≡ p.id ∷ []) → ⊥) → Holds a p.id.0 (wanted (terms_at a ids) a p)
 leaf_alone a ids p d lt g l closing ne = term_in-Some a.terms p.id.0 lt ∙ ap Some (sym (go p.change refl))
   where
     no_number : {n : ℕ} → loose (term_at a p.id.0) ≤ n
@@ -161,15 +169,18 @@ leaf_alone a ids p d lt g l closing ne = term_in-Some a.terms p.id.0 lt ∙ ap S
     go Close e =
         let v = closing e in
         let one = one_id a ids (free v.0.0 v.0.1) g v.1 in
-        let apart : term_at a p.id.0 ≡ free v.0.0 v.0.1 → ⊥ = λ f. let same : one.0 ≡ p.id = term_in-same d one.0 p.id one.1.1.0 lt (one.1.1.1 ∙ sym f) in ne (e, one.1.0 ∙ ap (λ (w : TermId). w ∷ []) same) in
+        let apart : term_at a p.id.0 ≡ free v.0.0 v.0.1 → ⊥ = λ f. let same : one.0 ≡ p.id =
+        term_in-same d one.0 p.id one.1.1.0 lt (one.1.1.1 ∙ sym f) in ne (e, one.1.0 ∙ ap (λ (w : TermId). w ∷ []) same) in
         ap₂ (λ c args. changed args c p.depth (term_at a p.id.0)) e v.1 ∙ close_leaf p.depth v.0 (term_at a p.id.0) l apart
 
 -- the free variable that is closed over
-pub leaf_closed : (a g : Trees) (ids : List TermId) (p : Place) (id : TermId) → CanClose (terms_at a ids) p.change → p.change ≡ Close → ids ≡ p.id ∷ [] → Holds g id.0 (bound p.depth) → Holds g id.0 (wanted (terms_at a ids) a p)
+pub leaf_closed : (a g : Trees) (ids : List TermId) (p : Place) (id : TermId) → CanClose (terms_at a ids) p.change → p.change ≡ Close → ids ≡ p.id ∷ []
+    → Holds g id.0 (bound p.depth) → Holds g id.0 (wanted (terms_at a ids) a p)
 leaf_closed a g ids p id closing e one h =
     let v = closing e in
     let is : term_at a p.id.0 ≡ free v.0.0 v.0.1 = let w = sym (ap (terms_at a) one) ∙ v.1 in first w in
-    h ∙ ap Some (sym (ap₂ (λ c args. changed args c p.depth (term_at a p.id.0)) e v.1 ∙ ap (close_at p.depth v.0) is ∙ ap (λ b. cond b (bound p.depth) (free v.0.0 v.0.1)) ((variable_eq-Decides v.0 v.0).1 refl)))
+    h ∙ ap Some (sym (ap₂ (λ c args. changed args c p.depth (term_at a p.id.0)) e v.1 ∙ ap (close_at p.depth v.0) is
+    ∙ ap (λ b. cond b (bound p.depth) (free v.0.0 v.0.1)) ((variable_eq-Decides v.0 v.0).1 refl)))
   where
     top : List Term → Term
     top [] = bound 0

@@ -29,7 +29,8 @@ module _ (a b : List HolType) (k : type.Keeps a b) (es : List Entry) (t : IsTabl
     one_each = k.distinct t.one_each;
     lower = λ i e at. PartsBelow-more (omega arith) k.longer e.node (t.lower i e at);
     distinct = subst IsDistinct same_terms t.distinct;
-    measured = λ i e u at held. let m = t.measured i e u at (ap (λ l. slice_get l i) same_terms ∙ held) in record { measures = m.measures; typed = IsTypeNumber-Keeps k e.ty (type_of u) m.typed };
+    measured = λ i e u at held. let m = t.measured i e u at (ap (λ l. slice_get l i) same_terms ∙ held) in record
+        { measures = m.measures; typed = IsTypeNumber-Keeps k e.ty (type_of u) m.typed };
   }
 
   pub retyped_keeps : Keeps (over a (terms_of a es)) (over b (terms_of b es))
@@ -52,14 +53,16 @@ head_types trees n (node.Const m t) p = (t.0, type_law.tree_at-Holds trees.types
 head_types trees n (node.App f x) p = tt
 head_types trees n (node.Lam t x) p = (t.0, type_law.tree_at-Holds trees.types t.0 p.0)
 
-numbered : (types : List HolType) (ty : Option TypeId) (o : Option HolType) (a : HolType) → IsTypeNumber types ty o → o ≡ Some a → (k : ℕ) × type.Holds types k a
+numbered : (types : List HolType) (ty : Option TypeId) (o : Option HolType) (a : HolType) → IsTypeNumber types ty o → o ≡ Some a → (k : ℕ)
+    × type.Holds types k a
 numbered types None o a h e = absurd (cc)
 numbered types (Some id) o a h e = (id.0, type_law.tree_at-Holds types id.0 h.0 ∙ sym h.1 ∙ e)
 
 -- a table has the types of its terms
 pub owned : (types : List HolType) (es : List Entry) → IsTable types es → HasItsTypes (over types (terms_of types es))
 owned types es t = record {
-  heads = λ i u held. let e = entry i u held in subst (HasHeadTypes types) (same_Some _ _ (sym (terms_of-Some types es i e.0 (t.lower i e.0 e.1) e.1) ∙ held)) (head_types (over types (terms_of types es)) i e.0.node (t.lower i e.0 e.1));
+  heads = λ i u held. let e = entry i u held in subst (HasHeadTypes types) (same_Some _ _ (sym (terms_of-Some types es i e.0 (t.lower i e.0 e.1) e.1) ∙ held))
+      (head_types (over types (terms_of types es)) i e.0.node (t.lower i e.0 e.1));
   typed = λ i u a held typed. let e = entry i u held in numbered types e.0.ty (type_of u) a (t.measured i e.0 u e.1 held).typed typed;
 }
   where
@@ -67,13 +70,15 @@ owned types es t = record {
     entry i u held = item_at es i (omega (arith, length-terms_of types es, slice_get_within (terms_of types es) i u held))
 
 -- a table that was longer, cut to what it was before
-module _ (types : List HolType) (es : List Entry) (t : IsTable types es) (before : Trees) (mark : Mark) (h : IsEarlier before (over types (terms_of types es)) mark) where
+module _ (types : List HolType) (es : List Entry) (t : IsTable types es) (before : Trees) (mark : Mark)
+    (h : IsEarlier before (over types (terms_of types es)) mark) where
   below : (k : ℕ) (id : TypeId) (a : HolType) → type.Holds before.types k a → id.0 < length types → tree_at types id.0 ≡ a → id.0 < length before.types
   below k id a held lt e =
       let same = t.one_each.each k id.0 a (h.keeps.types.stays.each k a held) (type_law.tree_at-Holds types id.0 lt ∙ ap Some e) in
       omega (arith, same, type_law.Holds-within before.types k a held)
 
-  lower_node : (i : ℕ) (n : Node) → PartsBelow i (length types) n → HasHeadTypes before.types (tree_of_node (over types (terms_of types es)) n) → PartsBelow i (length before.types) n
+  lower_node : (i : ℕ) (n : Node) → PartsBelow i (length types) n → HasHeadTypes before.types (tree_of_node (over types (terms_of types es)) n)
+      → PartsBelow i (length before.types) n
   lower_node i (node.Free m ty) p q = below q.0 ty (tree_at types ty.0) q.1 p refl
   lower_node i (node.Bound k) p q = p
   lower_node i (node.Const m ty) p q = below q.0 ty (tree_at types ty.0) q.1 p refl
@@ -110,7 +115,8 @@ module _ (types : List HolType) (es : List Entry) (t : IsTable types es) (before
   same_front = terms_of-types h.keeps.types.stays (take mark.terms es) lower
 
   terms_before : terms_of before.types (take mark.terms es) ≡ before.terms
-  terms_before = same_front ∙ terms_of-take types mark.terms es count ∙ ap (λ n. take n (terms_of types es)) h.terms ∙ take-Stays before.terms (terms_of types es) h.keeps.stays
+  terms_before = same_front ∙ terms_of-take types mark.terms es count ∙ ap (λ n. take n (terms_of types es)) h.terms
+      ∙ take-Stays before.terms (terms_of types es) h.keeps.stays
 
   fewer_types : (ty : Option TypeId) (i : ℕ) (u : Term) → Holds before i u → IsTypeNumber types ty (type_of u) → IsTypeNumber before.types ty (type_of u)
   fewer_types None i u held m = m

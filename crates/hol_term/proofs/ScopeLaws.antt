@@ -38,27 +38,31 @@ list_in-Keeps {a = a} {b = b} k i h = sym (Some-list_in b i (list_in a i) (k.eac
 pub within-Keeps : {a b : List (List TypeId)} → KeepsLists a b → (i : ℕ) → i < length a → i < length b
 within-Keeps {a = a} {b = b} k i h = slice_get_within b i (list_in a i) (k.each i (list_in a i) (list_in-Some a i h))
 
-lists_from-append : (ls : List (List TypeId)) (ss : List Scope) (s : Scope) → lists_from ls (ss ++ s ∷ []) ≡ lists_from ls ss ++ (s.ty ∷ list_in (lists_from ls ss) s.outer.0) ∷ []
+lists_from-append : (ls : List (List TypeId)) (ss : List Scope) (s : Scope) → lists_from ls (ss ++ s ∷ []) ≡ lists_from ls ss
+    ++ (s.ty ∷ list_in (lists_from ls ss) s.outer.0) ∷ []
 lists_from-append ls [] s = refl
 lists_from-append ls (r ∷ ss) s = lists_from-append (ls ++ (r.ty ∷ list_in ls r.outer.0) ∷ []) ss s
 
 length-lists_from : (ls : List (List TypeId)) (ss : List Scope) → length (lists_from ls ss) ≡ length ls + length ss
 length-lists_from ls [] = omega arith
-length-lists_from ls (s ∷ ss) = omega (arith, length-lists_from (ls ++ (s.ty ∷ list_in ls s.outer.0) ∷ []) ss, length-append ls ((s.ty ∷ list_in ls s.outer.0) ∷ []))
+length-lists_from ls (s ∷ ss) = omega
+    (arith, length-lists_from (ls ++ (s.ty ∷ list_in ls s.outer.0) ∷ []) ss, length-append ls ((s.ty ∷ list_in ls s.outer.0) ∷ []))
 
 pub length-lists_of : (ss : List Scope) → length (lists_of ss) ≡ 1 + length ss
 length-lists_of ss = length-lists_from ([] ∷ []) ss
 
 KeepsLists-lists_from : (ls : List (List TypeId)) (ss : List Scope) → KeepsLists ls (lists_from ls ss)
 KeepsLists-lists_from ls [] = KeepsLists-refl ls
-KeepsLists-lists_from ls (s ∷ ss) = KeepsLists-trans (KeepsLists-append ls ((s.ty ∷ list_in ls s.outer.0) ∷ [])) (KeepsLists-lists_from (ls ++ (s.ty ∷ list_in ls s.outer.0) ∷ []) ss)
+KeepsLists-lists_from ls (s ∷ ss) = KeepsLists-trans (KeepsLists-append ls ((s.ty ∷ list_in ls s.outer.0) ∷ []))
+    (KeepsLists-lists_from (ls ++ (s.ty ∷ list_in ls s.outer.0) ∷ []) ss)
 
 -- no scope has the first list, which is empty
 pub list_in-none : (ss : List Scope) → list_in (lists_of ss) 0 ≡ []
 list_in-none ss = Some-list_in (lists_of ss) 0 [] ((KeepsLists-lists_from ([] ∷ []) ss).each 0 [] refl)
 
 -- a scope's list, after so many others
-list_from : (ls : List (List TypeId)) (ss : List Scope) (j : ℕ) (s : Scope) → slice_get ss j ≡ Some s → s.outer.0 < length ls + j → slice_get (lists_from ls ss) (length ls + j) ≡ Some (s.ty ∷ list_in (lists_from ls ss) s.outer.0)
+list_from : (ls : List (List TypeId)) (ss : List Scope) (j : ℕ) (s : Scope) → slice_get ss j ≡ Some s → s.outer.0 < length ls + j
+    → slice_get (lists_from ls ss) (length ls + j) ≡ Some (s.ty ∷ list_in (lists_from ls ss) s.outer.0)
 list_from ls [] j s e h = absurd (cc)
 list_from ls (r ∷ ss) zero s e h =
     let z : length ls + 0 ≡ length ls = omega arith in
@@ -77,7 +81,8 @@ list_from ls (r ∷ ss) (suc j) s e h =
     ap (slice_get (lists_from ms ss)) (sym z) ∙ list_from ms ss j s e lt
 
 -- the list of each scope
-pub lists_of-Some : (ss : List Scope) (i : ℕ) (s : Scope) → AreInner ss → slice_get ss i ≡ Some s → slice_get (lists_of ss) (i + 1) ≡ Some (s.ty ∷ list_in (lists_of ss) s.outer.0)
+pub lists_of-Some : (ss : List Scope) (i : ℕ) (s : Scope) → AreInner ss → slice_get ss i ≡ Some s → slice_get (lists_of ss) (i + 1)
+    ≡ Some (s.ty ∷ list_in (lists_of ss) s.outer.0)
 lists_of-Some ss i s h e =
     let z : i + 1 ≡ 1 + i = omega arith in
     let lt : s.outer.0 < 1 + i = omega (arith, h.each i s e) in
@@ -93,7 +98,8 @@ scope_cmp-same s t h =
     λ i. record { outer = record { 0 = x i }; ty = record { 0 = y i } }
 
 -- scopes that have their places, once one more is put last
-pub ArePlaced-more : (ss : List Scope) (old new : Scope → Option ℕ) (s : Scope) → ArePlaced ss old → old s ≡ None → ((t : Scope) → new t ≡ cond (is_eq (scope_cmp s t)) (Some (length ss)) (old t)) → ArePlaced (ss ++ s ∷ []) new
+pub ArePlaced-more : (ss : List Scope) (old new : Scope → Option ℕ) (s : Scope) → ArePlaced ss old → old s ≡ None
+    → ((t : Scope) → new t ≡ cond (is_eq (scope_cmp s t)) (Some (length ss)) (old t)) → ArePlaced (ss ++ s ∷ []) new
 ArePlaced-more ss old new s h none updates = record { each = each; told = told }
   where
     same : (t : Scope) → is_eq (scope_cmp s t) ≡ true → new t ≡ Some (length ss)
@@ -113,24 +119,30 @@ ArePlaced-more ss old new s h none updates = record { each = each; told = told }
         (slice_get-one_more ss s t i at)
 
     told_by : (i : ℕ) (t : Scope) → new t ≡ Some i → (b : Bool) → is_eq (scope_cmp s t) ≡ b → slice_get (ss ++ s ∷ []) i ≡ Some t
-    told_by i t k true e = ap (slice_get (ss ++ s ∷ [])) (sym (same_Some (length ss) i (sym (same t e) ∙ k))) ∙ slice_get-last ss s ∙ ap Some (scope_cmp-same s t e)
+    told_by i t k true e = ap (slice_get (ss ++ s ∷ [])) (sym (same_Some (length ss) i (sym (same t e) ∙ k))) ∙ slice_get-last ss s ∙ ap Some
+        (scope_cmp-same s t e)
     told_by i t k false e = slice_get-append ss (s ∷ []) i t (h.told i t (sym (other t e) ∙ k))
 
     told : (i : ℕ) (t : Scope) → new t ≡ Some i → slice_get (ss ++ s ∷ []) i ≡ Some t
     told i t k = told_by i t k (is_eq (scope_cmp s t)) refl
 
 -- scopes after one more was put last, or memory was wanting
-pub put-at : {E : Type 0} (ss new : List Scope) (s : Scope) (r : Result ℕ E) → IfOk r (λ p. p ≡ length ss) → OnOk r (new ≡ ss ++ s ∷ []) → IfOk r (λ p. slice_get new p ≡ Some s)
+pub put-at : {E : Type 0} (ss new : List Scope) (s : Scope) (r : Result ℕ E) → IfOk r (λ p. p ≡ length ss) → OnOk r (new ≡ ss ++ s ∷ [])
+    → IfOk r (λ p. slice_get new p ≡ Some s)
 put-at ss new s (Ok p) e q = ap (λ l. slice_get l p) q ∙ ap (slice_get (ss ++ s ∷ [])) e ∙ slice_get-last ss s
 put-at ss new s (Err m) e q = tt
 
-pub put-adds : {E : Type 0} (ss new : List Scope) (old now : BTreeMap Scope ℕ) (s : Scope) (r : Result ℕ E) → OnOk r (new ≡ ss ++ s ∷ []) → OnErr r ((new ≡ ss) × (now.entries ≡ old.entries)) → (new ≡ ss) ⊎ (new ≡ ss ++ s ∷ [])
+pub put-adds : {E : Type 0} (ss new : List Scope) (old now : BTreeMap Scope ℕ) (s : Scope) (r : Result ℕ E) → OnOk r (new ≡ ss ++ s ∷ [])
+    → OnErr r ((new ≡ ss) × (now.entries ≡ old.entries)) → (new ≡ ss) ⊎ (new ≡ ss ++ s ∷ [])
 put-adds ss new old now s (Ok p) q u = inr q
 put-adds ss new old now s (Err m) q u = inl u.0
 
-pub put-placed : {E : Type 0} (ss new : List Scope) (old now : BTreeMap Scope ℕ) (s : Scope) (r : Result ℕ E) → ArePlaced ss (place_in old) → place_in old s ≡ None → OnOk r (new ≡ ss ++ s ∷ []) → OnOk r (Updates scope_cmp old now s (Some (length ss))) → OnErr r ((new ≡ ss) × (now.entries ≡ old.entries)) → ArePlaced new (place_in now)
+pub put-placed : {E : Type 0} (ss new : List Scope) (old now : BTreeMap Scope ℕ) (s : Scope) (r : Result ℕ E) → ArePlaced ss (place_in old) → place_in old s
+    ≡ None → OnOk r (new ≡ ss ++ s ∷ []) → OnOk r (Updates scope_cmp old now s (Some (length ss))) → OnErr r ((new ≡ ss) × (now.entries ≡ old.entries))
+    → ArePlaced new (place_in now)
 put-placed ss new old now s (Ok p) t none q k u = subst (λ l. ArePlaced l (place_in now)) (sym q) (ArePlaced-more ss (place_in old) (place_in now) s t none k.0)
-put-placed ss new old now s (Err m) t none q k u = subst (λ l. ArePlaced l (place_in now)) (sym u.0) (subst (λ (l : List (Scope × ℕ)). ArePlaced ss (λ t. lookup (is_at (scope_cmp t)) l)) (sym u.1) t)
+put-placed ss new old now s (Err m) t none q k u =
+    subst (λ l. ArePlaced l (place_in now)) (sym u.0) (subst (λ (l : List (Scope × ℕ)). ArePlaced ss (λ t. lookup (is_at (scope_cmp t)) l)) (sym u.1) t)
 
 -- scopes among which one is put
 pub record Entered (ss new : List Scope) (s : Scope) : Type 0 where
@@ -139,7 +151,8 @@ pub record Entered (ss new : List Scope) (s : Scope) : Type 0 where
   pub adds : AddsList (lists_of ss) (lists_of new) (s.ty ∷ list_in (lists_of ss) s.outer.0)
 
 pub same_scopes : (ss new : List Scope) (s : Scope) → AreInner ss → new ≡ ss → Entered ss new s
-same_scopes ss new s h e = subst (λ w. Entered ss w s) (sym e) (record { inner = h; keeps = KeepsLists-refl (lists_of ss); adds = record { each = λ i l at. inl at } })
+same_scopes ss new s h e = subst (λ w. Entered ss w s) (sym e)
+    (record { inner = h; keeps = KeepsLists-refl (lists_of ss); adds = record { each = λ i l at. inl at } })
 
 pub entered : (ss new : List Scope) (s : Scope) → AreInner ss → s.outer.0 < length (lists_of ss) → (new ≡ ss) ⊎ (new ≡ ss ++ s ∷ []) → Entered ss new s
 entered ss new s h lt q = ⊎_elim (λ e. same_scopes ss new s h e) (λ e. subst (λ w. Entered ss w s) (sym e) grown) q
@@ -164,7 +177,8 @@ entered ss new s h lt q = ⊎_elim (λ e. same_scopes ss new s h e) (λ e. subst
     }
 
 -- the list of the scope that was put
-pub entered_at : (ss new : List Scope) (s : Scope) (r : ℕ) → Entered ss new s → s.outer.0 < length (lists_of ss) → slice_get new r ≡ Some s → slice_get (lists_of new) (r + 1) ≡ Some (s.ty ∷ list_in (lists_of ss) s.outer.0)
+pub entered_at : (ss new : List Scope) (s : Scope) (r : ℕ) → Entered ss new s → s.outer.0 < length (lists_of ss) → slice_get new r ≡ Some s
+    → slice_get (lists_of new) (r + 1) ≡ Some (s.ty ∷ list_in (lists_of ss) s.outer.0)
 entered_at ss new s r e lt at = lists_of-Some new r s e.inner at ∙ ap (λ l. Some (s.ty ∷ l)) (sym (list_in-Keeps e.keeps s.outer.0 lt))
 
 -- the innermost binder of a number's list, with those round it

@@ -15,7 +15,8 @@ use Rattle.hol_term.proofs.ScopeLaws.{list_in-Some, list_in-Keeps, within-Keeps,
 use Rattle.hol_term.proofs.Typings.{type_in-Keeps}
 
 -- the binders of a seat have types of the table
-pub binders_known : (a : Trees) (ls : List (List TypeId)) (f : List (Seat × Option TypeId)) → AreTypings a ls f → (i : ℕ) → i < length ls → type.AreKnown a.types (list_in ls i)
+pub binders_known : (a : Trees) (ls : List (List TypeId)) (f : List (Seat × Option TypeId)) → AreTypings a ls f → (i : ℕ) → i < length ls
+    → type.AreKnown a.types (list_in ls i)
 binders_known a ls f t i h = t.known i (list_in ls i) (list_in-Some ls i h)
 
 -- with more types and more lists, a seat's tree has the same type
@@ -34,12 +35,14 @@ AreTypings-Keeps a b ls f k t = record {
       let w = t.each s ty n in
       let kept = KeepsLists-refl ls in (
         IsSeat-later a b k ls ls kept s w.0,
-        subst (IsTypeNumber b.types ty) (seat_type-later a b k ls ls kept s w.0 (binders_known a ls f t s.scope.0 w.0.1)) (IsTypeNumber-Keeps k.types ty (seat_type a ls s) w.1),
+        subst (IsTypeNumber b.types ty) (seat_type-later a b k ls ls kept s w.0 (binders_known a ls f t s.scope.0 w.0.1))
+            (IsTypeNumber-Keeps k.types ty (seat_type a ls s) w.1),
       );
 }
 
 -- with a list more, what was found is still right
-pub AreTypings-adds : (a : Trees) (ls ms : List (List TypeId)) (f : List (Seat × Option TypeId)) (l : List TypeId) (k : Keeps a a) → KeepsLists ls ms → AddsList ls ms l → type.AreKnown a.types l → AreTypings a ls f → AreTypings a ms f
+pub AreTypings-adds : (a : Trees) (ls ms : List (List TypeId)) (f : List (Seat × Option TypeId)) (l : List TypeId) (k : Keeps a a) → KeepsLists ls ms
+    → AddsList ls ms l → type.AreKnown a.types l → AreTypings a ls f → AreTypings a ms f
 AreTypings-adds a ls ms f l k kept adds g t = record {
   known = λ i m e. ⊎_elim (λ old. t.known i m old) (λ new. subst (type.AreKnown a.types) (sym new) g) (adds.each i m e);
   each = λ s ty n.
@@ -50,7 +53,9 @@ AreTypings-adds a ls ms f l k kept adds g t = record {
 }
 
 -- what was found, and one seat more
-pub AreTypings-noted : (a b : Trees) (k : Keeps a b) (ls ms : List (List TypeId)) (f more : List (Seat × Option TypeId)) (s : Seat) (ty : Option TypeId) → KeepsLists ls ms → IsSeat a ls s → type.AreKnown a.types (list_in ls s.scope.0) → AreTypings b ms f → IsTypeNumber b.types ty (seat_type a ls s) → ((q : Seat) (u : Option TypeId) → IsNoted more q u → IsNoted f q u ⊎ ((q ≡ s) × (u ≡ ty))) → AreTypings b ms more
+pub AreTypings-noted : (a b : Trees) (k : Keeps a b) (ls ms : List (List TypeId)) (f more : List (Seat × Option TypeId)) (s : Seat) (ty : Option TypeId)
+    → KeepsLists ls ms → IsSeat a ls s → type.AreKnown a.types (list_in ls s.scope.0) → AreTypings b ms f → IsTypeNumber b.types ty (seat_type a ls s)
+    → ((q : Seat) (u : Option TypeId) → IsNoted more q u → IsNoted f q u ⊎ ((q ≡ s) × (u ≡ ty))) → AreTypings b ms more
 AreTypings-noted a b k ls ms f more s ty kept at g t h notes = record {
   known = t.known;
   each = λ q u n. ⊎_elim (λ old. t.each q u old) (λ new. here q u new.0 new.1) (notes q u n);
@@ -60,10 +65,12 @@ AreTypings-noted a b k ls ms f more s ty kept at g t h notes = record {
     found = (IsSeat-later a b k ls ms kept s at, subst (IsTypeNumber b.types ty) (seat_type-later a b k ls ms kept s at g) h)
 
     here : (q : Seat) (u : Option TypeId) → q ≡ s → u ≡ ty → IsSeat b ms q × IsTypeNumber b.types u (seat_type b ms q)
-    here q u e d = subst (λ (w : Seat). IsSeat b ms w × IsTypeNumber b.types u (seat_type b ms w)) (sym e) (subst (λ v. IsSeat b ms s × IsTypeNumber b.types v (seat_type b ms s)) (sym d) found)
+    here q u e d = subst (λ (w : Seat). IsSeat b ms w × IsTypeNumber b.types u (seat_type b ms w)) (sym e)
+        (subst (λ v. IsSeat b ms s × IsTypeNumber b.types v (seat_type b ms s)) (sym d) found)
 
 -- without binders nothing is found yet
-pub AreTypings-none : (a : Trees) (ls : List (List TypeId)) (f : List (Seat × Option TypeId)) → ls ≡ [] ∷ [] → ((s : Seat) (ty : Option TypeId) → IsNoted f s ty → ⊥) → AreTypings a ls f
+pub AreTypings-none : (a : Trees) (ls : List (List TypeId)) (f : List (Seat × Option TypeId)) → ls ≡ [] ∷ []
+    → ((s : Seat) (ty : Option TypeId) → IsNoted f s ty → ⊥) → AreTypings a ls f
 AreTypings-none a ls f e none = subst (λ ms. AreTypings a ms f) (sym e) (record {
   known = λ i l at. empty i l at;
   each = λ s ty n. absurd (none s ty n);

@@ -41,7 +41,8 @@ OnOk-always (Err e) h = tt
 pub known_term : (trees : Trees) (id : ℕ) → IsTermAt trees id → id < length trees.terms
 known_term trees id h = go (slice_get_cases trees.terms id).1
   where
-    go : ((x : Term) × (id < length trees.terms) × (slice_get trees.terms id ≡ Some x) × (get_or trees.terms id x ≡ x)) ⊎ ((length trees.terms ≤ id) × (slice_get trees.terms id ≡ None)) → id < length trees.terms
+    go : ((x : Term) × (id < length trees.terms) × (slice_get trees.terms id ≡ Some x) × (get_or trees.terms id x ≡ x))
+        ⊎ ((length trees.terms ≤ id) × (slice_get trees.terms id ≡ None)) → id < length trees.terms
     go (inl w) = w.1
     go (inr w) = absurd (let e = ap (λ o. unwrap_or o (bound 0)) w.1 in let f = subst IsTerm e h in cc)
 
@@ -87,21 +88,26 @@ module _ (l r : Term) (a b : HolType) (hl : HasType l a) (hr : HasType r b) wher
   equation_term e = subst IsTerm equation_is (IsTerm-HasType (equation a l r) bool (type_of-equation a l r hl (hr ∙ ap Some e)))
 
 -- types with different numbers differ
-pub types_apart : (types : List HolType) → type.IsDistinct types → (t u : TypeId) → t.0 < length types → u.0 < length types → (t.0 ≡ u.0 → ⊥) → tree_at types t.0 ≡ tree_at types u.0 → ⊥
+pub types_apart : (types : List HolType) → type.IsDistinct types → (t u : TypeId) → t.0 < length types → u.0 < length types → (t.0 ≡ u.0 → ⊥)
+    → tree_at types t.0 ≡ tree_at types u.0 → ⊥
 types_apart types c t u ht hu n e = n (ap (λ (i : TypeId). i.0) (type_law.tree_at-same c t u ht hu e))
 
 -- a body that is closed over a variable of the table
-pub made_closed : (a b d : Trees) (v ty body id : ℕ) (name : Name) → Keeps a b → id < length a.terms → Holds b v (free name (type_at a ty)) → Holds d body (changed (term_at b v ∷ []) Close 0 (term_at b id)) → Holds d body (close (name, type_at a ty) (term_at a id))
+pub made_closed : (a b d : Trees) (v ty body id : ℕ) (name : Name) → Keeps a b → id < length a.terms → Holds b v (free name (type_at a ty))
+    → Holds d body (changed (term_at b v ∷ []) Close 0 (term_at b id)) → Holds d body (close (name, type_at a ty) (term_at a id))
 made_closed a b d v ty body id name k lt hv hb =
     let vt = Some-term_in b.terms v (free name (type_at a ty)) hv in
     hb ∙ ap Some (ap₂ (λ w u. changed (w ∷ []) Close 0 u) vt (sym (term_in-Stays k.stays id lt)))
 
 -- an abstraction whose body is closed
-pub made_abs : (a d g : Trees) (ty body r : ℕ) (t : Term) → Keeps a d → ty < length a.types → Holds d body t → Holds g r (lam (type_at d ty) (term_at d body)) → Holds g r (lam (type_at a ty) t)
+pub made_abs : (a d g : Trees) (ty body r : ℕ) (t : Term) → Keeps a d → ty < length a.types → Holds d body t → Holds g r (lam (type_at d ty) (term_at d body))
+    → Holds g r (lam (type_at a ty) t)
 made_abs a d g ty body r t k lt hb h = h ∙ ap Some (ap₂ lam (sym (type_law.tree_at-Stays k.types.stays ty lt)) (Some-term_in d.terms body t hb))
 
 -- an equation whose sides are of the table
-pub made_equation : (a b d g : Trees) (e l m r id : ℕ) (t : HolType) → Keeps a b → Keeps b d → l < length a.terms → r < length a.terms → Holds b e (constant equality_name (equality_type t)) → Holds d m (app (term_at b e) (term_at b l)) → Holds g id (app (term_at d m) (term_at d r)) → Holds g id (equation t (term_at a l) (term_at a r))
+pub made_equation : (a b d g : Trees) (e l m r id : ℕ) (t : HolType) → Keeps a b → Keeps b d → l < length a.terms → r < length a.terms
+    → Holds b e (constant equality_name (equality_type t)) → Holds d m (app (term_at b e) (term_at b l)) → Holds g id (app (term_at d m) (term_at d r))
+    → Holds g id (equation t (term_at a l) (term_at a r))
 made_equation a b d g e l m r id t k k' hl hr he hm h =
     let sign : term_at b e ≡ constant equality_name (equality_type t) = Some-term_in b.terms e (constant equality_name (equality_type t)) he in
     let left : term_at d m ≡ app (constant equality_name (equality_type t)) (term_at a l)
@@ -109,7 +115,8 @@ made_equation a b d g e l m r id t k k' hl hr he hm h =
     h ∙ ap Some (ap₂ app left (sym (term_in-Stays (Stays-trans k.stays k'.stays) r hr)))
 
 -- the type of the relations over a type of the table
-pub relation_at : (a b d : Trees) (ty truth predicate : ℕ) → Keeps a b → Keeps b d → ty < length a.types → type_at b truth ≡ bool → type_at d predicate ≡ function (type_at b ty) (type_at b truth) → function (type_at d ty) (type_at d predicate) ≡ equality_type (type_at a ty)
+pub relation_at : (a b d : Trees) (ty truth predicate : ℕ) → Keeps a b → Keeps b d → ty < length a.types → type_at b truth ≡ bool → type_at d predicate
+    ≡ function (type_at b ty) (type_at b truth) → function (type_at d ty) (type_at d predicate) ≡ equality_type (type_at a ty)
 relation_at a b d ty truth predicate k l lt is_bool is =
     let first : type_at b ty ≡ type_at a ty = sym (type_law.tree_at-Stays k.types.stays ty lt) in
     let last : type_at d ty ≡ type_at a ty = sym (type_law.tree_at-Stays (type_law.Stays-trans k.types.stays l.types.stays) ty lt) in

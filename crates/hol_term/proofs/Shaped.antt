@@ -67,5 +67,6 @@ module _ (types : List HolType) (ty : TypeId) where
       is_relation e b = (
         tree_at types d.0,
         function_parts-Some (tree_at types ty.0) (tree_at types d.0) (tree_at types p.0) (sym parts)
-            ∙ ap (function (tree_at types d.0)) (function_parts-Some (tree_at types p.0) (tree_at types s.0) (tree_at types t.0) (sym below) ∙ ap₂ function (ap (tree_at types) (sym e)) b),
+            ∙ ap (function (tree_at types d.0)) (function_parts-Some (tree_at types p.0) (tree_at types s.0) (tree_at types t.0) (sym below)
+            ∙ ap₂ function (ap (tree_at types) (sym e)) b),
       )

@@ -26,7 +26,8 @@ union-new true t xs e other = absurd (other refl)
 union-new false t xs e other = rw e refl
 
 -- a term that is among those of some numbers has one of them
-number_of : (trees : Trees) (t : Term) (ids : List TermId) → AreKnown trees ids → is_in term_eq t (terms_at trees ids) ≡ true → (j : TermId) × (IsAmong ids j × ((j.0 < length trees.terms) × (t ≡ term_at trees j.0)))
+number_of : (trees : Trees) (t : Term) (ids : List TermId) → AreKnown trees ids → is_in term_eq t (terms_at trees ids) ≡ true → (j : TermId)
+    × (IsAmong ids j × ((j.0 < length trees.terms) × (t ≡ term_at trees j.0)))
 number_of trees t [] k e = absurd (cc)
 number_of trees t (id ∷ ids) k e = ⊎_elim
     (λ a. (id, ((0, refl), (k.0, (term_eq-Decides t (term_at trees id.0)).0 a))))
@@ -58,7 +59,8 @@ module _ (trees : Trees) (id : TermId) (old : List TermId) (way : IsOnWay trees 
   }
 
 -- a tree that was not noted, and is noted now
-module _ (trees : Trees) (id : TermId) (old : List TermId) (d : IsDistinct trees.terms) (lt : id.0 < length trees.terms) (way : IsOnWay trees id old) (new : IsAmong old id → ⊥) where
+module _ (trees : Trees) (id : TermId) (old : List TermId) (d : IsDistinct trees.terms) (lt : id.0 < length trees.terms) (way : IsOnWay trees id old)
+    (new : IsAmong old id → ⊥) where
   absent : is_in term_eq (term_at trees id.0) (terms_at trees old) ≡ true → ⊥
   absent e = let n = number_of trees (term_at trees id.0) old way.known e in new (subst (IsAmong old) (sym (term_in-same d id n.0 lt n.1.1.0 n.1.1.1)) n.1.0)
 
@@ -66,11 +68,13 @@ module _ (trees : Trees) (id : TermId) (old : List TermId) (d : IsDistinct trees
   noted = terms_at-last trees old id ∙ union-new (is_in term_eq (term_at trees id.0) (terms_at trees old)) (term_at trees id.0) (terms_at trees old) refl absent
 
   itself : AreIn term_eq (terms_at trees (old ++ id ∷ [])) (term_at trees id.0 ∷ [])
-  itself = subst (λ l. AreIn term_eq l (term_at trees id.0 ∷ [])) (sym (terms_at-last trees old id)) (in_last term_eq same (term_at trees id.0) (terms_at trees old), tt)
+  itself = subst (λ l. AreIn term_eq l (term_at trees id.0 ∷ [])) (sym (terms_at-last trees old id))
+      (in_last term_eq same (term_at trees id.0) (terms_at trees old), tt)
 
   below : (j : TermId) → IsAmong (old ++ id ∷ []) j → j.0 < id.0 → HasSubterms trees (old ++ id ∷ []) j
   below j a h = ⊎_elim
-      (λ o. AreIn-later (terms_at trees old) (terms_at trees (old ++ id ∷ [])) (term_at trees id.0 ∷ []) (subterms (term_at trees j.0)) noted (way.closed j o (omega (arith, h))))
+      (λ o. AreIn-later (terms_at trees old) (terms_at trees (old ++ id ∷ [])) (term_at trees id.0 ∷ []) (subterms (term_at trees j.0)) noted
+      (way.closed j o (omega (arith, h))))
       (λ e. absurd (let q = ap (λ k. k.0) e in omega (arith, h, q)))
       (among_last old id j a)
 
@@ -81,16 +85,20 @@ module _ (trees : Trees) (id : TermId) (old : List TermId) (d : IsDistinct trees
   way_to_second f x mid h c = record {
     known = c.known;
     closed = λ j a le. ⊎_elim
-        (λ n. AreIn-later (terms_at trees (old ++ id ∷ [])) (terms_at trees mid) (subterms (term_at trees f.0)) (subterms (term_at trees j.0)) c.terms (below j n (omega (arith, h, le))))
+        (λ n. AreIn-later (terms_at trees (old ++ id ∷ [])) (terms_at trees mid) (subterms (term_at trees f.0)) (subterms (term_at trees j.0)) c.terms
+        (below j n (omega (arith, h, le))))
         (λ s. s)
         (c.closed j a);
   }
 
   -- the walk has come to the tree where it has come to its parts
-  come_parts : (us : List Term) (ids : List TermId) → subterms (term_at trees id.0) ≡ term_at trees id.0 ∷ us → AreKnown trees ids → terms_at trees ids ≡ union term_eq (terms_at trees (old ++ id ∷ [])) us → ((j : TermId) → IsAmong ids j → IsAmong (old ++ id ∷ []) j ⊎ HasSubterms trees ids j) → Comes trees id old ids
+  come_parts : (us : List Term) (ids : List TermId) → subterms (term_at trees id.0) ≡ term_at trees id.0 ∷ us → AreKnown trees ids → terms_at trees ids
+      ≡ union term_eq (terms_at trees (old ++ id ∷ [])) us → ((j : TermId) → IsAmong ids j → IsAmong (old ++ id ∷ []) j ⊎ HasSubterms trees ids j)
+      → Comes trees id old ids
   come_parts us ids e k h c = record {
     known = k;
-    terms = h ∙ ap (λ l. union term_eq l us) noted ∙ sym (union-append term_eq (term_at trees id.0 ∷ []) us (terms_at trees old)) ∙ ap (union term_eq (terms_at trees old)) (sym e);
+    terms = h ∙ ap (λ l. union term_eq l us) noted ∙ sym (union-append term_eq (term_at trees id.0 ∷ []) us (terms_at trees old))
+        ∙ ap (union term_eq (terms_at trees old)) (sym e);
     closed = λ j a. ⊎_elim (λ n. ⊎_elim (λ o. inl o) (λ q. inr (subst (HasSubterms trees ids) (sym q) here)) (among_last old id j n)) (λ s. inr s) (c j a);
   }
     where
@@ -103,15 +111,19 @@ module _ (trees : Trees) (id : TermId) (old : List TermId) (d : IsDistinct trees
   pub come_leaf : subterms (term_at trees id.0) ≡ term_at trees id.0 ∷ [] → Comes trees id old (old ++ id ∷ [])
   come_leaf e = come_parts [] (old ++ id ∷ []) e (AreKnown-last trees old id way.known lt) refl (λ j a. inl a)
 
-  pub come_lam : (a : HolType) (b : TermId) (ids : List TermId) → term_at trees id.0 ≡ lam a (term_at trees b.0) → Comes trees b (old ++ id ∷ []) ids → Comes trees id old ids
-  come_lam a b ids e c = come_parts (subterms (term_at trees b.0)) ids (ap subterms e ∙ ap (λ u. u ∷ subterms (term_at trees b.0)) (sym e)) c.known c.terms c.closed
+  pub come_lam : (a : HolType) (b : TermId) (ids : List TermId) → term_at trees id.0 ≡ lam a (term_at trees b.0) → Comes trees b (old ++ id ∷ []) ids
+      → Comes trees id old ids
+  come_lam a b ids e c = come_parts (subterms (term_at trees b.0)) ids (ap subterms e ∙ ap (λ u. u ∷ subterms (term_at trees b.0)) (sym e)) c.known c.terms
+      c.closed
 
-  pub come_app : (f x : TermId) (mid ids : List TermId) → term_at trees id.0 ≡ app (term_at trees f.0) (term_at trees x.0) → Comes trees f (old ++ id ∷ []) mid → Comes trees x mid ids → Comes trees id old ids
+  pub come_app : (f x : TermId) (mid ids : List TermId) → term_at trees id.0 ≡ app (term_at trees f.0) (term_at trees x.0) → Comes trees f (old ++ id ∷ []) mid
+      → Comes trees x mid ids → Comes trees id old ids
   come_app f x mid ids e c s = come_parts
       (subterms (term_at trees f.0) ++ subterms (term_at trees x.0)) ids
       (ap subterms e ∙ ap (λ u. u ∷ subterms (term_at trees f.0) ++ subterms (term_at trees x.0)) (sym e))
       s.known
-      (s.terms ∙ ap (λ l. union term_eq l (subterms (term_at trees x.0))) c.terms ∙ sym (union-append term_eq (subterms (term_at trees f.0)) (subterms (term_at trees x.0)) (terms_at trees (old ++ id ∷ []))))
+      (s.terms ∙ ap (λ l. union term_eq l (subterms (term_at trees x.0))) c.terms
+      ∙ sym (union-append term_eq (subterms (term_at trees f.0)) (subterms (term_at trees x.0)) (terms_at trees (old ++ id ∷ []))))
       (λ j a. ⊎_elim
       (λ m. ⊎_elim
       (λ n. inl n)
@@ -136,12 +148,15 @@ pub not_among : (ids : List TermId) (id : TermId) (b : Bool) → b ≡ false →
 not_among ids id b e h a = true≢false (sym (h a) ∙ e)
 
 -- a walk that began with nothing has come to the parts of the tree, each once
-pub came : (trees : Trees) (id : TermId) (old ids : List TermId) → old ≡ [] → Comes trees id old ids → terms_at trees ids ≡ distinct term_eq (subterms (term_at trees id.0))
+pub came : (trees : Trees) (id : TermId) (old ids : List TermId) → old ≡ [] → Comes trees id old ids → terms_at trees ids
+    ≡ distinct term_eq (subterms (term_at trees id.0))
 came trees id old ids e c = c.terms ∙ ap (λ l. union term_eq (terms_at trees l) (subterms (term_at trees id.0))) e
 
 -- a tour over the same lists
-pub same_tour : (trees : Trees) (root : TermId) (before next others seen more : List TermId) → others ≡ next → more ≡ seen → IsOnTour trees root before next seen → IsOnTour trees root before others more
-same_tour trees root before next others seen more e f h = subst (λ l. IsOnTour trees root before l more) (sym e) (subst (IsOnTour trees root before next) (sym f) h)
+pub same_tour : (trees : Trees) (root : TermId) (before next others seen more : List TermId) → others ≡ next → more ≡ seen
+    → IsOnTour trees root before next seen → IsOnTour trees root before others more
+same_tour trees root before next others seen more e f h =
+    subst (λ l. IsOnTour trees root before l more) (sym e) (subst (IsOnTour trees root before next) (sym f) h)
 
 -- A step of a tour
 module _ (trees : Trees) (root : TermId) (before next : List TermId) (id : TermId) (old : List TermId) (tour : IsOnTour trees root before (id ∷ next) old) where
@@ -152,14 +167,16 @@ module _ (trees : Trees) (root : TermId) (before next : List TermId) (id : TermI
     pub tour_leaf : subterms (term_at trees id.0) ≡ term_at trees id.0 ∷ [] → IsOnTour trees root before next (old ++ id ∷ [])
     tour_leaf e = tour.2 (old ++ id ∷ []) (come_leaf trees id old d tour.0 tour.1 new e)
 
-    pub tour_lam : (a : HolType) (b : TermId) → term_at trees id.0 ≡ lam a (term_at trees b.0) → b.0 < id.0 → IsOnTour trees root before (b ∷ next) (old ++ id ∷ [])
+    pub tour_lam : (a : HolType) (b : TermId) → term_at trees id.0 ≡ lam a (term_at trees b.0) → b.0 < id.0
+        → IsOnTour trees root before (b ∷ next) (old ++ id ∷ [])
     tour_lam a b e h = (
       (let lt = tour.0 in omega (arith, lt, h)),
       way_to_part trees id old d tour.0 tour.1 new b h,
       λ ids c. tour.2 ids (come_lam trees id old d tour.0 tour.1 new a b ids e c),
     )
 
-    pub tour_app : (f x : TermId) → term_at trees id.0 ≡ app (term_at trees f.0) (term_at trees x.0) → f.0 < id.0 → x.0 < id.0 → IsOnTour trees root before (f ∷ x ∷ next) (old ++ id ∷ [])
+    pub tour_app : (f x : TermId) → term_at trees id.0 ≡ app (term_at trees f.0) (term_at trees x.0) → f.0 < id.0 → x.0 < id.0
+        → IsOnTour trees root before (f ∷ x ∷ next) (old ++ id ∷ [])
     tour_app f x e h k =
         let lt = tour.0 in (
           omega (arith, lt, h),
@@ -174,8 +191,10 @@ module _ (trees : Trees) (root : TermId) (before next : List TermId) (id : TermI
 pub tour_less : (trees : Trees) (id : TermId) (next : List TermId) → sizes trees next < sizes trees (id ∷ next)
 tour_less trees id next = let l = size-positive (term_at trees id.0) in omega (arith, l)
 
-pub tour_lam_less : (trees : Trees) (id b : TermId) (a : HolType) (next : List TermId) → term_at trees id.0 ≡ lam a (term_at trees b.0) → sizes trees (b ∷ next) < sizes trees (id ∷ next)
+pub tour_lam_less : (trees : Trees) (id b : TermId) (a : HolType) (next : List TermId) → term_at trees id.0 ≡ lam a (term_at trees b.0)
+    → sizes trees (b ∷ next) < sizes trees (id ∷ next)
 tour_lam_less trees id b a next e = let l = ap term_size e in omega (arith, l)
 
-pub tour_app_less : (trees : Trees) (id f x : TermId) (next : List TermId) → term_at trees id.0 ≡ app (term_at trees f.0) (term_at trees x.0) → sizes trees (f ∷ x ∷ next) < sizes trees (id ∷ next)
+pub tour_app_less : (trees : Trees) (id f x : TermId) (next : List TermId) → term_at trees id.0 ≡ app (term_at trees f.0) (term_at trees x.0)
+    → sizes trees (f ∷ x ∷ next) < sizes trees (id ∷ next)
 tour_app_less trees id f x next e = let l = ap term_size e in omega (arith, l)

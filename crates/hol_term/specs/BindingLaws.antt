@@ -35,5 +35,6 @@ Pairwise-trees table (id ∷ ids) [] h = absurd h
 Pairwise-trees table (id ∷ ids) (u ∷ us) h = ap₂ (λ x l. x ∷ l) (Some-term_in table.terms id.0 u h.0) (Pairwise-trees table ids us h.1)
 
 -- where a number has what is made of the tables' trees, it has it of each reading of them
-pub Holds-put_all : (old new : Trees) (ids : List TermId) (body r : TermId) → Holds new r.0 (put_all (terms_at old ids) (term_at old body.0)) → (us : List Term) (t : Term) → Pairwise (λ id t. Holds old id.0 t) ids us → Holds old body.0 t → Holds new r.0 (put_all us t)
+pub Holds-put_all : (old new : Trees) (ids : List TermId) (body r : TermId) → Holds new r.0 (put_all (terms_at old ids) (term_at old body.0))
+    → (us : List Term) (t : Term) → Pairwise (λ id t. Holds old id.0 t) ids us → Holds old body.0 t → Holds new r.0 (put_all us t)
 Holds-put_all old new ids body r h us t p b = h ∙ ap₂ (λ xs x. Some (put_all xs x)) (Pairwise-trees old ids us p) (Some-term_in old.terms body.0 t b)

@@ -92,7 +92,8 @@ pub record IsIndexed (nodes : List Node) (children : List Children) (kept : Node
 -- where a node is, or where it is to be put: with a part that has room for the next number, or else apart
 abbrev pub Finds : List Node → List Children → Node → Slot → Type 0
 Finds nodes children s (slot.At n) = Has nodes n s
-Finds nodes children s (slot.With p) = Lacks nodes s × (length nodes < nothing) × (greater_part s ≡ Some p) × ((c : Children) × (slice_get children p ≡ Some c) × HasRoom c)
+Finds nodes children s (slot.With p) = Lacks nodes s × (length nodes < nothing) × (greater_part s ≡ Some p)
+    × ((c : Children) × (slice_get children p ≡ Some c) × HasRoom c)
 Finds nodes children s slot.Apart = Lacks nodes s × IsFull children s (length nodes)
 
 -- the number is the node's, or the node has none

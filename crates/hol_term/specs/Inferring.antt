@@ -28,14 +28,18 @@ AreTypeNumbers types (id ∷ ids) [] = ⊥
 abbrev pub Ends : Trees → List (List TypeId) → Option HolType → List Step → List (Option HolType) → Type 0
 Ends trees lists root [] found = found ≡ root ∷ []
 Ends trees lists root (Visit s ∷ rest) found = (o : Option HolType) × HasSeatType trees lists s o × Ends trees lists root rest (o ∷ found)
-Ends trees lists root (Apply s ∷ rest) (x ∷ f ∷ found) = HasSeatType trees lists s (application_type f x) × Ends trees lists root rest (application_type f x ∷ found)
+Ends trees lists root (Apply s ∷ rest) (x ∷ f ∷ found) =
+    HasSeatType trees lists s (application_type f x) × Ends trees lists root rest (application_type f x ∷ found)
 Ends trees lists root (Apply s ∷ rest) (x ∷ []) = ⊥
 Ends trees lists root (Apply s ∷ rest) [] = ⊥
-Ends trees lists root (Abstract s ty ∷ rest) (b ∷ found) = (t : HolType) × type.Holds trees.types ty.0 t × HasSeatType trees lists s (option_map (function t) b) × Ends trees lists root rest (option_map (function t) b ∷ found)
+Ends trees lists root (Abstract s ty ∷ rest) (b ∷ found) =
+    (t : HolType) × type.Holds trees.types ty.0 t × HasSeatType trees lists s (option_map (function t) b)
+    × Ends trees lists root rest (option_map (function t) b ∷ found)
 Ends trees lists root (Abstract s ty ∷ rest) [] = ⊥
 
 -- a walk that is to find the root's type
-pub record IsInferring (root : Option HolType) (trees : Trees) (lists : List (List TypeId)) (found : List (Seat × Option TypeId)) (steps : List Step) (types : List (Option TypeId)) : Type 0 where
+pub record IsInferring (root : Option HolType) (trees : Trees) (lists : List (List TypeId)) (found : List (Seat × Option TypeId)) (steps : List Step)
+    (types : List (Option TypeId)) : Type 0 where
   pub typings : AreTypings trees lists found
   pub values : List (Option HolType)
   pub numbers : AreTypeNumbers trees.types types values

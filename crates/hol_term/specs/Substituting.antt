@@ -30,11 +30,13 @@ module _ (from : Trees) (types : List (Name × TypeId)) (terms : List (Variable 
   Ends trees root (Apply id ∷ rest) (x ∷ f ∷ made) = (app f x ≡ image_at id) × Ends trees root rest (app f x ∷ made)
   Ends trees root (Apply id ∷ rest) (x ∷ []) = ⊥
   Ends trees root (Apply id ∷ rest) [] = ⊥
-  Ends trees root (Abstract id ty ∷ rest) (b ∷ made) = (t : HolType) × type.Holds trees.types ty.0 t × (lam t b ≡ image_at id) × Ends trees root rest (lam t b ∷ made)
+  Ends trees root (Abstract id ty ∷ rest) (b ∷ made) =
+      (t : HolType) × type.Holds trees.types ty.0 t × (lam t b ≡ image_at id) × Ends trees root rest (lam t b ∷ made)
   Ends trees root (Abstract id ty ∷ rest) [] = ⊥
 
 -- a substitution that is to make the root's term
-pub record IsSubstituting (from : Trees) (root : Term) (trees : Trees) (types : List (Name × TypeId)) (terms : List (Variable × TermId)) (tasks : List Turn) (made : List TermId) (images : List (TermId × TermId)) : Type 0 where
+pub record IsSubstituting (from : Trees) (root : Term) (trees : Trees) (types : List (Name × TypeId)) (terms : List (Variable × TermId)) (tasks : List Turn)
+    (made : List TermId) (images : List (TermId × TermId)) : Type 0 where
   pub keeps : Keeps from trees
   pub known : AreKnownPairs from types terms
   pub values : List Term

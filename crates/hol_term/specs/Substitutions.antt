@@ -62,4 +62,5 @@ IsPutFor trees pairs v (Some id) = (id.0 < length trees.terms) × (lookup (varia
 
 -- each number has with it one of what the pairs make of its term
 abbrev pub AreImages : Trees → List (Name × TypeId) → List (Variable × TermId) → List (TermId × TermId) → Type 0
-AreImages trees types terms images = (id r : TermId) → IsNoted images id r → (id.0 < length trees.terms) × Holds trees r.0 (image_of trees types terms (term_at trees id.0))
+AreImages trees types terms images = (id r : TermId) → IsNoted images id r → (id.0 < length trees.terms) × Holds trees r.0
+    (image_of trees types terms (term_at trees id.0))

@@ -72,7 +72,8 @@ pub record Comes (trees : Trees) (id : TermId) (old new : List TermId) : Type 0 
 -- A walk that comes to these trees one after another ends where it has come to the root: each is on its way once those before it were come to.
 abbrev pub IsOnTour : Trees → TermId → List TermId → List TermId → List TermId → Type 0
 IsOnTour trees root before [] seen = Comes trees root before seen
-IsOnTour trees root before (id ∷ next) seen = (id.0 < length trees.terms) × IsOnWay trees id seen × ((then : List TermId) → Comes trees id seen then → IsOnTour trees root before next then)
+IsOnTour trees root before (id ∷ next) seen = (id.0 < length trees.terms) × IsOnWay trees id seen
+    × ((then : List TermId) → Comes trees id seen then → IsOnTour trees root before next then)
 
 -- how many nodes the trees have together
 abbrev pub sizes : Trees → List TermId → ℕ

@@ -40,10 +40,16 @@ pub Keeps-refl : (ts : Trees) → Keeps ts ts
 Keeps-refl ts = record { types = type_law.Keeps-refl ts.types; stays = Stays-refl ts.terms; longer = omega arith; distinct = λ d. d }
 
 pub Keeps-trans : {a b c : Trees} → Keeps a b → Keeps b c → Keeps a c
-Keeps-trans h k = record { types = type_law.Keeps-trans h.types k.types; stays = Stays-trans h.stays k.stays; longer = omega (arith, h.longer, k.longer); distinct = λ d. k.distinct (h.distinct d) }
+Keeps-trans h k = record {
+  types = type_law.Keeps-trans h.types k.types;
+  stays = Stays-trans h.stays k.stays;
+  longer = omega (arith, h.longer, k.longer);
+  distinct = λ d. k.distinct (h.distinct d);
+}
 
 -- a node's tree stays
-pub tree_of_node-Stays : (a b : Trees) → type.Stays a.types b.types → Stays a.terms b.terms → (n : Node) → PartsBelow (length a.terms) (length a.types) n → tree_of_node a n ≡ tree_of_node b n
+pub tree_of_node-Stays : (a b : Trees) → type.Stays a.types b.types → Stays a.terms b.terms → (n : Node) → PartsBelow (length a.terms) (length a.types) n
+    → tree_of_node a n ≡ tree_of_node b n
 tree_of_node-Stays a b s k (node.Free m t) h = ap (free m) (type_law.tree_at-Stays s t.0 h)
 tree_of_node-Stays a b s k (node.Bound n) h = refl
 tree_of_node-Stays a b s k (node.Const m t) h = ap (constant m) (type_law.tree_at-Stays s t.0 h)

@@ -17,7 +17,8 @@ pub record Trees : Type 0 where
 
 abbrev pub coded_trees : Coded Trees
 coded_trees =
-    code_by (List HolType × List Term) (coded× (coded_list coded_type) (coded_list coded_term)) (λ t. (t.types, t.terms)) (λ p. record { types = p.0; terms = p.1 }) (λ _. refl)
+    code_by (List HolType × List Term) (coded× (coded_list coded_type) (coded_list coded_term)) (λ t. (t.types, t.terms))
+    (λ p. record { types = p.0; terms = p.1 }) (λ _. refl)
 
 -- the term with a number; a loose number for a number that the list lacks
 abbrev pub term_in : List Term → ℕ → Term

@@ -42,12 +42,15 @@ IsPlace trees place = (place.id.0 < length trees.terms) × (place.depth + place.
 -- the change leaves the place's tree alone: it lifts by nothing, or no number of the tree passes the binders and the variable that is closed over isn't free in it
 abbrev pub IsLeftAlone : List Term → Trees → Place → Type 0
 IsLeftAlone args trees place =
-    (place.change ≡ Raise 0) ⊎ ((place.change ≡ Close → IsWithout (variable_of args) (term_at trees place.id.0)) × (loose (term_at trees place.id.0) ≤ place.depth))
+    (place.change ≡ Raise 0)
+    ⊎ ((place.change ≡ Close → IsWithout (variable_of args) (term_at trees place.id.0)) × (loose (term_at trees place.id.0) ≤ place.depth))
 
 -- what stands for the number n of a place, whatever the arguments
 abbrev pub IsReplaced : List TermId → Place → ℕ → Replacement → Type 0
-IsReplaced ids place n (Renamed m) = (m < 2 ^ 128 - 1) × ((args : List Term) → length args ≡ length ids → changed args place.change place.depth (bound n) ≡ bound m)
-IsReplaced ids place n (Argument id) = (place.change ≡ Replace) × (place.depth ≤ n) × (slice_get (reverse ids) (n - place.depth) ≡ Some id) × ((i : ℕ) × (slice_get ids i ≡ Some id))
+IsReplaced ids place n (Renamed m) = (m < 2 ^ 128 - 1)
+    × ((args : List Term) → length args ≡ length ids → changed args place.change place.depth (bound n) ≡ bound m)
+IsReplaced ids place n (Argument id) = (place.change ≡ Replace) × (place.depth ≤ n) × (slice_get (reverse ids) (n - place.depth) ≡ Some id)
+    × ((i : ℕ) × (slice_get ids i ≡ Some id))
 
 -- there is one at least
 abbrev pub NotEmpty : {A : Type 0} → List A → Type 0
@@ -78,13 +81,15 @@ module _ (from : Trees) (ids : List TermId) where
   Ends trees root (Apply p ∷ rest) (x ∷ f ∷ made) = (app f x ≡ wanted (terms_at from ids) from p) × Ends trees root rest (app f x ∷ made)
   Ends trees root (Apply p ∷ rest) (x ∷ []) = ⊥
   Ends trees root (Apply p ∷ rest) [] = ⊥
-  Ends trees root (Abstract p ty ∷ rest) (b ∷ made) = (t : HolType) × type.Holds trees.types ty.0 t × (lam t b ≡ wanted (terms_at from ids) from p) × Ends trees root rest (lam t b ∷ made)
+  Ends trees root (Abstract p ty ∷ rest) (b ∷ made) =
+      (t : HolType) × type.Holds trees.types ty.0 t × (lam t b ≡ wanted (terms_at from ids) from p) × Ends trees root rest (lam t b ∷ made)
   Ends trees root (Abstract p ty ∷ rest) [] = ⊥
   Ends trees root (Note p ∷ rest) (t ∷ made) = (t ≡ wanted (terms_at from ids) from p) × Ends trees root rest (t ∷ made)
   Ends trees root (Note p ∷ rest) [] = ⊥
 
 -- a walk that is to make the root's term
-pub record IsWalk (from : Trees) (root : Term) (trees : Trees) (ids : List TermId) (tasks : List Task) (made : List TermId) (memo : List (Place × TermId)) : Type 0 where
+pub record IsWalk (from : Trees) (root : Term) (trees : Trees) (ids : List TermId) (tasks : List Task) (made : List TermId)
+    (memo : List (Place × TermId)) : Type 0 where
   pub keeps : Keeps from trees
   pub known : AreKnown from ids
   pub terms : List Term

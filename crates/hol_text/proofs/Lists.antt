@@ -24,10 +24,12 @@ no-item (x ∷ xs) h = absurd (omega (arith, h))
 separated-push : (mark : List ℕ) (xs : List (List ℕ)) (x : List ℕ) → separated mark (xs ++ x ∷ []) ≡ separated mark xs ++ (mark_at (length xs) mark ++ x)
 separated-push mark [] x = refl
 separated-push mark (y ∷ []) x = append_assoc y mark x
-separated-push mark (y ∷ z ∷ xs) x = ap (λ t. (y ++ mark) ++ t) (separated-push mark (z ∷ xs) x) ∙ sym (append_assoc (y ++ mark) (separated mark (z ∷ xs)) (mark ++ x))
+separated-push mark (y ∷ z ∷ xs) x = ap (λ t. (y ++ mark) ++ t) (separated-push mark (z ∷ xs) x) ∙ sym
+    (append_assoc (y ++ mark) (separated mark (z ∷ xs)) (mark ++ x))
 
 -- a text that is written after its mark
-pub separated-more : (mark old one two three x : List ℕ) (xs : List (List ℕ)) (n : ℕ) → length xs ≡ n → one ≡ old ++ separated mark xs → two ≡ one ++ mark_at n mark → three ≡ two ++ x → three ≡ old ++ separated mark (xs ++ x ∷ [])
+pub separated-more : (mark old one two three x : List ℕ) (xs : List (List ℕ)) (n : ℕ) → length xs ≡ n → one ≡ old ++ separated mark xs → two ≡ one
+    ++ mark_at n mark → three ≡ two ++ x → three ≡ old ++ separated mark (xs ++ x ∷ [])
 separated-more mark old one two three x xs n count e f g =
     g ∙ ap (λ t. t ++ x) (f ∙ ap₂ (λ t k. t ++ mark_at k mark) e (sym count))
     ∙ append_assoc (old ++ separated mark xs) (mark_at (length xs) mark) x
@@ -42,7 +44,8 @@ type_variable_texts-push : (i n k : ℕ) → k ≡ i + n → type_variable_texts
 type_variable_texts-push i zero k e = ap (λ j. (codes "a" ++ decimal j) ∷ []) (omega (arith, e))
 type_variable_texts-push i (suc n) k e = ap (λ l. (codes "a" ++ decimal i) ∷ l) (type_variable_texts-push (suc i) n k (omega (arith, e)))
 
-pub type_variables-more : (old one two three : List ℕ) (n m : ℕ) → m ≡ n + 1 → one ≡ old ++ separated (codes " ") (type_variable_texts 0 n) → two ≡ one ++ mark_at n (codes " ") → three ≡ two ++ (codes "a" ++ decimal n)
+pub type_variables-more : (old one two three : List ℕ) (n m : ℕ) → m ≡ n + 1 → one ≡ old ++ separated (codes " ") (type_variable_texts 0 n) → two ≡ one
+    ++ mark_at n (codes " ") → three ≡ two ++ (codes "a" ++ decimal n)
     → three ≡ old ++ separated (codes " ") (type_variable_texts 0 m)
 type_variables-more old one two three n m next e f g =
     let up : suc n ≡ m = omega (arith, next) in
@@ -53,24 +56,28 @@ variable_texts-length : (j : ℕ) (ts : List form.ClosedType) → length (variab
 variable_texts-length j [] = refl
 variable_texts-length j (t ∷ ts) = ap suc (variable_texts-length (suc j) ts)
 
-variable_texts-push : (j : ℕ) (ts : List form.ClosedType) (t : form.ClosedType) (k : ℕ) → k ≡ j + length ts → variable_texts j (ts ++ t ∷ []) ≡ variable_texts j ts ++ variable_text k t ∷ []
+variable_texts-push : (j : ℕ) (ts : List form.ClosedType) (t : form.ClosedType) (k : ℕ) → k ≡ j + length ts → variable_texts j (ts ++ t ∷ [])
+    ≡ variable_texts j ts ++ variable_text k t ∷ []
 variable_texts-push j [] t k e = ap (λ i. variable_text i t ∷ []) (omega (arith, e))
 variable_texts-push j (s ∷ ts) t k e = ap (λ l. variable_text j s ∷ l) (variable_texts-push (suc j) ts t k (omega (arith, e)))
 
 -- the first so many of some, and the next
-shown_more : {X Y : Type 0} (f : X → Y) (xs : List X) (i : ℕ) (x : X) → x ≡ get_or xs i x → i < length xs → map f (take (i + 1) xs) ≡ map f (take i xs) ++ f x ∷ []
+shown_more : {X Y : Type 0} (f : X → Y) (xs : List X) (i : ℕ) (x : X) → x ≡ get_or xs i x → i < length xs → map f (take (i + 1) xs) ≡ map f (take i xs)
+    ++ f x ∷ []
 shown_more f xs i x e h = map_more f xs i x h ∙ ap (λ y. map f (take i xs) ++ f y ∷ []) (sym e)
 
 shown-length : {X Y : Type 0} (f : X → Y) (xs : List X) (i : ℕ) → i < length xs → length (map f (take i xs)) ≡ i
 shown-length f xs i h = length-map (take i xs) f ∙ omega (arith, h, length-take i xs)
 
 pub variables-more : (old one two three : List ℕ) (types : List ClosedType) (i m : ℕ) (ty : ClosedType) → m ≡ i + 1 → ty ≡ get_or types i ty → i < length types
-    → one ≡ old ++ separated (codes " ") (variable_texts 0 (map closed_type_view (take i types))) → two ≡ one ++ mark_at i (codes " ") → three ≡ two ++ variable_text i (closed_type_view ty)
+    → one ≡ old ++ separated (codes " ") (variable_texts 0 (map closed_type_view (take i types))) → two ≡ one ++ mark_at i (codes " ") → three ≡ two
+    ++ variable_text i (closed_type_view ty)
     → three ≡ old ++ separated (codes " ") (variable_texts 0 (map closed_type_view (take m types)))
 variables-more old one two three types i m ty next is h e f g =
     let front = map closed_type_view (take i types) in
     let count : length front ≡ i = shown-length closed_type_view types i h in
-    separated-more (codes " ") old one two three (variable_text i (closed_type_view ty)) (variable_texts 0 front) i (variable_texts-length 0 front ∙ count) e f g
+    separated-more (codes " ") old one two three (variable_text i (closed_type_view ty)) (variable_texts 0 front) i (variable_texts-length 0 front ∙ count) e f
+    g
     ∙ ap (λ l. old ++ separated (codes " ") l) (
     sym (variable_texts-push 0 front (closed_type_view ty) i (omega (arith, count)))
     ∙ ap (variable_texts 0) (sym (shown_more closed_type_view types i ty is h) ∙ ap (λ k. map closed_type_view (take k types)) (sym next))
@@ -85,7 +92,8 @@ hypothesis_texts-push [] h = refl
 hypothesis_texts-push (g ∷ hs) h = ap (λ l. term_text g 0 ∷ l) (hypothesis_texts-push hs h)
 
 pub hypotheses-more : (old one two three : List ℕ) (hyps : List ClosedTerm) (i m : ℕ) (hyp : ClosedTerm) → m ≡ i + 1 → hyp ≡ get_or hyps i hyp → i < length hyps
-    → one ≡ old ++ separated (codes ", ") (hypothesis_texts (map closed_term_view (take i hyps))) → two ≡ one ++ mark_at i (codes ", ") → three ≡ two ++ term_text (closed_term_view hyp) 0
+    → one ≡ old ++ separated (codes ", ") (hypothesis_texts (map closed_term_view (take i hyps))) → two ≡ one ++ mark_at i (codes ", ") → three ≡ two
+    ++ term_text (closed_term_view hyp) 0
     → three ≡ old ++ separated (codes ", ") (hypothesis_texts (map closed_term_view (take m hyps)))
 hypotheses-more old one two three hyps i m hyp next is h e f g =
     let front = map closed_term_view (take i hyps) in

@@ -33,7 +33,8 @@ pub name_text-equality : (n : Name) → name_eq n equality_name ≡ true → nam
 name_text-equality n e = ap (λ b. if b then codes "=" else mangled n) e
 
 -- the test whether an operator makes the type of functions, by how many arguments it has
-pub is_function-two : (b : Bool) (n : Name) (k : ℕ) (ts : List form.ClosedType) → k ≡ 2 → (IsTrue b ↔ (n ≡ arrow_name)) → b ≡ is_function n (closed_types_of (firsts no_type k ts))
+pub is_function-two : (b : Bool) (n : Name) (k : ℕ) (ts : List form.ClosedType) → k ≡ 2 → (IsTrue b ↔ (n ≡ arrow_name)) → b
+    ≡ is_function n (closed_types_of (firsts no_type k ts))
 is_function-two b n k ts e t = same b refl ∙ ap (λ j. is_function n (closed_types_of (firsts no_type j ts))) (sym e)
   where
     same : (c : Bool) → b ≡ c → b ≡ name_eq n arrow_name

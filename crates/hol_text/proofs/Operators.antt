@@ -15,7 +15,8 @@ after_blank old new s t u w e = ap (λ x. x ++ (t ++ (u ++ w))) e ∙ simp appen
 with_arrow : (old new s t a u b w : List ℕ) → new ≡ old ++ s → new ++ (t ++ (a ++ (u ++ (b ++ w)))) ≡ old ++ ((s ++ (((t ++ a) ++ u) ++ b)) ++ w)
 with_arrow old new s t a u b w e = ap (λ x. x ++ (t ++ (a ++ (u ++ (b ++ w))))) e ∙ simp append_assoc
 
-with_name : (old one two three s n a t u b w : List ℕ) → one ≡ old ++ s → two ≡ one ++ n → three ≡ two ++ a → three ++ (t ++ (u ++ (b ++ w))) ≡ old ++ ((((((s ++ n) ++ a) ++ t) ++ u) ++ b) ++ w)
+with_name : (old one two three s n a t u b w : List ℕ) → one ≡ old ++ s → two ≡ one ++ n → three ≡ two ++ a → three ++ (t ++ (u ++ (b ++ w))) ≡ old
+    ++ ((((((s ++ n) ++ a) ++ t) ++ u) ++ b) ++ w)
 with_name old one two three s n a t u b w e f g =
     ap (λ x. x ++ (t ++ (u ++ (b ++ w)))) (g ∙ ap (λ x. x ++ a) (f ∙ ap (λ x. x ++ n) e)) ∙ simp append_assoc
 
@@ -30,23 +31,31 @@ module _ (k m : ℕ) (next : k ≡ m + 1) (ts : List form.ClosedType) (works : L
   left_text = types_left_text works (behind m (others ts))
 
   -- types, each after a blank
-  pub several_turn : (old new : List ℕ) → new ≡ old ++ codes " " → new ++ (type_text (first no_type ts) ++ (others_text ++ left_text)) ≡ old ++ (types_text (closed_types_of (firsts no_type k ts)) ++ types_left_text works (behind k ts))
+  pub several_turn : (old new : List ℕ) → new ≡ old ++ codes " " → new ++ (type_text (first no_type ts) ++ (others_text ++ left_text)) ≡ old
+      ++ (types_text (closed_types_of (firsts no_type k ts)) ++ types_left_text works (behind k ts))
   several_turn old new e =
       after_blank old new (codes " ") (type_text (first no_type ts)) others_text left_text e
       ∙ ap (λ j. old ++ (types_text (closed_types_of (firsts no_type j ts)) ++ types_left_text works (behind j ts))) up
 
   -- the type of functions
   pub function_turn : (n : Name) (old new : List ℕ) → is_function n (closed_types_of (firsts no_type k ts)) ≡ true → new ≡ old ++ codes "("
-      → new ++ (type_text (first no_type ts) ++ (codes " ->" ++ (others_text ++ (codes ")" ++ left_text)))) ≡ old ++ (type_text (form.ClosedType.operator n (closed_types_of (firsts no_type k ts))) ++ types_left_text works (behind k ts))
+      → new ++ (type_text (first no_type ts) ++ (codes " ->" ++ (others_text ++ (codes ")" ++ left_text)))) ≡ old
+      ++ (type_text (form.ClosedType.operator n (closed_types_of (firsts no_type k ts))) ++ types_left_text works (behind k ts))
   function_turn n old new is e =
       with_arrow old new (codes "(") (type_text (first no_type ts)) (codes " ->") others_text (codes ")") left_text e
       ∙ ap (λ j. old ++ ((codes "(" ++ (function_text (closed_types_of (firsts no_type j ts)) ++ codes ")")) ++ types_left_text works (behind j ts))) up
-      ∙ ap (λ b. old ++ ((if b then codes "(" ++ (function_text (closed_types_of (firsts no_type k ts)) ++ codes ")") else operator_text n (closed_types_of (firsts no_type k ts))) ++ types_left_text works (behind k ts))) (sym is)
+      ∙ ap (λ b. old
+      ++ ((if b then codes "(" ++ (function_text (closed_types_of (firsts no_type k ts)) ++ codes ")") else operator_text n
+      (closed_types_of (firsts no_type k ts))) ++ types_left_text works (behind k ts))) (sym is)
 
   -- another operator
-  pub operator_turn : (n : Name) (old one two three : List ℕ) → is_function n (closed_types_of (firsts no_type k ts)) ≡ false → one ≡ old ++ codes "(" → two ≡ one ++ name_text n → three ≡ two ++ codes " "
-      → three ++ (type_text (first no_type ts) ++ (others_text ++ (codes ")" ++ left_text))) ≡ old ++ (type_text (form.ClosedType.operator n (closed_types_of (firsts no_type k ts))) ++ types_left_text works (behind k ts))
+  pub operator_turn : (n : Name) (old one two three : List ℕ) → is_function n (closed_types_of (firsts no_type k ts)) ≡ false → one ≡ old ++ codes "(" → two
+      ≡ one ++ name_text n → three ≡ two ++ codes " "
+      → three ++ (type_text (first no_type ts) ++ (others_text ++ (codes ")" ++ left_text))) ≡ old
+      ++ (type_text (form.ClosedType.operator n (closed_types_of (firsts no_type k ts))) ++ types_left_text works (behind k ts))
   operator_turn n old one two three is e f g =
       with_name old one two three (codes "(") (name_text n) (codes " ") (type_text (first no_type ts)) others_text (codes ")") left_text e f g
       ∙ ap (λ j. old ++ (operator_text n (closed_types_of (firsts no_type j ts)) ++ types_left_text works (behind j ts))) up
-      ∙ ap (λ b. old ++ ((if b then codes "(" ++ (function_text (closed_types_of (firsts no_type k ts)) ++ codes ")") else operator_text n (closed_types_of (firsts no_type k ts))) ++ types_left_text works (behind k ts))) (sym is)
+      ∙ ap (λ b. old
+      ++ ((if b then codes "(" ++ (function_text (closed_types_of (firsts no_type k ts)) ++ codes ")") else operator_text n
+      (closed_types_of (firsts no_type k ts))) ++ types_left_text works (behind k ts))) (sym is)

@@ -16,7 +16,8 @@ trees_from-two ts (n ∷ a) b = trees_from-two (ts ++ tree_of_node ts n.node ∷
 
 goes_on : (ts : List HolType) (es : List Entry) → (l : List HolType) × (ts ++ l ≡ trees_from ts es)
 goes_on ts [] = ([], append-nil ts)
-goes_on ts (n ∷ es) = let h = goes_on (ts ++ tree_of_node ts n.node ∷ []) es in (tree_of_node ts n.node ∷ h.0, sym (append_assoc ts (tree_of_node ts n.node ∷ []) h.0) ∙ h.1)
+goes_on ts (n ∷ es) = let h = goes_on (ts ++ tree_of_node ts n.node ∷ []) es in
+    (tree_of_node ts n.node ∷ h.0, sym (append_assoc ts (tree_of_node ts n.node ∷ []) h.0) ∙ h.1)
 
 split : (n : ℕ) (es : List Entry) → trees_of es ≡ trees_from (trees_of (take n es)) (drop n es)
 split n es = ap trees_of (sym (take-append-drop n es)) ∙ trees_from-two [] (take n es) (drop n es)

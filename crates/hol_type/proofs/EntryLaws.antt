@@ -24,7 +24,8 @@ use Rattle.hol_type.specs.Entries.{tree_of_node, PartsBelow, trees_from, trees_o
 -- a node's type stays
 pub tree_of_node-Stays : {ts us : List HolType} → Stays ts us → (n : Node) → PartsBelow (length ts) n → tree_of_node ts n ≡ tree_of_node us n
 tree_of_node-Stays k (node.Var n) h = refl
-tree_of_node-Stays {ts = ts} k (node.Op n args) h = ap (λ l. operator n (types_of l)) (types_at-Stays k args.items (AreBelow-known ts (length ts) args.items (omega arith) h))
+tree_of_node-Stays {ts = ts} k (node.Op n args) h =
+    ap (λ l. operator n (types_of l)) (types_at-Stays k args.items (AreBelow-known ts (length ts) args.items (omega arith) h))
 
 AreBelow-more : {a b : ℕ} → a ≤ b → (ids : List TypeId) → AreBelow a ids → AreBelow b ids
 AreBelow-more h [] p = tt
@@ -35,7 +36,8 @@ pub PartsBelow-more : {a b : ℕ} → a ≤ b → (n : Node) → PartsBelow a n 
 PartsBelow-more h (node.Var n) p = tt
 PartsBelow-more h (node.Op n args) p = AreBelow-more h args.items p
 
-pub trees_from-append : (ts : List HolType) (es : List Entry) (e : Entry) → trees_from ts (es ++ e ∷ []) ≡ trees_from ts es ++ tree_of_node (trees_from ts es) e.node ∷ []
+pub trees_from-append : (ts : List HolType) (es : List Entry) (e : Entry) → trees_from ts (es ++ e ∷ []) ≡ trees_from ts es
+    ++ tree_of_node (trees_from ts es) e.node ∷ []
 trees_from-append ts [] e = refl
 trees_from-append ts (m ∷ es) e = trees_from-append (ts ++ tree_of_node ts m.node ∷ []) es e
 
@@ -51,7 +53,8 @@ Stays-trees_from ts [] = Stays-refl ts
 Stays-trees_from ts (e ∷ es) = Stays-trans (Stays-append ts (tree_of_node ts e.node ∷ [])) (Stays-trees_from (ts ++ tree_of_node ts e.node ∷ []) es)
 
 -- the tree of each entry is that of its parts among all trees
-node_from : (ts : List HolType) (es : List Entry) (j : ℕ) (m : Entry) → slice_get es j ≡ Some m → PartsBelow (length ts + j) m.node → slice_get (trees_from ts es) (length ts + j) ≡ Some (tree_of_node (trees_from ts es) m.node)
+node_from : (ts : List HolType) (es : List Entry) (j : ℕ) (m : Entry) → slice_get es j ≡ Some m → PartsBelow (length ts + j) m.node
+    → slice_get (trees_from ts es) (length ts + j) ≡ Some (tree_of_node (trees_from ts es) m.node)
 node_from ts [] j m e h = absurd (let h = slice_get_within [] j m e in omega arith)
 node_from ts (n ∷ es) zero m e h =
     let z : length ts + 0 ≡ length ts = omega arith in
@@ -65,10 +68,12 @@ node_from ts (n ∷ es) zero m e h =
 node_from ts (n ∷ es) (suc j) m e h =
     let us = ts ++ tree_of_node ts n.node ∷ [] in
     let z : length us + j ≡ length ts + suc j = omega (arith, length-append ts (tree_of_node ts n.node ∷ [])) in
-    subst (λ w. slice_get (trees_from us es) w ≡ Some (tree_of_node (trees_from us es) m.node)) z (node_from us es j m e (subst (λ w. PartsBelow w m.node) (sym z) h))
+    subst (λ w. slice_get (trees_from us es) w ≡ Some (tree_of_node (trees_from us es) m.node)) z
+    (node_from us es j m e (subst (λ w. PartsBelow w m.node) (sym z) h))
 
 -- the tree of each entry of a table
-pub trees_of-Holds : (es : List Entry) (i : ℕ) (e : Entry) → PartsBelow i e.node → slice_get es i ≡ Some e → Holds (trees_of es) i (tree_of_node (trees_of es) e.node)
+pub trees_of-Holds : (es : List Entry) (i : ℕ) (e : Entry) → PartsBelow i e.node → slice_get es i ≡ Some e
+    → Holds (trees_of es) i (tree_of_node (trees_of es) e.node)
 trees_of-Holds es i e low at =
     let r = node_from [] es i e at (subst (λ w. PartsBelow w e.node) (let z : i ≡ 0 + i = omega arith in z) low) in
     subst (λ w. slice_get (trees_of es) w ≡ Some (tree_of_node (trees_of es) e.node)) (let z : 0 + i ≡ i = omega arith in z) r
@@ -82,7 +87,8 @@ id_eq-refl x = grind arith
 
 ids_eq-true : (xs ys : List TypeId) → pointwise id_eq.eq-value.it xs ys ≡ true → xs ≡ ys
 ids_eq-true [] [] h = refl
-ids_eq-true (x ∷ xs) (y ∷ ys) h = let p = and_parts (id_eq.eq-value.it x y) (pointwise id_eq.eq-value.it xs ys) h in ap₂ (λ a l. a ∷ l) (id_eq-true x y p.0) (ids_eq-true xs ys p.1)
+ids_eq-true (x ∷ xs) (y ∷ ys) h = let p = and_parts (id_eq.eq-value.it x y) (pointwise id_eq.eq-value.it xs ys) h in ap₂ (λ a l. a ∷ l) (id_eq-true x y p.0)
+    (ids_eq-true xs ys p.1)
 ids_eq-true [] (y ∷ ys) h = absurd (cc)
 ids_eq-true (x ∷ xs) [] h = absurd (cc)
 
@@ -109,13 +115,16 @@ parts_of (variable n) = none
 parts_of (operator n ts) = ts
 
 -- where no type has two numbers, nodes of one type are equal by their test
-pub node_same : {ts : List HolType} → IsDistinct ts → (m n : Node) → PartsBelow (length ts) m → PartsBelow (length ts) n → tree_of_node ts m ≡ tree_of_node ts n → node_eq.eq-value.it m n ≡ true
+pub node_same : {ts : List HolType} → IsDistinct ts → (m n : Node) → PartsBelow (length ts) m → PartsBelow (length ts) n → tree_of_node ts m ≡ tree_of_node ts n
+    → node_eq.eq-value.it m n ≡ true
 unfolding name_of parts_of
 node_same d (node.Var m) (node.Var n) a b e = (name_eq-Decides m n).1 (ap name_of e)
 node_same {ts = ts} d (node.Op m is) (node.Op n js) a b e =
     let p = (name_eq-Decides m n).1 (ap name_of e) in
-    let q = types_at-same d is.items js.items (AreBelow-known ts (length ts) is.items (omega arith) a) (AreBelow-known ts (length ts) js.items (omega arith) b) (types_of-same _ _ (ap parts_of e)) in
-    and_from (name_eq m n) (pointwise id_eq.eq-value.it is.items js.items) p (subst (λ l. pointwise id_eq.eq-value.it is.items l ≡ true) q (ids_eq-refl is.items))
+    let q = types_at-same d is.items js.items (AreBelow-known ts (length ts) is.items (omega arith) a) (AreBelow-known ts (length ts) js.items (omega arith) b)
+    (types_of-same _ _ (ap parts_of e)) in
+    and_from (name_eq m n) (pointwise id_eq.eq-value.it is.items js.items) p
+    (subst (λ l. pointwise id_eq.eq-value.it is.items l ≡ true) q (ids_eq-refl is.items))
 node_same d (node.Var m) (node.Op n js) a b e = absurd (cc)
 node_same d (node.Op m is) (node.Var n) a b e = absurd (cc)
 

@@ -9,14 +9,16 @@ use Rattle.hol_type.specs.declared.table.TypeId.{TypeId}
 use Rattle.hol_type.specs.Tables.{types_at, two_at}
 
 -- an operator over another number of arguments than two
-pub function_parts-count : (trees : List HolType) (n : Name) (args : List TypeId) → (length args ≡ 2 → ⊥) → function_parts (operator n (types_of (types_at trees args))) ≡ None
+pub function_parts-count : (trees : List HolType) (n : Name) (args : List TypeId) → (length args ≡ 2 → ⊥)
+    → function_parts (operator n (types_of (types_at trees args))) ≡ None
 function_parts-count trees n [] h = refl
 function_parts-count trees n (a ∷ []) h = refl
 function_parts-count trees n (a ∷ b ∷ []) h = absurd (h refl)
 function_parts-count trees n (a ∷ b ∷ c ∷ args) h = refl
 
 -- an operator of another name
-pub function_parts-other : (trees : List HolType) (n : Name) (args : List TypeId) → (n ≡ arrow_name → ⊥) → function_parts (operator n (types_of (types_at trees args))) ≡ None
+pub function_parts-other : (trees : List HolType) (n : Name) (args : List TypeId) → (n ≡ arrow_name → ⊥)
+    → function_parts (operator n (types_of (types_at trees args))) ≡ None
 function_parts-other trees n [] h = refl
 function_parts-other trees n (a ∷ []) h = refl
 function_parts-other trees n (a ∷ b ∷ []) h = go (name_eq n arrow_name) refl
@@ -27,7 +29,8 @@ function_parts-other trees n (a ∷ b ∷ []) h = go (name_eq n arrow_name) refl
 function_parts-other trees n (a ∷ b ∷ c ∷ args) h = refl
 
 -- an operator of that name over two arguments
-pub function_parts-two : (trees : List HolType) (n : Name) (args : List TypeId) (d e : TypeId) → n ≡ arrow_name → length args ≡ 2 → function_parts (operator n (types_of (types_at trees args))) ≡ Some (two_at trees (get_or args 0 d, get_or args 1 e))
+pub function_parts-two : (trees : List HolType) (n : Name) (args : List TypeId) (d e : TypeId) → n ≡ arrow_name → length args ≡ 2
+    → function_parts (operator n (types_of (types_at trees args))) ≡ Some (two_at trees (get_or args 0 d, get_or args 1 e))
 function_parts-two trees n [] d e h k = absurd (omega (arith, k))
 function_parts-two trees n (a ∷ []) d e h k = absurd (omega (arith, k))
 function_parts-two trees n (a ∷ b ∷ []) d e h k = rw ((name_eq-Decides n arrow_name).1 h) refl

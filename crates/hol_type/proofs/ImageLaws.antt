@@ -10,7 +10,8 @@ use Rattle.hol_type.specs.TableLaws.{tree_at-Holds}
 
 -- in every table the rest of the pairs gives for the variable what all of them give
 abbrev pub Skips : List (Name × TypeId) → List (Name × TypeId) → Name → Type 0
-Skips pairs rest n = (trees : List HolType) → ArePairsKnown trees pairs → ArePairsKnown trees rest × (image (pairs_at trees rest) n ≡ image (pairs_at trees pairs) n)
+Skips pairs rest n = (trees : List HolType) → ArePairsKnown trees pairs → ArePairsKnown trees rest
+    × (image (pairs_at trees rest) n ≡ image (pairs_at trees pairs) n)
 
 pub skips_none : (pairs : List (Name × TypeId)) (n : Name) → Skips pairs pairs n
 skips_none pairs n trees h = (h, refl)
@@ -25,7 +26,8 @@ skips_other pairs rest p n e s trees h =
 abbrev pub Replaces : List (Name × TypeId) → TypeId → Name → TypeId → Type 0
 Replaces pairs id n r = (trees : List HolType) → ArePairsKnown trees pairs → Holds trees id.0 (variable n) → Holds trees r.0 (image (pairs_at trees pairs) n)
 
-pub replaces_by : (pairs rest : List (Name × TypeId)) (p : Name × TypeId) (id : TypeId) (n : Name) → name_eq n p.0 ≡ true → Skips pairs (p ∷ rest) n → Replaces pairs id n p.1
+pub replaces_by : (pairs rest : List (Name × TypeId)) (p : Name × TypeId) (id : TypeId) (n : Name) → name_eq n p.0 ≡ true → Skips pairs (p ∷ rest) n
+    → Replaces pairs id n p.1
 replaces_by pairs rest p id n e s trees h v =
     let w = s trees h in
     let this : image (pairs_at trees (p ∷ rest)) n ≡ tree_at trees p.1.0 = rw e refl in

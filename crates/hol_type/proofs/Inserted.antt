@@ -16,7 +16,8 @@ use Rattle.hol_type.proofs.Numbering.{AreAlike-refl}
 use Rattle.hol_laws.specs.PlaceLaws.{slice_get-last, slice_get-one_more}
 
 -- an entry whose node the table lacks
-module _ (es : List Entry) (e : Entry) (t : IsTable es) (p : PartsBelow (length (trees_of es)) e.node) (m : IsMeasured e.measures (tree_of_node (trees_of es) e.node)) (absent : (j : ℕ) (o : Entry) → slice_get es j ≡ Some o → AreAlike o.node e.node → ⊥) where
+module _ (es : List Entry) (e : Entry) (t : IsTable es) (p : PartsBelow (length (trees_of es)) e.node)
+    (m : IsMeasured e.measures (tree_of_node (trees_of es) e.node)) (absent : (j : ℕ) (o : Entry) → slice_get es j ≡ Some o → AreAlike o.node e.node → ⊥) where
   low : (i : ℕ) (o : Entry) → slice_get (es ++ e ∷ []) i ≡ Some o → PartsBelow i o.node
   low i o at = ⊎_elim (λ h. t.lower i o h) (λ h. subst₂ (λ n w. PartsBelow n w.node) (length-trees_of es ∙ sym h.0) h.1 p) (slice_get-one_more es e o i at)
 
@@ -26,7 +27,8 @@ module _ (es : List Entry) (e : Entry) (t : IsTable es) (p : PartsBelow (length 
       let at = slice_get-get_or es i e lt in
       let o = get_or es i e in
       let below = t.lower i o at in
-      let same = node_same t.distinct o.node e.node (PartsBelow-more (omega (arith, length-trees_of es)) o.node below) p (same_Some _ _ (sym (trees_of-Holds es i o below at) ∙ held)) in
+      let same = node_same t.distinct o.node e.node (PartsBelow-more (omega (arith, length-trees_of es)) o.node below) p
+      (same_Some _ _ (sym (trees_of-Holds es i o below at) ∙ held)) in
       absent i o at (sym (matches_eq-law o.node e.node) ∙ same)
 
   distinct : (i j : ℕ) (u : HolType) → Holds (trees_of (es ++ e ∷ [])) i u → Holds (trees_of (es ++ e ∷ [])) j u → i ≡ j
@@ -45,7 +47,8 @@ module _ (es : List Entry) (e : Entry) (t : IsTable es) (p : PartsBelow (length 
       let w = slice_get-one_more (trees_of es) (tree_of_node (trees_of es) e.node) u i (ap (λ w. slice_get w i) (sym g) ∙ held) in
       ⊎_elim
       (λ a. ⊎_elim (λ b. t.measured i o u a b) (λ b. absurd (let h = slice_get_within es i o a in omega (arith, h, b.0, length-trees_of es))) w)
-      (λ a. ⊎_elim (λ b. absurd (let h = Holds-within (trees_of es) i u b in omega (arith, h, a.0, length-trees_of es))) (λ b. subst₂ (λ w v. IsMeasured w.measures v) a.1 b.1 m) w)
+      (λ a. ⊎_elim (λ b. absurd (let h = Holds-within (trees_of es) i u b in omega (arith, h, a.0, length-trees_of es)))
+      (λ b. subst₂ (λ w v. IsMeasured w.measures v) a.1 b.1 m) w)
       (slice_get-one_more es e o i at)
 
   pub grown_table : IsTable (es ++ e ∷ [])
@@ -59,8 +62,10 @@ pub record Inserted (es new : List Entry) (e : Entry) : Type 0 where
 pub unchanged : (es new : List Entry) (e : Entry) → IsTable es → new ≡ es → Inserted es new e
 unchanged es new e t same = subst (λ w. Inserted es w e) (sym same) (record { table = t; adds = inl refl })
 
-pub inserted : (es new : List Entry) (e : Entry) (r : ℕ) (b : Bool) → IsTable es → PartsBelow (length (trees_of es)) e.node → IsMeasured e.measures (tree_of_node (trees_of es) e.node) → IsInserted es new e r b → Inserted es new e
-inserted es new e r true t p m h = subst (λ w. Inserted es w e) (sym h.0) (record { table = grown_table es e t p m h.2; adds = inr (trees_from-append [] es e) })
+pub inserted : (es new : List Entry) (e : Entry) (r : ℕ) (b : Bool) → IsTable es → PartsBelow (length (trees_of es)) e.node
+    → IsMeasured e.measures (tree_of_node (trees_of es) e.node) → IsInserted es new e r b → Inserted es new e
+inserted es new e r true t p m h = subst (λ w. Inserted es w e) (sym h.0)
+    (record { table = grown_table es e t p m h.2; adds = inr (trees_from-append [] es e) })
 inserted es new e r false t p m h = unchanged es new e t h.0
 
 -- the entry that has the number
@@ -72,7 +77,8 @@ pub inserted_keeps : (es new : List Entry) (e : Entry) → Inserted es new e →
 inserted_keeps es new e ins = Adds-Keeps (trees_of es) (trees_of new) (tree_of_node (trees_of es) e.node) ins.adds ins.table.distinct
 
 -- the tree that is stored at the number given
-pub stored_tree : (es new : List Entry) (e : Entry) (r : ℕ) (b : Bool) → Inserted es new e → PartsBelow (length (trees_of es)) e.node → IsInserted es new e r b → Holds (trees_of new) r (tree_of_node (trees_of es) e.node)
+pub stored_tree : (es new : List Entry) (e : Entry) (r : ℕ) (b : Bool) → Inserted es new e → PartsBelow (length (trees_of es)) e.node → IsInserted es new e r b
+    → Holds (trees_of new) r (tree_of_node (trees_of es) e.node)
 stored_tree es new e r b ins p h =
     let k = stored es new e r b h in
     trees_of-Holds new r k.0 (ins.table.lower r k.0 k.1) k.1

@@ -14,8 +14,10 @@ pub record IsGathering (made : List (TypeId × TypeId)) (ids rest items : List T
 pub gathering_begins : (made : List (TypeId × TypeId)) (ids : List TypeId) → AreDone made ids → IsGathering made ids ids []
 gathering_begins made ids h = record { done = h; on = λ rs m. m }
 
-pub gathering_goes_on : (made : List (TypeId × TypeId)) (ids rest items : List TypeId) (id r : TypeId) → IsNoted made id r → IsGathering made ids (id ∷ rest) items → IsGathering made ids rest (items ++ r ∷ [])
-gathering_goes_on made ids rest items id r n g = record { done = g.done.1; on = λ rs m. subst (AreMade made ids) (sym (append_assoc items (r ∷ []) rs)) (g.on (r ∷ rs) (n, m)) }
+pub gathering_goes_on : (made : List (TypeId × TypeId)) (ids rest items : List TypeId) (id r : TypeId) → IsNoted made id r
+    → IsGathering made ids (id ∷ rest) items → IsGathering made ids rest (items ++ r ∷ [])
+gathering_goes_on made ids rest items id r n g = record
+    { done = g.done.1; on = λ rs m. subst (AreMade made ids) (sym (append_assoc items (r ∷ []) rs)) (g.on (r ∷ rs) (n, m)) }
 
 pub gathering_ends : (made : List (TypeId × TypeId)) (ids items : List TypeId) → IsGathering made ids [] items → AreMade made ids items
 gathering_ends made ids items g = subst (AreMade made ids) (append-nil items) (g.on [] tt)

@@ -33,7 +33,8 @@ measuring_goes_on trees args rest id size depth part s d m es ed w = record {
   known = w.known.1;
   size_fits = omega (arith, es);
   depth_fits = omega (arith, ed, m.depth, w.depth_fits);
-  sizes = size_step size (type_size (tree_at trees id.0)) (types_size (types_of (types_at trees rest))) s (es ∙ ap (λ n. min (size + n) (2 ^ 64 - 1)) m.size) ∙ w.sizes;
+  sizes = size_step size (type_size (tree_at trees id.0)) (types_size (types_of (types_at trees rest))) s (es ∙ ap (λ n. min (size + n) (2 ^ 64 - 1)) m.size)
+      ∙ w.sizes;
   depths = depth_step depth (type_depth (tree_at trees id.0)) (types_depth (types_of (types_at trees rest))) d (ed ∙ ap (max depth) m.depth) ∙ w.depths;
 }
 
@@ -41,7 +42,8 @@ count-types_of : (trees : List HolType) (args : List TypeId) → count (types_of
 count-types_of trees [] = refl
 count-types_of trees (id ∷ args) = omega (arith, count-types_of trees args)
 
-pub measuring_ends : (trees : List HolType) (args : List TypeId) (size depth above k : ℕ) → above ≡ max (length args) 1 → k ≡ min (depth + above) (2 ^ 64 - 1) → IsMeasuring trees args [] size depth → (name : Name) → IsMeasured (record { size = size; depth = k }) (operator name (types_of (types_at trees args)))
+pub measuring_ends : (trees : List HolType) (args : List TypeId) (size depth above k : ℕ) → above ≡ max (length args) 1 → k ≡ min (depth + above) (2 ^ 64 - 1)
+    → IsMeasuring trees args [] size depth → (name : Name) → IsMeasured (record { size = size; depth = k }) (operator name (types_of (types_at trees args)))
 measuring_ends trees args size depth above k ea ek w name = record {
   size = omega (arith, w.size_fits, w.sizes);
   depth = omega (arith, w.depth_fits, w.depths, ea, ek, count-types_of trees args);

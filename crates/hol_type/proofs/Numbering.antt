@@ -32,15 +32,18 @@ pub number_in-alike : (m : BTreeMap Node ℕ) (s t : Node) → AreAlike s t → 
 number_in-alike m s t e = ap (λ (f : Node → Bool). lookup f m.entries) (λ i u. is_eq (alike_cmp s t u e i))
 
 -- a tree of nodes after a node like this one has got a number
-pub alike_updates : (old new : Node → Option ℕ) (copy s : Node) (n : ℕ) → AreAlike copy s → ((u : Node) → new u ≡ cond (is_eq (node_cmp copy u)) (Some n) (old u)) → (u : Node) → new u ≡ cond (is_eq (node_cmp s u)) (Some n) (old u)
+pub alike_updates : (old new : Node → Option ℕ) (copy s : Node) (n : ℕ) → AreAlike copy s
+    → ((u : Node) → new u ≡ cond (is_eq (node_cmp copy u)) (Some n) (old u)) → (u : Node) → new u ≡ cond (is_eq (node_cmp s u)) (Some n) (old u)
 alike_updates old new copy s n e updates u = updates u ∙ ap (λ o. cond (is_eq o) (Some n) (old u)) (alike_cmp copy s u e)
 
 -- an entry whose node has no number is new
-pub none_alike : (es : List Entry) (m : BTreeMap Node ℕ) (s : Node) → AreNumbered es (number_in m) → number_in m s ≡ None → (j : ℕ) (o : Entry) → slice_get es j ≡ Some o → AreAlike o.node s → ⊥
+pub none_alike : (es : List Entry) (m : BTreeMap Node ℕ) (s : Node) → AreNumbered es (number_in m) → number_in m s ≡ None → (j : ℕ) (o : Entry) → slice_get es j
+    ≡ Some o → AreAlike o.node s → ⊥
 none_alike es m s t none j o at e = absurd (let w = sym none ∙ sym (number_in-alike m o.node s e) ∙ t.each j o at in cc)
 
 -- an entry that is put last
-pub AreNumbered-more : (es : List Entry) (m : BTreeMap Node ℕ) (new : Node → Option ℕ) (e : Entry) → AreNumbered es (number_in m) → number_in m e.node ≡ None → ((u : Node) → new u ≡ cond (is_eq (node_cmp e.node u)) (Some (length es)) (number_in m u)) → AreNumbered (es ++ e ∷ []) new
+pub AreNumbered-more : (es : List Entry) (m : BTreeMap Node ℕ) (new : Node → Option ℕ) (e : Entry) → AreNumbered es (number_in m) → number_in m e.node ≡ None
+    → ((u : Node) → new u ≡ cond (is_eq (node_cmp e.node u)) (Some (length es)) (number_in m u)) → AreNumbered (es ++ e ∷ []) new
 AreNumbered-more es m new e t none updates = record { each = each; told = told }
   where
     same : (u : Node) → AreAlike e.node u → new u ≡ Some (length es)
@@ -59,7 +62,8 @@ AreNumbered-more es m new e t none updates = record { each = each; told = told }
         (λ k. ap (λ (w : Entry). new w.node) (sym k.1) ∙ same e.node (AreAlike-refl e.node) ∙ ap Some (sym k.0))
         (slice_get-one_more es e o i at)
 
-    told_by : (i : ℕ) (s : Node) → new s ≡ Some i → (b : Bool) → is_eq (node_cmp e.node s) ≡ b → (o : Entry) × (slice_get (es ++ e ∷ []) i ≡ Some o) × AreAlike o.node s
+    told_by : (i : ℕ) (s : Node) → new s ≡ Some i → (b : Bool) → is_eq (node_cmp e.node s) ≡ b → (o : Entry) × (slice_get (es ++ e ∷ []) i ≡ Some o)
+        × AreAlike o.node s
     told_by i s k true q = (e, ap (slice_get (es ++ e ∷ [])) (sym (same_Some (length es) i (sym (same s q) ∙ k))) ∙ slice_get-last es e, q)
     told_by i s k false q = let o = t.told i s (sym (other s q) ∙ k) in (o.0, slice_get-append es (e ∷ []) i o.0 o.1, o.2)
 
@@ -67,7 +71,8 @@ AreNumbered-more es m new e t none updates = record { each = each; told = told }
     told i s k = told_by i s k (is_eq (node_cmp e.node s)) refl
 
 -- entries where nothing changed
-pub AreNumbered-same : (es new : List Entry) (m n : BTreeMap Node ℕ) → AreNumbered es (number_in m) → new ≡ es → n.entries ≡ m.entries → AreNumbered new (number_in n)
+pub AreNumbered-same : (es new : List Entry) (m n : BTreeMap Node ℕ) → AreNumbered es (number_in m) → new ≡ es → n.entries ≡ m.entries
+    → AreNumbered new (number_in n)
 AreNumbered-same es new m n t a e =
     subst (λ l. AreNumbered l (number_in n)) (sym a)
     (subst (λ (l : List (Node × ℕ)). AreNumbered es (λ s. lookup (is_at (node_cmp s)) l)) (sym e) t)
@@ -80,8 +85,10 @@ pub record Forgotten (old now : Node → Option ℕ) (len number : ℕ) : Type 0
 pub Forgotten-none : (old : Node → Option ℕ) (len : ℕ) → Forgotten old old len len
 Forgotten-none old len = record { stays = λ s n lt h. h; told = λ s n h. (h, λ k. k) }
 
-pub Forgotten-more : (es : List Entry) (m : BTreeMap Node ℕ) (now new : Node → Option ℕ) (len number : ℕ) (e : Entry) → AreNumbered es (number_in m) → slice_get es number ≡ Some e → len ≤ number
-    → Forgotten (number_in m) now len number → ((u : Node) → new u ≡ cond (is_eq (node_cmp e.node u)) None (now u)) → Forgotten (number_in m) new len (number + 1)
+pub Forgotten-more : (es : List Entry) (m : BTreeMap Node ℕ) (now new : Node → Option ℕ) (len number : ℕ) (e : Entry) → AreNumbered es (number_in m)
+    → slice_get es number ≡ Some e → len ≤ number
+    → Forgotten (number_in m) now len number → ((u : Node) → new u ≡ cond (is_eq (node_cmp e.node u)) None (now u))
+    → Forgotten (number_in m) new len (number + 1)
 Forgotten-more es m now new len number e a at low t updates = record {
   stays = λ s n lt h. stays s n lt h (is_eq (node_cmp e.node s)) refl;
   told = λ s n h. told s n h (is_eq (node_cmp e.node s)) refl;
@@ -107,7 +114,8 @@ Forgotten-more es m now new len number e a at low t updates = record {
         let o = t.told s n (sym (updates s ∙ ap (λ b. cond b None (now s)) q) ∙ h) in
         (o.0, lower s n q o.0 o.1)
 
-pub Forgotten-all : (es : List Entry) (old now : Node → Option ℕ) (len number : ℕ) → AreNumbered es old → length es ≤ number → Forgotten old now len number → (s : Node) (n : ℕ) → now s ≡ Some n → (old s ≡ Some n) × (n < len)
+pub Forgotten-all : (es : List Entry) (old now : Node → Option ℕ) (len number : ℕ) → AreNumbered es old → length es ≤ number → Forgotten old now len number
+    → (s : Node) (n : ℕ) → now s ≡ Some n → (old s ≡ Some n) × (n < len)
 Forgotten-all es old now len number a past t s n h =
     let o = t.told s n h in
     let e = a.told n s o.0 in
@@ -122,8 +130,10 @@ slice_get-take (suc n) (x ∷ xs) zero h = refl
 slice_get-take (suc n) (x ∷ xs) (suc i) h = slice_get-take n xs i (omega (arith, h))
 
 pub AreNumbered-take : (n : ℕ) (es : List Entry) (old new : Node → Option ℕ) → AreNumbered es old
-    → ((s : Node) (i : ℕ) → i < n → old s ≡ Some i → new s ≡ Some i) → ((s : Node) (i : ℕ) → new s ≡ Some i → (old s ≡ Some i) × (i < n)) → AreNumbered (take n es) new
+    → ((s : Node) (i : ℕ) → i < n → old s ≡ Some i → new s ≡ Some i) → ((s : Node) (i : ℕ) → new s ≡ Some i → (old s ≡ Some i) × (i < n))
+    → AreNumbered (take n es) new
 AreNumbered-take n es old new t stay go = record {
-  each = λ i e at. let within : i < n = let k = slice_get_within (take n es) i e at in omega (arith, k, length-take n es) in stay e.node i within (t.each i e (sym (slice_get-take n es i within) ∙ at));
+  each = λ i e at. let within : i < n = let k = slice_get_within (take n es) i e at in omega (arith, k, length-take n es) in stay e.node i within
+      (t.each i e (sym (slice_get-take n es i within) ∙ at));
   told = λ i s h. let k = go s i h in let o = t.told i s k.0 in (o.0, slice_get-take n es i k.1 ∙ o.1, o.2);
 }

@@ -12,5 +12,6 @@ pub visits-last : (ids : List TypeId) (id : TypeId) (tasks : List Task) → visi
 visits-last [] id tasks = refl
 visits-last (x ∷ ids) id tasks = ap (λ l. Visit x ∷ l) (visits-last ids id tasks)
 
-pub visits-front : (ids : List TypeId) (d : TypeId) (tasks : List Task) → 1 ≤ length ids → visits (take (length ids - 1) ids) (Visit (get_or ids (length ids - 1) d) ∷ tasks) ≡ visits ids tasks
+pub visits-front : (ids : List TypeId) (d : TypeId) (tasks : List Task) → 1 ≤ length ids
+    → visits (take (length ids - 1) ids) (Visit (get_or ids (length ids - 1) d) ∷ tasks) ≡ visits ids tasks
 visits-front ids d tasks h = sym (visits-last (take (length ids - 1) ids) (get_or ids (length ids - 1) d) tasks) ∙ ap (λ l. visits l tasks) (front-last ids d h)

@@ -24,7 +24,8 @@ AreAll-more P Q [] f h = tt
 AreAll-more P Q (id ∷ ids) f h = (f id h.0, AreAll-more P Q ids f h.1)
 
 -- more types that are done serve as well
-pub Ends-more : (root : TypeId) (ts : List HolType) (tasks : List Task) (P Q : TypeId → Type 0) → ((x : TypeId) → P x → Q x) → Ends root ts tasks P → Ends root ts tasks Q
+pub Ends-more : (root : TypeId) (ts : List HolType) (tasks : List Task) (P Q : TypeId → Type 0) → ((x : TypeId) → P x → Q x) → Ends root ts tasks P
+    → Ends root ts tasks Q
 Ends-more root ts [] P Q f h = f root h
 Ends-more root ts (Visit id ∷ rest) P Q f h = (h.0, Ends-more root ts rest (OrIs P id) (OrIs Q id) (λ x. ⊎_elim (λ a. inl (f x a)) (λ b. inr b)) h.1)
 Ends-more root ts (Join id ∷ rest) P Q f h = (
@@ -34,11 +35,13 @@ Ends-more root ts (Join id ∷ rest) P Q f h = (
 )
 
 -- a visit of a type that is done can be left out
-pub Ends-done : (root : TypeId) (ts : List HolType) (tasks : List Task) (P : TypeId → Type 0) (id : TypeId) → P id → Ends root ts tasks (OrIs P id) → Ends root ts tasks P
+pub Ends-done : (root : TypeId) (ts : List HolType) (tasks : List Task) (P : TypeId → Type 0) (id : TypeId) → P id → Ends root ts tasks (OrIs P id)
+    → Ends root ts tasks P
 Ends-done root ts tasks P id p h = Ends-more root ts tasks (OrIs P id) P (λ x. ⊎_elim (λ a. a) (λ e. subst P (sym e) p)) h
 
 -- a type that is noted is done, and no other becomes undone
-pub done_more : (made noted : List (TypeId × TypeId)) (id mark : TypeId) → IsNoted noted id mark → ((i r : TypeId) → IsNoted made i r → (i ≡ id) ⊎ IsNoted noted i r) → (x : TypeId) → OrIs (IsDone made) id x → IsDone noted x
+pub done_more : (made noted : List (TypeId × TypeId)) (id mark : TypeId) → IsNoted noted id mark
+    → ((i r : TypeId) → IsNoted made i r → (i ≡ id) ⊎ IsNoted noted i r) → (x : TypeId) → OrIs (IsDone made) id x → IsDone noted x
 done_more made noted id mark new kept x h = ⊎_elim
     (λ d. ⊎_elim (λ e. this x e) (λ n. (d.0, n)) (kept x d.0 d.1))
     (λ e. this x e)
@@ -47,8 +50,10 @@ done_more made noted id mark new kept x h = ⊎_elim
     this : (x : TypeId) → x ≡ id → IsDone noted x
     this x e = (mark, subst (λ i. IsNoted noted i mark) (sym e) new)
 
-pub Ends-noted : (root : TypeId) (ts : List HolType) (tasks : List Task) (made noted : List (TypeId × TypeId)) (id mark : TypeId) → IsNoted noted id mark → ((i r : TypeId) → IsNoted made i r → (i ≡ id) ⊎ IsNoted noted i r) → Ends root ts tasks (OrIs (IsDone made) id) → Ends root ts tasks (IsDone noted)
-Ends-noted root ts tasks made noted id mark new kept h = Ends-more root ts tasks (OrIs (IsDone made) id) (IsDone noted) (done_more made noted id mark new kept) h
+pub Ends-noted : (root : TypeId) (ts : List HolType) (tasks : List Task) (made noted : List (TypeId × TypeId)) (id mark : TypeId) → IsNoted noted id mark
+    → ((i r : TypeId) → IsNoted made i r → (i ≡ id) ⊎ IsNoted noted i r) → Ends root ts tasks (OrIs (IsDone made) id) → Ends root ts tasks (IsDone noted)
+Ends-noted root ts tasks made noted id mark new kept h =
+    Ends-more root ts tasks (OrIs (IsDone made) id) (IsDone noted) (done_more made noted id mark new kept) h
 
 -- what is so of a type after visits of some
 After : (TypeId → Type 0) → List TypeId → TypeId → Type 0
@@ -65,13 +70,15 @@ unfolding After
 After-all P [] = tt
 After-all P (id ∷ ids) = (After-old (OrIs P id) ids id (inr refl), After-all (OrIs P id) ids)
 
-Ends-visits : (root : TypeId) (ts : List HolType) (ids : List TypeId) (tasks : List Task) (P : TypeId → Type 0) → AreKnown ts ids → Ends root ts tasks (After P ids) → Ends root ts (visits ids tasks) P
+Ends-visits : (root : TypeId) (ts : List HolType) (ids : List TypeId) (tasks : List Task) (P : TypeId → Type 0) → AreKnown ts ids
+    → Ends root ts tasks (After P ids) → Ends root ts (visits ids tasks) P
 unfolding After
 Ends-visits root ts [] tasks P k h = h
 Ends-visits root ts (id ∷ ids) tasks P k h = (k.0, Ends-visits root ts ids tasks (OrIs P id) k.1 h)
 
 -- an operator's visit can be replaced by those of its arguments and a task to come back to it
-pub Ends-set_out : (root : TypeId) (ts : List HolType) (id : TypeId) (parts : List TypeId) (tasks : List Task) (P : TypeId → Type 0) → HasParts ts id parts → Ends root ts (Visit id ∷ tasks) P → Ends root ts (visits parts (Join id ∷ tasks)) P
+pub Ends-set_out : (root : TypeId) (ts : List HolType) (id : TypeId) (parts : List TypeId) (tasks : List Task) (P : TypeId → Type 0) → HasParts ts id parts
+    → Ends root ts (Visit id ∷ tasks) P → Ends root ts (visits parts (Join id ∷ tasks)) P
 Ends-set_out root ts id parts tasks P of h =
     Ends-visits root ts parts (Join id ∷ tasks) P (AreBelow-known ts id.0 parts (omega (arith, h.0)) of.lower) (
       h.0,
@@ -84,11 +91,14 @@ arguments_of (variable n) = none
 arguments_of (operator n ts) = ts
 
 -- the parts of a type are its arguments
-pub parts_all : (ts : List HolType) (id : TypeId) (n : Name) (args : List TypeId) (P : TypeId → Type 0) → IsDistinct ts → id.0 < length ts → Holds ts id.0 (operator n (types_of (types_at ts args))) → AreBelow id.0 args → PartsAre P ts id → AreAll P args
+pub parts_all : (ts : List HolType) (id : TypeId) (n : Name) (args : List TypeId) (P : TypeId → Type 0) → IsDistinct ts → id.0 < length ts
+    → Holds ts id.0 (operator n (types_of (types_at ts args))) → AreBelow id.0 args → PartsAre P ts id → AreAll P args
 unfolding arguments_of
 parts_all ts id n args P d k h low p =
     let e = types_of-same _ _ (ap arguments_of (same_Some _ _ (sym p.of.is ∙ h))) in
-    subst (AreAll P) (types_at-same d p.parts args (AreBelow-known ts id.0 p.parts (omega (arith, k)) p.of.lower) (AreBelow-known ts id.0 args (omega (arith, k)) low) e) p.all
+    subst (AreAll P)
+    (types_at-same d p.parts args (AreBelow-known ts id.0 p.parts (omega (arith, k)) p.of.lower) (AreBelow-known ts id.0 args (omega (arith, k)) low) e)
+    p.all
 
 -- a variable has no parts
 pub no_parts : (ts : List HolType) (id : TypeId) (n : Name) (P : TypeId → Type 0) → Holds ts id.0 (variable n) → PartsAre P ts id → ⊥
@@ -99,7 +109,8 @@ module _ {ts us : List HolType} (keeps : Keeps ts us) where
   HasParts-Keeps : (id : TypeId) (parts : List TypeId) → id.0 < length ts → HasParts ts id parts → HasParts us id parts
   HasParts-Keeps id parts k p = record {
     name = p.name;
-    is = keeps.stays.each id.0 _ p.is ∙ ap (λ l. Some (operator p.name (types_of l))) (types_at-Stays keeps.stays parts (AreBelow-known ts id.0 parts (omega (arith, k)) p.lower));
+    is = keeps.stays.each id.0 _ p.is ∙ ap (λ l. Some (operator p.name (types_of l)))
+        (types_at-Stays keeps.stays parts (AreBelow-known ts id.0 parts (omega (arith, k)) p.lower));
     lower = p.lower;
   }
 
@@ -117,12 +128,14 @@ module _ {ts us : List HolType} (keeps : Keeps ts us) where
   work-Keeps root (Visit id ∷ rest) P h = ap₂ (λ t n. 2 * type_size t + n) (tree_at-Stays keeps.stays id.0 h.0) (work-Keeps root rest (OrIs P id) h.1)
   work-Keeps root (Join id ∷ rest) P h = ap (λ n. 1 + n) (work-Keeps root rest (OrIs P id) h.2)
 
-work-visits : (ts : List HolType) (ids : List TypeId) (tasks : List Task) → work ts (visits ids tasks) ≡ 2 * types_size (types_of (types_at ts ids)) + work ts tasks
+work-visits : (ts : List HolType) (ids : List TypeId) (tasks : List Task) → work ts (visits ids tasks)
+    ≡ 2 * types_size (types_of (types_at ts ids)) + work ts tasks
 work-visits ts [] tasks = omega arith
 work-visits ts (id ∷ ids) tasks = omega (arith, work-visits ts ids tasks)
 
 -- the arguments and the way back are less work than the operator
-pub set_out_less : (ts : List HolType) (id : TypeId) (n : Name) (args : List TypeId) (tasks : List Task) → Holds ts id.0 (operator n (types_of (types_at ts args))) → work ts (visits args (Join id ∷ tasks)) < work ts (Visit id ∷ tasks)
+pub set_out_less : (ts : List HolType) (id : TypeId) (n : Name) (args : List TypeId) (tasks : List Task)
+    → Holds ts id.0 (operator n (types_of (types_at ts args))) → work ts (visits args (Join id ∷ tasks)) < work ts (Visit id ∷ tasks)
 set_out_less ts id n args tasks h =
     let e : type_size (tree_at ts id.0) ≡ 1 + types_size (types_of (types_at ts args)) = ap type_size (Holds-tree_at ts id.0 _ h) in
     omega (arith, e, work-visits ts args (Join id ∷ tasks))

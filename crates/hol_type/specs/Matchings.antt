@@ -45,13 +45,16 @@ pub record IsOpened (trees : List HolType) (tasks met : List (TypeId × TypeId))
   pub paired : ArePaired tasks met parts images
 
 -- all of a matching
-pub record IsMatching (general instance : TypeId) (trees : List HolType) (tasks : List (TypeId × TypeId)) (found : List (Name × TypeId)) (met : List (TypeId × TypeId)) : Type 0 where
+pub record IsMatching (general instance : TypeId) (trees : List HolType) (tasks : List (TypeId × TypeId)) (found : List (Name × TypeId))
+    (met : List (TypeId × TypeId)) : Type 0 where
   pub distinct : IsDistinct trees
   pub known : (part image : TypeId) → IsNoted met part image ⊎ IsNoted tasks part image → (part.0 < length trees) × (image.0 < length trees)
   pub found_known : ArePairsKnown trees found
-  pub needs : (s : TypePairs) → Meets s trees general instance → (part image : TypeId) → IsNoted met part image ⊎ IsNoted tasks part image → Meets s trees part image
+  pub needs : (s : TypePairs) → Meets s trees general instance → (part image : TypeId) → IsNoted met part image ⊎ IsNoted tasks part image
+      → Meets s trees part image
   pub closed : (part image : TypeId) → IsNoted met part image → IsFound trees found part image ⊎ IsOpened trees tasks met part image
-  pub sources : (name : Name) (image : TypeId) → lookup (name_eq name) found ≡ Some image → (part : TypeId) × Holds trees part.0 (variable name) × IsNoted met part image
+  pub sources : (name : Name) (image : TypeId) → lookup (name_eq name) found ≡ Some image → (part : TypeId) × Holds trees part.0 (variable name)
+      × IsNoted met part image
   pub root : IsNoted met general instance ⊎ IsNoted tasks general instance
 
 -- after a turn the matching goes on, or no substitution makes of the general type the instance

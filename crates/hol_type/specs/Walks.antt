@@ -64,7 +64,8 @@ Ends root trees (Visit id ∷ rest) P = (id.0 < length trees) × Ends root trees
 Ends root trees (Join id ∷ rest) P = (id.0 < length trees) × PartsAre P trees id × Ends root trees rest (OrIs P id)
 
 -- a walk that is to substitute these pairs in the root's type
-pub record IsWalk (given : TypePairs) (root : TypeId) (trees : List HolType) (pairs : List (Name × TypeId)) (tasks : List Task) (made : List (TypeId × TypeId)) : Type 0 where
+pub record IsWalk (given : TypePairs) (root : TypeId) (trees : List HolType) (pairs : List (Name × TypeId)) (tasks : List Task)
+    (made : List (TypeId × TypeId)) : Type 0 where
   pub known : ArePairsKnown trees pairs
   pub pairs_are : pairs_at trees pairs ≡ given
   pub noted : (id r : TypeId) → IsNoted made id r → (id.0 < length trees) × Holds trees r.0 (substitute given (tree_at trees id.0))
@@ -82,11 +83,12 @@ gathered trees (Visit id ∷ rest) found = gathered trees rest (union name_eq fo
 gathered trees (Join id ∷ rest) found = gathered trees rest found
 
 -- a search that is to find these variables in the root's type
-pub record IsSearch (goal : List Name) (root : TypeId) (trees : List HolType) (tasks : List Task) (found : List Name) (seen : List (TypeId × TypeId)) : Type 0 where
-  pub noted : (id r : TypeId) → IsNoted seen id r → AreIn found (variable_places (tree_at trees id.0))
-  pub named : (n : Name) → is_in name_eq n found ≡ true → (id : TypeId) × Holds trees id.0 (variable n) × IsDone seen id
-  pub ends : Ends root trees tasks (IsDone seen)
-  pub gives : gathered trees tasks found ≡ goal
+pub record IsSearch (goal : List Name) (root : TypeId) (trees : List HolType) (tasks : List Task) (found : List Name) (seen : List (TypeId × TypeId)) : Type 0
+  where
+    pub noted : (id r : TypeId) → IsNoted seen id r → AreIn found (variable_places (tree_at trees id.0))
+    pub named : (n : Name) → is_in name_eq n found ≡ true → (id : TypeId) × Holds trees id.0 (variable n) × IsDone seen id
+    pub ends : Ends root trees tasks (IsDone seen)
+    pub gives : gathered trees tasks found ≡ goal
 
 -- how many turns the tasks take at most
 abbrev pub work : List HolType → List Task → ℕ

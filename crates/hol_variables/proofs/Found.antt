@@ -17,7 +17,8 @@ use Rattle.hol_term.specs.Tables.{Trees, term_at}
 use Rattle.hol_variables.specs.Variables.{variable_at, IsVariableAt, AreVariables}
 
 -- types are one exactly where their numbers are
-pub type_numbers : (types : List HolType) → type.IsDistinct types → (a b : TypeId) → a.0 < length types → b.0 < length types → nat_eq a.0 b.0 ≡ type_eq (tree_at types a.0) (tree_at types b.0)
+pub type_numbers : (types : List HolType) → type.IsDistinct types → (a b : TypeId) → a.0 < length types → b.0 < length types → nat_eq a.0 b.0
+    ≡ type_eq (tree_at types a.0) (tree_at types b.0)
 type_numbers types d a b h k =
     sym (same_from_decides (type_eq (tree_at types a.0) (tree_at types b.0)) (nat_eq a.0 b.0) (type_eq-Decides (tree_at types a.0) (tree_at types b.0))
     (Decides-like (nat_eq a.0 b.0) (λ e. ap (tree_at types) e) (λ e. ap (λ (id : TypeId). id.0) (tree_at-same d a b h k e)) (Decides-eqb a.0 b.0)))
@@ -26,7 +27,9 @@ none_here : (v : AVariable) (xs : List AVariable) → is_in variable_eq v xs ≡
 none_here v [] e = tt
 none_here v (x ∷ xs) e = go (variable_eq v x) refl e (none_here v xs)
   where
-    go : (b : Bool) → variable_eq v x ≡ b → (b || is_in variable_eq v xs) ≡ false → (is_in variable_eq v xs ≡ false → AllByRecursion (λ w. variable_eq v w ≡ false) xs) → (variable_eq v x ≡ false) × AllByRecursion (λ w. variable_eq v w ≡ false) xs
+    go : (b : Bool) → variable_eq v x ≡ b → (b || is_in variable_eq v xs) ≡ false
+        → (is_in variable_eq v xs ≡ false → AllByRecursion (λ w. variable_eq v w ≡ false) xs) → (variable_eq v x ≡ false)
+        × AllByRecursion (λ w. variable_eq v w ≡ false) xs
     go true f g rest = absurd (cc)
     go false f g rest = (f, rest g)
 
@@ -54,9 +57,11 @@ module _ (trees : Trees) (v : AVariable) (all rest : List ℕ) (n : ℕ) (h : Is
   pub searching_finds : true ≡ variable_eq v (variable_at trees n) → true ≡ is_in variable_eq v (map (variable_at trees) all)
   searching_finds e = ap (λ b. b || is_in variable_eq v (map (variable_at trees) rest)) e ∙ h.same
 
-pub searching_ends : (trees : Trees) (v : AVariable) (all rest : List ℕ) → rest ≡ [] → IsSearching trees v all rest → false ≡ is_in variable_eq v (map (variable_at trees) all)
+pub searching_ends : (trees : Trees) (v : AVariable) (all rest : List ℕ) → rest ≡ [] → IsSearching trees v all rest → false
+    ≡ is_in variable_eq v (map (variable_at trees) all)
 searching_ends trees v all rest e h = ap (λ l. is_in variable_eq v (map (variable_at trees) l)) (sym e) ∙ h.same
 
 -- a variable is in a list exactly where it is free in the list's term
-pub found_free : (trees : Trees) (v : AVariable) (id : ℕ) (ids : List ℕ) → AreVariables trees (free_places (term_at trees id)) ids → is_in variable_eq v (map (variable_at trees) ids) ≡ is_in variable_eq v (free_places (term_at trees id))
+pub found_free : (trees : Trees) (v : AVariable) (id : ℕ) (ids : List ℕ) → AreVariables trees (free_places (term_at trees id)) ids
+    → is_in variable_eq v (map (variable_at trees) ids) ≡ is_in variable_eq v (free_places (term_at trees id))
 found_free trees v id ids h = ap (is_in variable_eq v) h.are ∙ is_in-distinct v (free_places (term_at trees id))

@@ -34,7 +34,8 @@ length-variables_of trees [] = refl
 length-variables_of trees (v ∷ vs) = ap suc (length-variables_of trees vs)
 
 -- a sequent's parameters as listed by a walk
-pub walked_count : (trees : Trees) (s : Sequent) (names : List Name) (vs : List Variable) (ids : List TermId) → names ≡ type_variables_of (sequent_at trees s) → variables_of trees vs ≡ free_variables_of (sequent_at trees s) → ids ≡ s.hyps
+pub walked_count : (trees : Trees) (s : Sequent) (names : List Name) (vs : List Variable) (ids : List TermId) → names ≡ type_variables_of (sequent_at trees s)
+    → variables_of trees vs ≡ free_variables_of (sequent_at trees s) → ids ≡ s.hyps
     → min (length names + length vs + length ids) (2 ^ 64 - 1) ≡ min (parameter_count (sequent_at trees s)) (2 ^ 64 - 1)
 walked_count trees s names vs ids e f g =
     let n = ap length e in
@@ -64,21 +65,26 @@ module _ (trees : Trees) (all : List TermId) where
     variables = subst (AreVariables trees []) (sym f) (AreVariables-none trees);
   }
 
-  pub finding_goes_on : (rest : List TermId) (id : TermId) (old new : Found) → Gathers trees id old new → IsFinding trees all (id ∷ rest) old → IsFinding trees all rest new
+  pub finding_goes_on : (rest : List TermId) (id : TermId) (old new : Found) → Gathers trees id old new → IsFinding trees all (id ∷ rest) old
+      → IsFinding trees all rest new
   finding_goes_on rest id old new g h = record {
     done = h.done ++ id ∷ [];
     whole = h.whole ∙ sym (append_assoc h.done (id ∷ []) rest);
     known = h.known.1;
     names =
-        subst (λ ps. AreNames trees.types ps new.names) (places-last type_variable_places (terms_at trees h.done) (term_at trees id.0) ∙ ap (flat_map type_variable_places) (sym (terms_at-last trees h.done id)))
+        subst (λ ps. AreNames trees.types ps new.names)
+        (places-last type_variable_places (terms_at trees h.done) (term_at trees id.0)
+        ∙ ap (flat_map type_variable_places) (sym (terms_at-last trees h.done id)))
         (g.names (flat_map type_variable_places (terms_at trees h.done)) h.names);
     variables =
-        subst (λ ps. AreVariables trees ps new.variables) (places-last free_places (terms_at trees h.done) (term_at trees id.0) ∙ ap (flat_map free_places) (sym (terms_at-last trees h.done id)))
+        subst (λ ps. AreVariables trees ps new.variables)
+        (places-last free_places (terms_at trees h.done) (term_at trees id.0) ∙ ap (flat_map free_places) (sym (terms_at-last trees h.done id)))
         (g.variables (flat_map free_places (terms_at trees h.done)) h.variables);
   }
 
 -- the conclusion's variables and the hypotheses', and the hypotheses
-pub found_count : (trees : Trees) (s : Sequent) (rest ids : List TermId) (old new : Found) (names variables : List ℕ) → rest ≡ [] → IsFinding trees s.hyps rest old → Gathers trees s.concl old new
+pub found_count : (trees : Trees) (s : Sequent) (rest ids : List TermId) (old new : Found) (names variables : List ℕ) → rest ≡ []
+    → IsFinding trees s.hyps rest old → Gathers trees s.concl old new
     → names ≡ new.names → variables ≡ new.variables → ids ≡ s.hyps
     → min (length names + length variables + length ids) (2 ^ 64 - 1) ≡ min (parameter_count (sequent_at trees s)) (2 ^ 64 - 1)
 found_count trees s rest ids old new names variables none h g en ev eh =
@@ -88,20 +94,26 @@ found_count trees s rest ids old new names variables none h g en ev eh =
     let terms : ts ++ t ∷ [] ≡ terms_at trees s.hyps ++ t ∷ [] = ap (λ l. terms_at trees l ++ t ∷ []) (sym all) in
     let a = (g.names (flat_map type_variable_places ts) h.names).are in
     let b = (g.variables (flat_map free_places ts) h.variables).are in
-    let n = ap length en ∙ sym (length-map new.names (name_at trees.types)) ∙ ap length (a ∙ ap (distinct name_eq) (places-last type_variable_places ts t ∙ ap (flat_map type_variable_places) terms)) in
-    let v = ap length ev ∙ sym (length-map new.variables (variable_at trees)) ∙ ap length (b ∙ ap (distinct variable_eq) (places-last free_places ts t ∙ ap (flat_map free_places) terms)) in
+    let n = ap length en ∙ sym (length-map new.names (name_at trees.types))
+    ∙ ap length (a ∙ ap (distinct name_eq) (places-last type_variable_places ts t ∙ ap (flat_map type_variable_places) terms)) in
+    let v = ap length ev ∙ sym (length-map new.variables (variable_at trees))
+    ∙ ap length (b ∙ ap (distinct variable_eq) (places-last free_places ts t ∙ ap (flat_map free_places) terms)) in
     let k = ap length eh ∙ sym (length-map s.hyps (λ (id : TermId). term_at trees id.0)) in
     λ i. min (n i + v i + k i) (2 ^ 64 - 1)
 
 -- what is taken of a list
-pub names_gathered : (types : List HolType) → type.IsDistinct types → (places : List Name) (lists : List (List ℕ)) (o : Option ListId) (id : ListId) (found new numbers list : List ℕ) → Tells (AreNames types places) lists o → o ≡ Some id → slice_get lists id.0 ≡ Some list → numbers ≡ list → new ≡ union nat_eq found numbers
+pub names_gathered : (types : List HolType) → type.IsDistinct types
+    → (places : List Name) (lists : List (List ℕ)) (o : Option ListId) (id : ListId) (found new numbers list : List ℕ) → Tells (AreNames types places) lists o
+    → o ≡ Some id → slice_get lists id.0 ≡ Some list → numbers ≡ list → new ≡ union nat_eq found numbers
     → (before : List Name) → AreNames types before found → AreNames types (before ++ places) new
 names_gathered types d places lists o id found new numbers list t e at n u before h =
     let own = subst (Tells (AreNames types places) lists) e t in
     let same = n ∙ same_Some _ _ (sym at ∙ own.is) in
     subst (AreNames types (before ++ places)) (sym (u ∙ ap (union nat_eq found) same)) (AreNames-union types d before places found own.list h own.such)
 
-pub variables_gathered : (trees : Trees) → IsDistinct trees.terms → (places : List AVariable) (lists : List (List ℕ)) (o : Option ListId) (id : ListId) (found new numbers list : List ℕ) → Tells (AreVariables trees places) lists o → o ≡ Some id → slice_get lists id.0 ≡ Some list → numbers ≡ list → new ≡ union nat_eq found numbers
+pub variables_gathered : (trees : Trees) → IsDistinct trees.terms
+    → (places : List AVariable) (lists : List (List ℕ)) (o : Option ListId) (id : ListId) (found new numbers list : List ℕ)
+    → Tells (AreVariables trees places) lists o → o ≡ Some id → slice_get lists id.0 ≡ Some list → numbers ≡ list → new ≡ union nat_eq found numbers
     → (before : List AVariable) → AreVariables trees before found → AreVariables trees (before ++ places) new
 variables_gathered trees d places lists o id found new numbers list t e at n u before h =
     let own = subst (Tells (AreVariables trees places) lists) e t in
@@ -109,18 +121,21 @@ variables_gathered trees d places lists o id found new numbers list t e at n u b
     subst (AreVariables trees (before ++ places)) (sym (u ∙ ap (union nat_eq found) same)) (AreVariables-union trees d before places found own.list h own.such)
 
 -- a list that is kept has the variables that its term has
-pub variables_listed : (trees : Trees) (places : List AVariable) (lists : List (List ℕ)) (o : Option ListId) (id : ListId) (numbers list : List ℕ) → Tells (AreVariables trees places) lists o → o ≡ Some id → slice_get lists id.0 ≡ Some list → numbers ≡ list → AreVariables trees places numbers
+pub variables_listed : (trees : Trees) (places : List AVariable) (lists : List (List ℕ)) (o : Option ListId) (id : ListId) (numbers list : List ℕ)
+    → Tells (AreVariables trees places) lists o → o ≡ Some id → slice_get lists id.0 ≡ Some list → numbers ≡ list → AreVariables trees places numbers
 variables_listed trees places lists o id numbers list t e at n =
     let own = subst (Tells (AreVariables trees places) lists) e t in
     subst (AreVariables trees places) (sym (n ∙ same_Some _ _ (sym at ∙ own.is))) own.such
 
-pub names_listed : (types : List HolType) (places : List Name) (lists : List (List ℕ)) (o : Option ListId) (id : ListId) (numbers list : List ℕ) → Tells (AreNames types places) lists o → o ≡ Some id → slice_get lists id.0 ≡ Some list → numbers ≡ list → AreNames types places numbers
+pub names_listed : (types : List HolType) (places : List Name) (lists : List (List ℕ)) (o : Option ListId) (id : ListId) (numbers list : List ℕ)
+    → Tells (AreNames types places) lists o → o ≡ Some id → slice_get lists id.0 ≡ Some list → numbers ≡ list → AreNames types places numbers
 names_listed types places lists o id numbers list t e at n =
     let own = subst (Tells (AreNames types places) lists) e t in
     subst (AreNames types places) (sym (n ∙ same_Some _ _ (sym at ∙ own.is))) own.such
 
 -- the lists of a term's variables have as many numbers as it has variables
-pub listed_count : (trees : Trees) (t : Term) (names variables : List ℕ) (n : ℕ) → AreNames trees.types (type_variable_places t) names → AreVariables trees (free_places t) variables → n ≡ min (length names + length variables) (2 ^ 64 - 1) → n ≡ min (variable_count t) (2 ^ 64 - 1)
+pub listed_count : (trees : Trees) (t : Term) (names variables : List ℕ) (n : ℕ) → AreNames trees.types (type_variable_places t) names
+    → AreVariables trees (free_places t) variables → n ≡ min (length names + length variables) (2 ^ 64 - 1) → n ≡ min (variable_count t) (2 ^ 64 - 1)
 listed_count trees t names variables n a b e =
     let k = sym (length-map names (name_at trees.types)) ∙ ap length a.are in
     let v = sym (length-map variables (variable_at trees)) ∙ ap length b.are in

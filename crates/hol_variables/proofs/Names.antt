@@ -21,9 +21,11 @@ use Rattle.hol_term.specs.TableLaws.{Some-term_in}
 use Rattle.hol_variables.specs.NotedLaws.{name_at-is, variable_at-is}
 use Rattle.hol_variables.specs.Variables.{name_at, IsNameAt, AreNames, variable_at, IsVariableAt, AreVariables}
 
-module _ {A : Type 0} (f : ℕ → A) (eq : A → A → Bool) (decides : (x y : A) → Decides (eq x y) (x ≡ y)) (P : ℕ → Type 0) (agree : (i j : ℕ) → P i → P j → eq (f i) (f j) ≡ nat_eq i j) where
+module _ {A : Type 0} (f : ℕ → A) (eq : A → A → Bool) (decides : (x y : A) → Decides (eq x y) (x ≡ y)) (P : ℕ → Type 0)
+    (agree : (i j : ℕ) → P i → P j → eq (f i) (f j) ≡ nat_eq i j) where
   -- the union of two lists is that of what stands at their places
-  map-union : (ps qs : List A) (xs ys : List ℕ) → AllByRecursion P xs → AllByRecursion P ys → map f xs ≡ distinct eq ps → map f ys ≡ distinct eq qs → map f (union nat_eq xs ys) ≡ distinct eq (ps ++ qs)
+  map-union : (ps qs : List A) (xs ys : List ℕ) → AllByRecursion P xs → AllByRecursion P ys → map f xs ≡ distinct eq ps → map f ys ≡ distinct eq qs
+      → map f (union nat_eq xs ys) ≡ distinct eq (ps ++ qs)
   map-union ps qs xs ys h k e g =
       union-map f nat_eq eq P agree ys xs h k
       ∙ ap₂ (union eq) e g
@@ -53,10 +55,12 @@ pub AreNames-none : (types : List HolType) → AreNames types [] []
 AreNames-none types = record { each = tt; are = refl }
 
 -- a type variable is its one variable
-pub AreNames-variable : (types : List HolType) (i : ℕ) (n : Name) → type.Holds types i (variable n) → AreNames types (variable_places (tree_at types i)) (i ∷ [])
+pub AreNames-variable : (types : List HolType) (i : ℕ) (n : Name) → type.Holds types i (variable n)
+    → AreNames types (variable_places (tree_at types i)) (i ∷ [])
 AreNames-variable types i n e = record {
   each = (record { name = n; is = e }, tt);
-  are = ap (λ m. m ∷ []) (name_at-is types i (record { name = n; is = e })) ∙ sym (ap (λ t. distinct name_eq (variable_places t)) (Holds-tree_at types i (variable n) e));
+  are = ap (λ m. m ∷ []) (name_at-is types i (record { name = n; is = e }))
+      ∙ sym (ap (λ t. distinct name_eq (variable_places t)) (Holds-tree_at types i (variable n) e));
 }
 
 -- the variables of listed types
@@ -77,7 +81,8 @@ module _ (trees : Trees) (d : IsDistinct trees.terms) where
           d.each i j (free k.name k.ty) (h.is ∙ ap (λ (v : AVariable). Some (free v.0 v.1)) same) k.is
 
   -- the free variables at the places of two lists
-  pub AreVariables-union : (ps qs : List AVariable) (xs ys : List ℕ) → AreVariables trees ps xs → AreVariables trees qs ys → AreVariables trees (ps ++ qs) (union nat_eq xs ys)
+  pub AreVariables-union : (ps qs : List AVariable) (xs ys : List ℕ) → AreVariables trees ps xs → AreVariables trees qs ys
+      → AreVariables trees (ps ++ qs) (union nat_eq xs ys)
   AreVariables-union ps qs xs ys h k = record {
     each = union-All (IsVariableAt trees) nat_eq ys xs h.each k.each;
     are = map-union (variable_at trees) variable_eq variable_eq-Decides (IsVariableAt trees) variables_agree ps qs xs ys h.each k.each h.are k.are;
@@ -87,8 +92,10 @@ pub AreVariables-none : (trees : Trees) → AreVariables trees [] []
 AreVariables-none trees = record { each = tt; are = refl }
 
 -- a free variable is its one free variable
-pub AreVariables-free : (trees : Trees) (i : ℕ) (n : Name) (t : HolType) → Holds trees i (free n t) → AreVariables trees (free_places (term_at trees i)) (i ∷ [])
+pub AreVariables-free : (trees : Trees) (i : ℕ) (n : Name) (t : HolType) → Holds trees i (free n t)
+    → AreVariables trees (free_places (term_at trees i)) (i ∷ [])
 AreVariables-free trees i n t e = record {
   each = (record { name = n; ty = t; is = e }, tt);
-  are = ap (λ v. v ∷ []) (variable_at-is trees i (record { name = n; ty = t; is = e })) ∙ sym (ap (λ u. distinct variable_eq (free_places u)) (Some-term_in trees.terms i (free n t) e));
+  are = ap (λ v. v ∷ []) (variable_at-is trees i (record { name = n; ty = t; is = e }))
+      ∙ sym (ap (λ u. distinct variable_eq (free_places u)) (Some-term_in trees.terms i (free n t) e));
 }

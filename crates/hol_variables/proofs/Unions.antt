@@ -38,7 +38,8 @@ all_in-more (y ∷ ys) xs x e =
 pub all_in-own : (xs : List ℕ) → list_all (λ n. is_in nat_eq n xs) xs ≡ true
 all_in-own [] = refl
 all_in-own (x ∷ xs) =
-    and_from (is_in nat_eq x (x ∷ xs)) (list_all (λ n. is_in nat_eq n (x ∷ xs)) xs) (ap (λ b. b || is_in nat_eq x xs) ((Decides-eqb x x).1 refl)) (all_in-more xs xs x (all_in-own xs))
+    and_from (is_in nat_eq x (x ∷ xs)) (list_all (λ n. is_in nat_eq n (x ∷ xs)) xs) (ap (λ b. b || is_in nat_eq x xs) ((Decides-eqb x x).1 refl))
+    (all_in-more xs xs x (all_in-own xs))
 
 -- a list that has a number is the number's
 pub list_in-is : (ls : List (List ℕ)) (i : ℕ) (l : List ℕ) → slice_get ls i ≡ Some l → list_in ls i ≡ l

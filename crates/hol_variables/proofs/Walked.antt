@@ -16,8 +16,11 @@ module _ (trees : Trees) (v : AVariable) (all rest : List Variable) (own : Varia
   pub looked_on : variable_eq v (variable_view trees own) ≡ false → AreLooked trees v all rest
   looked_on e = record { types = h.types.1; looked = sym (ap (λ b. b || is_in variable_eq v (variables_of trees rest)) e) ∙ h.looked }
 
-  pub looked_found : (t : Term) → variables_of trees all ≡ distinct variable_eq (free_places t) → variable_eq v (variable_view trees own) ≡ true → true ≡ is_in variable_eq v (free_places t)
-  looked_found t a e = sym (ap (λ b. b || is_in variable_eq v (variables_of trees rest)) e) ∙ h.looked ∙ ap (is_in variable_eq v) a ∙ is_in-distinct v (free_places t)
+  pub looked_found : (t : Term) → variables_of trees all ≡ distinct variable_eq (free_places t) → variable_eq v (variable_view trees own) ≡ true → true
+      ≡ is_in variable_eq v (free_places t)
+  looked_found t a e = sym (ap (λ b. b || is_in variable_eq v (variables_of trees rest)) e) ∙ h.looked ∙ ap (is_in variable_eq v) a ∙ is_in-distinct v
+      (free_places t)
 
-pub looked_none : (trees : Trees) (v : AVariable) (all : List Variable) (t : Term) → AreLooked trees v all [] → variables_of trees all ≡ distinct variable_eq (free_places t) → false ≡ is_in variable_eq v (free_places t)
+pub looked_none : (trees : Trees) (v : AVariable) (all : List Variable) (t : Term) → AreLooked trees v all [] → variables_of trees all
+    ≡ distinct variable_eq (free_places t) → false ≡ is_in variable_eq v (free_places t)
 looked_none trees v all t h a = h.looked ∙ ap (is_in variable_eq v) a ∙ is_in-distinct v (free_places t)

@@ -74,7 +74,9 @@ AreTypesNoted-Keeps a b k names noted h = record {
   few = omega (arith, h.few, k.longer);
   each = λ i o e.
       let lt : i < length a = omega (arith, slice_get_within noted i o e, h.few) in
-      Tells-weaker (KeepsLists-refl names) (λ l n. AreNames-Stays a b k.stays (variable_places (tree_at a i)) (variable_places (tree_at b i)) l (ap variable_places (tree_at-Stays k.stays i lt)) n) o (h.each i o e);
+      Tells-weaker (KeepsLists-refl names)
+      (λ l n. AreNames-Stays a b k.stays (variable_places (tree_at a i)) (variable_places (tree_at b i)) l (ap variable_places (tree_at-Stays k.stays i lt))
+      n) o (h.each i o e);
 }
 
 -- and of terms
@@ -87,8 +89,12 @@ AreTermsNoted-Keeps a b k names variables noted h = record {
       let same = term_in-Stays k.stays i lt in
       let w = h.each i own e in
       record {
-        type_variables = Tells-weaker (KeepsLists-refl names) (λ l n. AreNames-Stays a.types b.types k.types.stays (type_variable_places (term_at a i)) (type_variable_places (term_at b i)) l (ap type_variable_places same) n) own.names w.type_variables;
-        free_variables = Tells-weaker (KeepsLists-refl variables) (λ l n. AreVariables-Stays a b k.stays (free_places (term_at a i)) (free_places (term_at b i)) l (ap free_places same) n) own.variables w.free_variables;
+        type_variables = Tells-weaker (KeepsLists-refl names)
+            (λ l n. AreNames-Stays a.types b.types k.types.stays (type_variable_places (term_at a i)) (type_variable_places (term_at b i)) l
+            (ap type_variable_places same) n) own.names w.type_variables;
+        free_variables = Tells-weaker (KeepsLists-refl variables)
+            (λ l n. AreVariables-Stays a b k.stays (free_places (term_at a i)) (free_places (term_at b i)) l (ap free_places same) n) own.variables
+            w.free_variables;
       };
 }
 

@@ -11,7 +11,8 @@ pub first-none : {X : Type 0} (p : X → Bool) (xs : List X) → ((n : ℕ) (x :
 first-none p [] h = refl
 first-none p (x ∷ xs) h = ap (λ b. cond b (Some 0) (option_map suc (first p xs))) (h 0 x refl) ∙ ap (option_map suc) (first-none p xs (λ n y e. h (suc n) y e))
 
-pub first-at : {X : Type 0} (p : X → Bool) (xs : List X) (k : ℕ) (x : X) → slice_get xs k ≡ Some x → p x ≡ true → ((n : ℕ) (y : X) → n < k → slice_get xs n ≡ Some y → p y ≡ false) → first p xs ≡ Some k
+pub first-at : {X : Type 0} (p : X → Bool) (xs : List X) (k : ℕ) (x : X) → slice_get xs k ≡ Some x → p x ≡ true
+    → ((n : ℕ) (y : X) → n < k → slice_get xs n ≡ Some y → p y ≡ false) → first p xs ≡ Some k
 first-at p [] k x e t h = absurd (cc)
 first-at p (y ∷ xs) zero x e t h = ap (λ b. cond b (Some 0) (option_map suc (first p xs))) (ap p (same_Some y x e) ∙ t)
 first-at p (y ∷ xs) (suc k) x e t h =
@@ -27,8 +28,10 @@ placed_with-old placed n place m p h = go (nat_eq n m) refl
     go false e = h
 
 -- and the number n has one, at most the length
-pub placed_with-new : (placed : ℕ → Option ℕ) (n place : ℕ) → ((p : ℕ) → placed n ≡ Some p → p ≤ place) → (p : ℕ) × (placed_with placed n place n ≡ Some p) × (p ≤ place)
-placed_with-new placed n place h = (unwrap_or (placed n) place, ap (λ b. if b then Some (unwrap_or (placed n) place) else placed n) (nat_eq-refl n), go (placed n) refl)
+pub placed_with-new : (placed : ℕ → Option ℕ) (n place : ℕ) → ((p : ℕ) → placed n ≡ Some p → p ≤ place) → (p : ℕ) × (placed_with placed n place n ≡ Some p)
+    × (p ≤ place)
+placed_with-new placed n place h =
+    (unwrap_or (placed n) place, ap (λ b. if b then Some (unwrap_or (placed n) place) else placed n) (nat_eq-refl n), go (placed n) refl)
   where
     nat_eq-refl : (k : ℕ) → nat_eq k k ≡ true
     nat_eq-refl k = grind arith
@@ -37,7 +40,8 @@ placed_with-new placed n place h = (unwrap_or (placed n) place, ap (λ b. if b t
     go None e = omega arith
     go (Some p) e = h p e
 
-pub placed_with-within : (placed : ℕ → Option ℕ) (n place m p most : ℕ) → ((k q : ℕ) → placed k ≡ Some q → q ≤ most) → place ≤ most → placed_with placed n place m ≡ Some p → p ≤ most
+pub placed_with-within : (placed : ℕ → Option ℕ) (n place m p most : ℕ) → ((k q : ℕ) → placed k ≡ Some q → q ≤ most) → place ≤ most
+    → placed_with placed n place m ≡ Some p → p ≤ most
 placed_with-within placed n place m p most h l e = go (nat_eq n m) refl e
   where
     told : (o : Option ℕ) → placed n ≡ o → Some (unwrap_or o place) ≡ Some p → p ≤ most

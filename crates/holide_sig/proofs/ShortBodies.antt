@@ -12,7 +12,8 @@ use Rattle.holide_sig.specs.declared.decls.Decl.{Decl}
 use Rattle.holide_sig.specs.Modules.{declaration_in, IsBodyKnown, IsKnown}
 use Rattle.holide_sig.specs.ShortIds.{body_number, short_id}
 
-body_number-tree : (ts : List Tree) (f : Form) (body : Option LpId) → option_map (λ (id : LpId). tree_at ts id.0) (body_number f body) ≡ definition_of f (option_map (λ (id : LpId). tree_at ts id.0) body)
+body_number-tree : (ts : List Tree) (f : Form) (body : Option LpId) → option_map (λ (id : LpId). tree_at ts id.0) (body_number f body)
+    ≡ definition_of f (option_map (λ (id : LpId). tree_at ts id.0) body)
 body_number-tree ts Symbol body = refl
 body_number-tree ts Def body = refl
 body_number-tree ts Thm body = refl
@@ -20,7 +21,8 @@ body_number-tree ts Thm body = refl
 pub short_id-tree : (ts : List Tree) (d : Decl) → option_map (λ (id : LpId). tree_at ts id.0) (short_id d) ≡ short_body (declaration_in ts d)
 short_id-tree ts d = go (is_short_name d.name)
   where
-    go : (b : Bool) → option_map (λ (id : LpId). tree_at ts id.0) (if b then body_number d.form d.body else None) ≡ (if b then definition_of d.form (option_map (λ (id : LpId). tree_at ts id.0) d.body) else None)
+    go : (b : Bool) → option_map (λ (id : LpId). tree_at ts id.0) (if b then body_number d.form d.body else None)
+        ≡ (if b then definition_of d.form (option_map (λ (id : LpId). tree_at ts id.0) d.body) else None)
     go true = body_number-tree ts d.form d.body
     go false = refl
 

@@ -25,7 +25,8 @@ module _ (ts : List Tree) (distinct : IsDistinct ts) (id : LpId) (known : id.0 <
     where
       go : (c : Bool) → nat_eq b.0 id.0 ≡ c → tree_eq (tree_at ts b.0) (tree_at ts id.0) ≡ c
       go true e = ap (λ i. tree_eq (tree_at ts i) (tree_at ts id.0)) (eqb-true b.0 id.0 e) ∙ tree_eq-refl (tree_at ts id.0)
-      go false e = false_from_ne_true (tree_eq (tree_at ts b.0) (tree_at ts id.0)) (λ h. let same = same_number b l (tree_eq-true (tree_at ts b.0) (tree_at ts id.0) h) in absurd (grind (arith, e, same)))
+      go false e = false_from_ne_true (tree_eq (tree_at ts b.0) (tree_at ts id.0))
+          (λ h. let same = same_number b l (tree_eq-true (tree_at ts b.0) (tree_at ts id.0) h) in absurd (grind (arith, e, same)))
 
   is_tree-is_id : (o : Option LpId) → IfSome o (λ b. b.0 < length ts) → is_tree (option_map (λ (b : LpId). tree_at ts b.0) o) (tree_at ts id.0) ≡ is_id o id
   is_tree-is_id None h = refl
@@ -42,9 +43,17 @@ module _ (ts : List Tree) (distinct : IsDistinct ts) (id : LpId) (known : id.0 <
 
   first-told : (ds : List Decl) → AreDeclsKnown ts ds → first wanted (map (declaration_in ts) ds) ≡ first told ds
   first-told [] h = refl
-  first-told (d ∷ ds) h = ap (λ b. cond b (Some 0) (option_map suc (first wanted (map (declaration_in ts) ds)))) (wanted-told d h.0) ∙ ap (λ o. cond (told d) (Some 0) (option_map suc o)) (first-told ds h.1)
+  first-told (d ∷ ds) h = ap (λ b. cond b (Some 0) (option_map suc (first wanted (map (declaration_in ts) ds)))) (wanted-told d h.0) ∙ ap
+      (λ o. cond (told d) (Some 0) (option_map suc o)) (first-told ds h.1)
 
-  after_signature : (o : Option ℕ) → option_map suc (option_map suc (option_map suc (option_map suc (option_map suc (option_map suc (option_map suc (option_map suc (option_map suc (option_map suc (option_map suc (option_map suc (option_map suc (option_map suc (option_map suc (option_map suc (option_map suc (option_map suc o))))))))))))))))) ≡ option_map (λ n. 18 + n) o
+  after_signature : (o : Option ℕ) → option_map suc
+      (option_map suc (option_map suc
+      (option_map suc (option_map suc
+      (option_map suc (option_map suc
+      (option_map suc (option_map suc
+      (option_map suc (option_map suc
+      (option_map suc (option_map suc (option_map suc (option_map suc (option_map suc (option_map suc (option_map suc o)))))))))))))))))
+      ≡ option_map (λ n. 18 + n) o
   after_signature None = refl
   after_signature (Some n) = ap Some (omega arith)
 

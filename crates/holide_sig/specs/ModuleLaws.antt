@@ -70,7 +70,8 @@ map-Keeps : {old new : List Tree} → Keeps old new → (ds : List Decl) → Are
 map-Keeps k [] h = refl
 map-Keeps k (d ∷ ds) h = cc (declaration_in-Keeps k d h.0, map-Keeps k ds h.1)
 
-pub declarations_of-Keeps : (m : Module) (new : List Tree) → Keeps m.table new → IsHeld m → declarations_of (record { table = new; decls = m.decls }) ≡ declarations_of m
+pub declarations_of-Keeps : (m : Module) (new : List Tree) → Keeps m.table new → IsHeld m → declarations_of (record { table = new; decls = m.decls })
+    ≡ declarations_of m
 declarations_of-Keeps m new k h = map-Keeps k m.decls h.decls
 
 slice_get-behind : {X : Type 0} (xs ys : List X) (i j : ℕ) → length xs + j ≡ i → slice_get (xs ++ ys) i ≡ slice_get ys j

@@ -24,4 +24,5 @@ parts_below n (node.Pi a b) = nat_lt a.0 n && nat_lt b.0 n
 -- the parts of each node come before it, and none of the nodes' trees is among those before it
 unfoldable pub are_new : List Tree → List LpNode → Bool
 are_new trees [] = true
-are_new trees (n ∷ ns) = parts_below (length trees) n && not (list_any (tree_eq (tree_of_node trees n)) trees) && are_new (trees ++ tree_of_node trees n ∷ []) ns
+are_new trees (n ∷ ns) = parts_below (length trees) n && not (list_any (tree_eq (tree_of_node trees n)) trees) && are_new (trees ++ tree_of_node trees n ∷ [])
+    ns

@@ -28,7 +28,8 @@ spread_after-products before (u ∷ us) args [] f x e = absurd (omega (arith, e)
 spread_after-products before (u ∷ us) args (d ∷ ds) f x e =
     let rest = spread_after-products (before ++ u ∷ []) us args ds f x (omega (arith, e)) in
     let next : after Var (before ++ u ∷ []) ≡ cons u (after Var before) = after-append Var before (u ∷ []) in
-    let moved = subst (λ s. spread_after (before ++ u ∷ []) (us ++ args) (products ds (App f x)) ≡ domain_sizes s ds us + size (sub (after s us) (App f x))) next rest in
+    let moved = subst (λ s. spread_after (before ++ u ∷ []) (us ++ args) (products ds (App f x)) ≡ domain_sizes s ds us + size (sub (after s us) (App f x)))
+    next rest in
     let first = ap size (put_all-after before d) in
     omega (arith, moved, first)
 

@@ -24,7 +24,8 @@ use Rattle.std.proofs.lemmas.Bool.Decides.{same_from_decides}
 names-equivalence : IsEquivalence name_eq
 names-equivalence = record {
   refl = λ x. (name_eq-Decides x x).1 refl;
-  symm = λ x y. same_from_decides (name_eq x y) (name_eq y x) (name_eq-Decides x y) (λ h. sym ((name_eq-Decides y x).0 h), λ h. (name_eq-Decides y x).1 (sym h));
+  symm = λ x y. same_from_decides (name_eq x y) (name_eq y x) (name_eq-Decides x y)
+      (λ h. sym ((name_eq-Decides y x).0 h), λ h. (name_eq-Decides y x).1 (sym h));
   congr = λ x y z e. ap (λ v. name_eq v z) ((name_eq-Decides x y).0 e);
 }
 
@@ -85,7 +86,8 @@ module _ (P : Name → Type 0) where
       let p = abstraction_type-is t (type_under (t ∷ binders) c) a e in
       let own = All-left P (variable_places t) (type_variable_places c) h in
       let k = type_under-variables (t ∷ binders) (under t own b) c p.0 (All-right P (variable_places t) (type_variable_places c) h) p.1.0 in
-      subst (λ u. AllByRecursion P (variable_places u)) (sym p.1.1) (All-append P (variable_places t) (variable_places p.0 ++ []) own (All-append P (variable_places p.0) [] k (tt {0})))
+      subst (λ u. AllByRecursion P (variable_places u)) (sym p.1.1)
+      (All-append P (variable_places t) (variable_places p.0 ++ []) own (All-append P (variable_places p.0) [] k (tt {0})))
     where
       under : (t : HolType) → AllByRecursion P (variable_places t)
           → ((k : ℕ) (a : HolType) → slice_get binders k ≡ Some a → AllByRecursion P (variable_places a)) → (k : ℕ) (a : HolType)
@@ -96,4 +98,5 @@ module _ (P : Name → Type 0) where
 pub HasType-variables : (t : Term) (a : HolType) → HasType t a → length (type_variables a) ≤ length (distinct name_eq (type_variable_places t))
 HasType-variables t a e =
     few-distinct (variable_places a) (type_variable_places t)
-    (type_under-variables (IsIn (type_variable_places t)) [] (λ k b f. absurd (cc)) t a (All-each (IsIn (type_variable_places t)) (type_variable_places t) (λ n k. k)) e)
+    (type_under-variables (IsIn (type_variable_places t)) [] (λ k b f. absurd (cc)) t a
+    (All-each (IsIn (type_variable_places t)) (type_variable_places t) (λ n k. k)) e)

@@ -69,7 +69,8 @@ said-within (x ∷ xs) h = go (says x.content) (λ s e. says-within x.content s 
 premise-within : (items : List Item) (k : ℕ) → AreItemsWithin items → SequentWithin (premise_at items k).1
 premise-within items k h = go (said_by items) k (said-within items h)
   where
-    go : (ps : List (ℕ × Sequent)) (k : ℕ) → AllByRecursion (λ (p : ℕ × Sequent). SequentWithin p.1) ps → SequentWithin (slice_index_or ps k (0, record { hypotheses = []; conclusion = bound 0 })).1
+    go : (ps : List (ℕ × Sequent)) (k : ℕ) → AllByRecursion (λ (p : ℕ × Sequent). SequentWithin p.1) ps
+        → SequentWithin (slice_index_or ps k (0, record { hypotheses = []; conclusion = bound 0 })).1
     go [] k h = nothing-within
     go (p ∷ ps) zero h = h.0
     go (p ∷ ps) (suc k) h = go ps k h.1
@@ -117,7 +118,8 @@ items-within named before [] h w = h
 items-within named before (x ∷ xs) h w =
     let new = numbered (named (length (said_by before)) x) (length before) (contents before x) in
     items-within named (before ++ new) xs
-    (All-append (λ (y : Item). ContentWithin y.content) before new h (numbered-within (named (length (said_by before)) x) (length before) (contents before x) (contents-within before x h w.0))) w.1
+    (All-append (λ (y : Item). ContentWithin y.content) before new h
+    (numbered-within (named (length (said_by before)) x) (length before) (contents before x) (contents-within before x h w.0))) w.1
 
 -- what is kept and renumbered
 renumbered-within : (number : ℕ → ℕ) (c : Content) → ContentWithin c → ContentWithin (renumbered_content number c)
@@ -141,7 +143,8 @@ kept-within keep (x ∷ xs) h = go (keep x.symbol) (kept-within keep xs h.1)
 image-within : (keep : ℕ → Bool) (xs : List Item) → AreItemsWithin xs → AreItemsWithin (image_items keep xs)
 image-within keep xs h =
     All-mapped (λ (x : Item). ContentWithin x.content) (renumbered (symbol_of keep)) (kept keep xs)
-    (All-weaker (λ (x : Item). ContentWithin x.content) (λ (x : Item). ContentWithin (renumbered_content (symbol_of keep) x.content)) (λ x k. renumbered-within (symbol_of keep) x.content k) (kept keep xs) (kept-within keep xs h))
+    (All-weaker (λ (x : Item). ContentWithin x.content) (λ (x : Item). ContentWithin (renumbered_content (symbol_of keep) x.content))
+    (λ x k. renumbered-within (symbol_of keep) x.content k) (kept keep xs) (kept-within keep xs h))
 
 -- what an item is within the limits, with what it asks of those before it
 abbrev pub ContentFits : Content → Type 0
@@ -213,7 +216,9 @@ pub few-arguments : (items : List Item) → AreFittingItems items → HasFewArgu
 few-arguments items h n = first (name_eq n equality_name) (name_eq n select_name) (first-few n items h)
   where
     first : (b c : Bool) → length (type_variables (first_type (is_constant n) items)) ≤ greatest_parameter_count
-        → length (type_variables (unwrap_or (cond b (Some (equality_type generic)) (cond c (Some (select_type generic)) None)) (first_type (is_constant n) items))) ≤ greatest_parameter_count
+        → length (type_variables
+        (unwrap_or (cond b (Some (equality_type generic)) (cond c (Some (select_type generic)) None)) (first_type (is_constant n) items))) ≤
+        greatest_parameter_count
     first true c k = omega arith
     first false true k = omega arith
     first false false k = k

@@ -58,7 +58,8 @@ module _ (m : List Declaration) (c : ℕ) where
 
   -- a symbol of parts, where it stands at these arguments besides: the proof is written in the type of what it gives
   abbrev pub IsPartBound : List Tree → ℕ → Type 0
-  IsPartBound args s = (a p w h : Tree) → cost m [] a ≤ c → cost m [] p ≤ c → cost m [] w ≤ c → cost m args (applied (Sym s) (a ∷ p ∷ w ∷ h ∷ [])) ≤ 60 * c + 300 + cost m [] h + 4 * size h
+  IsPartBound args s = (a p w h : Tree) → cost m [] a ≤ c → cost m [] p ≤ c → cost m [] w ≤ c → cost m args (applied (Sym s) (a ∷ p ∷ w ∷ h ∷ [])) ≤ 60 * c +
+      300 + cost m [] h + 4 * size h
 
   pub sub-cost : IsPartBound [] sub_symbol
   sub-cost a p w h i j k =

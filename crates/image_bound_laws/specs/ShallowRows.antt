@@ -93,7 +93,8 @@ theorem_tree-depth d scope k s l within h =
     let us = map scope.terms (free_variables_of s) in
     let ps = map scope.proofs s.hypotheses in
     let all = All-append (λ t. depth t ≤ d) (ts ++ us) ps
-    (All-append (λ t. depth t ≤ d) ts us (All-mapped (λ t. depth t ≤ d) scope.types (type_variables_of s) h.types) (All-mapped (λ t. depth t ≤ d) scope.terms (free_variables_of s) h.terms))
+    (All-append (λ t. depth t ≤ d) ts us (All-mapped (λ t. depth t ≤ d) scope.types (type_variables_of s) h.types)
+    (All-mapped (λ t. depth t ≤ d) scope.terms (free_variables_of s) h.terms))
     (All-mapped (λ t. depth t ≤ d) scope.proofs s.hypotheses h.proofs) in
     let whole = applied-depth (Sym k) ((ts ++ us) ++ ps) d l all in
     let one = length-append (ts ++ us) ps in
@@ -117,7 +118,8 @@ every P f (x ∷ xs) = (f x, every P f xs)
 own_arguments : (scope : Scope) → IsShallowScope scope → (s : Sequent) → SequentWithin s → AreShallowArguments deepest_argument scope s
 own_arguments scope h s within = record {
   types = every _ (λ n. let l = h.types n in omega (arith, l)) (type_variables_of s);
-  terms = All-weaker (λ (v : Variable). type_depth v.1 ≤ greatest_depth) (λ v. depth (scope.terms v) ≤ deepest_argument) (λ v k. let l = h.terms v in omega (arith, l, k)) (free_variables_of s) (free_variables-depth s greatest_depth (sequent-depth s within));
+  terms = All-weaker (λ (v : Variable). type_depth v.1 ≤ greatest_depth) (λ v. depth (scope.terms v) ≤ deepest_argument)
+      (λ v k. let l = h.terms v in omega (arith, l, k)) (free_variables_of s) (free_variables-depth s greatest_depth (sequent-depth s within));
   proofs = every _ (λ g. let l = h.proofs g in omega (arith, l)) s.hypotheses;
 }
 
@@ -160,7 +162,8 @@ module _ (symbols : SymbolMap) where
 
 module _ (symbols : SymbolMap) (few : HasFewArguments symbols) where
   -- the telescope of a sequent
-  term_domains-depth : (vs : List Variable) (scope : Scope) → IsShallowScope scope → AllByRecursion (λ (v : Variable). type_depth v.1 ≤ greatest_depth) vs → AreShallowTrees deepest_term (term_domains symbols vs scope)
+  term_domains-depth : (vs : List Variable) (scope : Scope) → IsShallowScope scope → AllByRecursion (λ (v : Variable). type_depth v.1 ≤ greatest_depth) vs
+      → AreShallowTrees deepest_term (term_domains symbols vs scope)
   term_domains-depth [] scope h k = tt
   term_domains-depth (v ∷ vs) scope h k =
       let l = type_tree-depth symbols scope.types h.types v.1 in
@@ -180,7 +183,9 @@ module _ (symbols : SymbolMap) (few : HasFewArguments symbols) where
       let ts = map (λ (n : Name). types) (type_variables_of s) in
       let us = term_domains symbols (free_variables_of s) scope in
       All-append (λ t. depth t ≤ deepest_term) (ts ++ us) (proof_domains symbols s.hypotheses (scope_of_terms symbols s))
-      (All-append (λ t. depth t ≤ deepest_term) ts us (All-mapped (λ t. depth t ≤ deepest_term) (λ (n : Name). types) (type_variables_of s) (every (λ n. depth types ≤ deepest_term) (λ n. omega arith) (type_variables_of s)))
+      (All-append (λ t. depth t ≤ deepest_term) ts us
+      (All-mapped (λ t. depth t ≤ deepest_term) (λ (n : Name). types) (type_variables_of s)
+      (every (λ n. depth types ≤ deepest_term) (λ n. omega arith) (type_variables_of s)))
       (term_domains-depth (free_variables_of s) scope h (free_variables-depth s greatest_depth (sequent-depth s within))))
       (proof_domains-depth s.hypotheses (scope_of_terms symbols s) (under_terms-shallow (free_variables_of s) scope h) (hypotheses-depth s within))
 
@@ -252,8 +257,10 @@ module _ (symbols : SymbolMap) (few : HasFewArguments symbols) where
         let own = own_arguments scope h two.1 w in
         let first = premise-depth scope h one v in
         let whole = theorem_tree-depth deepest_premise (set_proof p x scope) two.0 two.1 (omega arith) w (record {
-          types = All-weaker (λ n. depth (scope.types n) ≤ deepest_argument) (λ n. depth (scope.types n) ≤ deepest_premise) (λ n k. omega arith) (type_variables_of two.1) own.types;
-          terms = All-weaker (λ v. depth (scope.terms v) ≤ deepest_argument) (λ v. depth (scope.terms v) ≤ deepest_premise) (λ v k. omega arith) (free_variables_of two.1) own.terms;
+          types = All-weaker (λ n. depth (scope.types n) ≤ deepest_argument) (λ n. depth (scope.types n) ≤ deepest_premise) (λ n k. omega arith)
+              (type_variables_of two.1) own.types;
+          terms = All-weaker (λ v. depth (scope.terms v) ≤ deepest_argument) (λ v. depth (scope.terms v) ≤ deepest_premise) (λ v k. omega arith)
+              (free_variables_of two.1) own.terms;
           proofs = every _ (λ g. choice (term_eq g p) x (scope.proofs g) first (let l = h.proofs g in omega (arith, l))) two.1.hypotheses;
         }) in
         omega (arith, whole)
@@ -262,13 +269,18 @@ module _ (symbols : SymbolMap) (few : HasFewArguments symbols) where
         choice true x y k l = k
         choice false x y k l = l
 
-    subst-depth : (pairs : TypePairs) (terms : TermPairs) (one : Premise) → AreFitting terms → SequentWithin one.1 → AllByRecursion (λ t. term_depth (sub pairs terms t) ≤ greatest_depth) (terms_of one.1)
+    subst-depth : (pairs : TypePairs) (terms : TermPairs) (one : Premise) → AreFitting terms → SequentWithin one.1
+        → AllByRecursion (λ t. term_depth (sub pairs terms t) ≤ greatest_depth) (terms_of one.1)
         → depth (subst_tree symbols scope pairs terms one) ≤ deepest_proof
     subst-depth pairs terms one fitting v all =
         let whole = theorem_tree-depth deepest_argument (images symbols pairs terms scope) one.0 one.1 (omega arith) v (record {
-          types = All-weaker (λ n. type_depth (image pairs n) ≤ 3 * greatest_depth) (λ n. depth (type_tree symbols scope.types (image pairs n)) ≤ deepest_argument) (λ n k. ty-depth (image pairs n) (3 * greatest_depth) k) (type_variables_of one.1) (type_images-depth pairs terms fitting greatest_depth one.1 all);
-          terms = All-weaker (λ v. term_depth (term_image terms (v.0, substitute pairs v.1)) ≤ greatest_depth) (λ v. depth (term_tree symbols scope (term_image terms (v.0, substitute pairs v.1))) ≤ deepest_argument)
-              (λ v k. let l = tm-depth (term_image terms (v.0, substitute pairs v.1)) k in omega (arith, l)) (free_variables_of one.1) (term_images_of-depth pairs terms greatest_depth one.1 all);
+          types = All-weaker (λ n. type_depth (image pairs n) ≤ 3 * greatest_depth)
+              (λ n. depth (type_tree symbols scope.types (image pairs n)) ≤ deepest_argument) (λ n k. ty-depth (image pairs n) (3 * greatest_depth) k)
+              (type_variables_of one.1) (type_images-depth pairs terms fitting greatest_depth one.1 all);
+          terms = All-weaker (λ v. term_depth (term_image terms (v.0, substitute pairs v.1)) ≤ greatest_depth)
+              (λ v. depth (term_tree symbols scope (term_image terms (v.0, substitute pairs v.1))) ≤ deepest_argument)
+              (λ v k. let l = tm-depth (term_image terms (v.0, substitute pairs v.1)) k in omega (arith, l)) (free_variables_of one.1)
+              (term_images_of-depth pairs terms greatest_depth one.1 all);
           proofs = every _ (λ g. let l = h.proofs (sub pairs terms g) in omega (arith, l)) one.1.hypotheses;
         }) in
         omega (arith, whole)
@@ -285,13 +297,15 @@ module _ (symbols : SymbolMap) (few : HasFewArguments symbols) where
     list-depth pairs one v =
         let whole = theorem_tree-depth deepest_argument (constants_scope symbols scope (constants_put pairs)) one.0 one.1 (omega arith) v (record {
           types = every _ (λ n. let l = h.types n in omega (arith, l)) (type_variables_of one.1);
-          terms = All-weaker (λ (v : Variable). type_depth v.1 ≤ greatest_depth) (λ v. depth (term_tree symbols scope (term_image (constants_put pairs) (v.0, substitute [] v.1))) ≤ deepest_argument)
+          terms = All-weaker (λ (v : Variable). type_depth v.1 ≤ greatest_depth)
+              (λ v. depth (term_tree symbols scope (term_image (constants_put pairs) (v.0, substitute [] v.1))) ≤ deepest_argument)
               (λ v k.
               let c = constants_put-depth pairs (v.0, substitute [] v.1) in
               let same = ap type_depth (substitute-nothing v.1) in
               let l = term_tree-depth symbols few scope h (term_image (constants_put pairs) (v.0, substitute [] v.1)) in
               omega (arith, c, same, l, k)) (free_variables_of one.1) (free_variables-depth one.1 greatest_depth (sequent-depth one.1 v));
-          proofs = All-weaker (λ t. term_depth t ≤ greatest_depth) (λ t. depth (self_proof symbols scope t) ≤ deepest_argument) self_proof-depth one.1.hypotheses (hypotheses-depth one.1 v);
+          proofs = All-weaker (λ t. term_depth t ≤ greatest_depth) (λ t. depth (self_proof symbols scope t) ≤ deepest_argument) self_proof-depth
+              one.1.hypotheses (hypotheses-depth one.1 v);
         }) in
         omega (arith, whole)
 
@@ -345,8 +359,11 @@ module _ (symbols : SymbolMap) (few : HasFewArguments symbols) where
         let g = tm-depth scope h (lam a u) m in
         let p = part-depth (lifted scope) (lifted-shallow scope h) i c j one n w in
         let A = type_tree symbols scope.types a in
-        let body : depth (Lam (term_of A) (App (part_tree symbols (lifted scope) i c (j, one)) (Var 0))) ≤ deepest_premise + 20 = body-depth A (part_tree symbols (lifted scope) i c (j, one)) (omega (arith, x)) p in
-        let whole = applied-depth (Sym fun_ext_symbol) (A ∷ type_tree symbols scope.types b ∷ term_tree symbols scope (lam a t) ∷ term_tree symbols scope (lam a u) ∷ Lam (term_of A) (App (part_tree symbols (lifted scope) i c (j, one)) (Var 0)) ∷ []) (deepest_premise + 20) (omega arith)
+        let body : depth (Lam (term_of A) (App (part_tree symbols (lifted scope) i c (j, one)) (Var 0))) ≤ deepest_premise + 20 =
+        body-depth A (part_tree symbols (lifted scope) i c (j, one)) (omega (arith, x)) p in
+        let whole = applied-depth (Sym fun_ext_symbol)
+        (A ∷ type_tree symbols scope.types b ∷ term_tree symbols scope (lam a t) ∷ term_tree symbols scope (lam a u) ∷ Lam (term_of A)
+        (App (part_tree symbols (lifted scope) i c (j, one)) (Var 0)) ∷ []) (deepest_premise + 20) (omega arith)
         (omega (arith, x), (omega (arith, y), (omega (arith, f), (omega (arith, g), (body, tt {0}))))) in
         omega (arith, whole)
       where
@@ -362,7 +379,8 @@ module _ (symbols : SymbolMap) (few : HasFewArguments symbols) where
         let is = ap (λ (x : Sequent). term_depth x.conclusion) e in
         let deep = part-shallow names c f one d (conclusion-depth one v) in
         subst (λ c. depth (first_law_tree symbols scope names c (j, one)) ≤ deepest_proof) (sym (part-type names c f one d))
-        (law-depth (new_type names) (new_type names) (abstracted names c (represented names c (bound 0))) (bound 0) sub_abs_rep_symbol c j one (omega (arith, own, is)) (omega (arith, own, is)) (omega (arith, own, is)) deep v)
+        (law-depth (new_type names) (new_type names) (abstracted names c (represented names c (bound 0))) (bound 0) sub_abs_rep_symbol c j one
+        (omega (arith, own, is)) (omega (arith, own, is)) (omega (arith, own, is)) deep v)
 
     sides-depth : (a : HolType) (x y : Term) → term_depth (equation a x y) ≤ greatest_depth → (term_depth x ≤ greatest_depth) × (term_depth y ≤ greatest_depth)
     sides-depth a x y l = (omega (arith, l), omega (arith, l))
@@ -373,11 +391,13 @@ module _ (symbols : SymbolMap) (few : HasFewArguments symbols) where
     second_law-depth names c f one s j d e v w =
         let own = conclusion-depth s w in
         let is = ap (λ (x : Sequent). x.conclusion) e in
-        let sides = sides-depth (function c bool) (lam c (equation c (represented names c (abstracted names c (bound 0))) (bound 0))) (lam c (app f (bound 0))) (subst (λ t. term_depth t ≤ greatest_depth) is own) in
+        let sides = sides-depth (function c bool) (lam c (equation c (represented names c (abstracted names c (bound 0))) (bound 0))) (lam c (app f (bound 0)))
+        (subst (λ t. term_depth t ≤ greatest_depth) is own) in
         let right = subst (λ p. term_depth (lam c (app p (bound 0))) ≤ greatest_depth) (sym (ap predicate d.holds)) sides.1 in
         let deep = part-shallow names c f one d (conclusion-depth one v) in
         subst (λ c. depth (second_law_tree symbols scope names c (j, one)) ≤ deepest_proof) (sym (part-type names c f one d))
-        (law-depth c bool (equation c (represented names c (abstracted names c (bound 0))) (bound 0)) (app (predicate one.conclusion) (bound 0)) sub_rep_abs_symbol c j one sides.0 (omega arith) right deep v)
+        (law-depth c bool (equation c (represented names c (abstracted names c (bound 0))) (bound 0)) (app (predicate one.conclusion) (bound 0))
+        sub_rep_abs_symbol c j one sides.0 (omega arith) right deep v)
 
     -- the laws in version 5
     call-depth : (i : ℕ) (c : HolType) (x : Term) (j : ℕ) (one : Sequent) → type_depth c ≤ 3 * greatest_depth → SequentWithin one
@@ -394,7 +414,8 @@ module _ (symbols : SymbolMap) (few : HasFewArguments symbols) where
     first_free-depth names c f one s j d e v w =
         let own = conclusion-depth s w in
         let is = ap (λ (x : Sequent). x.conclusion) e in
-        let sides = sides-depth (new_type names) (abstracted names c (represented names c (type_definition.new_variable names))) (type_definition.new_variable names) (subst (λ t. term_depth t ≤ greatest_depth) is own) in
+        let sides = sides-depth (new_type names) (abstracted names c (represented names c (type_definition.new_variable names)))
+        (type_definition.new_variable names) (subst (λ t. term_depth t ≤ greatest_depth) is own) in
         let deep = part-shallow names c f one d (conclusion-depth one v) in
         let whole = call-depth sub_abs_rep_symbol c (type_definition.new_variable names) j one deep v sides.1 in
         subst (λ c. depth (first_law_free_tree symbols scope names c (j, one)) ≤ deepest_proof) (sym (part-type names c f one d)) (omega (arith, whole))
@@ -416,7 +437,8 @@ module _ (symbols : SymbolMap) (few : HasFewArguments symbols) where
         let z = tm-depth scope h (app (predicate one.conclusion) r) left in
         let last = call-depth sub_rep_abs_symbol c r j one deep v inner.1 in
         let whole = applied-depth (Sym sym_symbol)
-        (type_tree symbols scope.types bool ∷ term_tree symbols scope right ∷ term_tree symbols scope (app (predicate one.conclusion) r) ∷ App (part_tree symbols (filled symbols scope.types) sub_rep_abs_symbol c (j, one)) (term_tree symbols scope r) ∷ []) (deepest_premise + 20)
+        (type_tree symbols scope.types bool ∷ term_tree symbols scope right ∷ term_tree symbols scope (app (predicate one.conclusion) r) ∷ App
+        (part_tree symbols (filled symbols scope.types) sub_rep_abs_symbol c (j, one)) (term_tree symbols scope r) ∷ []) (deepest_premise + 20)
         (omega arith) (omega (arith, x), (omega (arith, y), (omega (arith, z), (last, tt {0})))) in
         subst (λ c. depth (second_law_free_tree symbols scope names c (j, one)) ≤ deepest_proof) (sym (part-type names c f one d)) (omega (arith, whole))
 
@@ -445,22 +467,29 @@ module _ (symbols : SymbolMap) (few : HasFewArguments symbols) where
         refl-depth scope h (type_or t) t (omega (arith, c, is, same)) (omega (arith, c, is))
     proof_tree-depth kind js premises given s (rule.assume {p = q} typed e) p w = let l = h.proofs q in omega (arith, l)
     proof_tree-depth kind js premises given s (rule.eq_mp {p = a} {q = b} {one = one} {two = two} e f i) p w =
-        of_two-depth deepest_proof (λ one two. eq_mp_tree symbols scope (left_side one.1.conclusion) (right_side one.1.conclusion) one two) js one two (omega arith) (λ j k.
+        of_two-depth deepest_proof (λ one two. eq_mp_tree symbols scope (left_side one.1.conclusion) (right_side one.1.conclusion) one two) js one two
+        (omega arith) (λ j k.
         let c = conclusion-depth one p.0 in
         let l = left_side-depth one.conclusion in
         let r = right_side-depth one.conclusion in
         eq_mp-depth scope h (left_side one.conclusion) (right_side one.conclusion) (j, one) (k, two) (omega (arith, c, l)) (omega (arith, c, r)) p.0 p.1.0)
     proof_tree-depth kind js premises given s (rule.abs_thm {v = v} {b = b} {t = t} {u = u} {one = one} e fresh i) p w =
-        of_one-depth deepest_proof (λ one. fun_ext_tree symbols scope v (equated_type one.1.conclusion) (left_side one.1.conclusion) (right_side one.1.conclusion) one) js one (omega arith) (λ j.
+        of_one-depth deepest_proof
+        (λ one. fun_ext_tree symbols scope v (equated_type one.1.conclusion) (left_side one.1.conclusion) (right_side one.1.conclusion) one) js one
+        (omega arith) (λ j.
         let c = conclusion-depth one p.0 in
         let l = left_side-depth one.conclusion in
         let r = right_side-depth one.conclusion in
         let q = equated_type-depth one.conclusion in
         let own = conclusion-depth s w in
         let is = ap (λ (x : Sequent). term_depth x.conclusion) i in
-        fun_ext-depth scope h v (equated_type one.conclusion) (left_side one.conclusion) (right_side one.conclusion) (j, one) (omega (arith, own, is)) (omega (arith, c, q)) (omega (arith, c, l)) (omega (arith, c, r)) p.0)
+        fun_ext-depth scope h v (equated_type one.conclusion) (left_side one.conclusion) (right_side one.conclusion) (j, one) (omega (arith, own, is))
+        (omega (arith, c, q)) (omega (arith, c, l)) (omega (arith, c, r)) p.0)
     proof_tree-depth kind js premises given s (rule.app_thm {one = one} {two = two} e i l) p w =
-        of_two-depth deepest_proof (λ one two. app_thm_tree symbols scope (argument_type (equated_type one.1.conclusion)) (result_type (equated_type one.1.conclusion)) (left_side one.1.conclusion) (right_side one.1.conclusion) (left_side two.1.conclusion) (right_side two.1.conclusion) one two) js one two (omega arith) (λ j k.
+        of_two-depth deepest_proof
+        (λ one two. app_thm_tree symbols scope (argument_type (equated_type one.1.conclusion)) (result_type (equated_type one.1.conclusion))
+        (left_side one.1.conclusion) (right_side one.1.conclusion) (left_side two.1.conclusion) (right_side two.1.conclusion) one two) js one two
+        (omega arith) (λ j k.
         let c = conclusion-depth one p.0 in
         let l = left_side-depth one.conclusion in
         let r = right_side-depth one.conclusion in
@@ -470,7 +499,8 @@ module _ (symbols : SymbolMap) (few : HasFewArguments symbols) where
         let d = conclusion-depth two p.1.0 in
         let x = left_side-depth two.conclusion in
         let y = right_side-depth two.conclusion in
-        app_thm-depth scope h (argument_type (equated_type one.conclusion)) (result_type (equated_type one.conclusion)) (left_side one.conclusion) (right_side one.conclusion) (left_side two.conclusion) (right_side two.conclusion) (j, one) (k, two)
+        app_thm-depth scope h (argument_type (equated_type one.conclusion)) (result_type (equated_type one.conclusion)) (left_side one.conclusion)
+        (right_side one.conclusion) (left_side two.conclusion) (right_side two.conclusion) (j, one) (k, two)
         (omega (arith, c, q, a)) (omega (arith, c, q, b)) (omega (arith, c, l)) (omega (arith, c, r)) (omega (arith, d, x)) (omega (arith, d, y)) p.0 p.1.0)
     proof_tree-depth kind js premises given s (rule.deduct_antisym {one = one} {two = two} i) p w =
         of_two-depth deepest_proof (λ one two. prop_ext_tree symbols scope one.1.conclusion two.1.conclusion one two) js one two (omega arith) (λ j k.
@@ -481,14 +511,19 @@ module _ (symbols : SymbolMap) (few : HasFewArguments symbols) where
         let same = ap type_depth (type_or-is (app (lam a t) u) b typed) in
         refl-depth scope h (type_or (app (lam a t) u)) (put u t) (omega (arith, c, is, same)) (omega (arith, c, is))
     proof_tree-depth kind js premises given s (rule.sym {one = one} e i) p w =
-        of_one-depth deepest_proof (λ one. sym_tree symbols scope (equated_type one.1.conclusion) (left_side one.1.conclusion) (right_side one.1.conclusion) one) js one (omega arith) (λ j.
+        of_one-depth deepest_proof
+        (λ one. sym_tree symbols scope (equated_type one.1.conclusion) (left_side one.1.conclusion) (right_side one.1.conclusion) one) js one (omega arith)
+        (λ j.
         let c = conclusion-depth one p.0 in
         let l = left_side-depth one.conclusion in
         let r = right_side-depth one.conclusion in
         let q = equated_type-depth one.conclusion in
-        sym-depth scope h (equated_type one.conclusion) (left_side one.conclusion) (right_side one.conclusion) (j, one) (omega (arith, c, q)) (omega (arith, c, l)) (omega (arith, c, r)) p.0)
+        sym-depth scope h (equated_type one.conclusion) (left_side one.conclusion) (right_side one.conclusion) (j, one) (omega (arith, c, q))
+        (omega (arith, c, l)) (omega (arith, c, r)) p.0)
     proof_tree-depth kind js premises given s (rule.trans {one = one} {two = two} e f i) p w =
-        of_two-depth deepest_proof (λ one two. trans_tree symbols scope (equated_type one.1.conclusion) (left_side one.1.conclusion) (right_side one.1.conclusion) (right_side two.1.conclusion) one two) js one two (omega arith) (λ j k.
+        of_two-depth deepest_proof
+        (λ one two. trans_tree symbols scope (equated_type one.1.conclusion) (left_side one.1.conclusion) (right_side one.1.conclusion)
+        (right_side two.1.conclusion) one two) js one two (omega arith) (λ j k.
         let c = conclusion-depth one p.0 in
         let l = left_side-depth one.conclusion in
         let r = right_side-depth one.conclusion in
@@ -498,12 +533,17 @@ module _ (symbols : SymbolMap) (few : HasFewArguments symbols) where
         trans-depth scope h (equated_type one.conclusion) (left_side one.conclusion) (right_side one.conclusion) (right_side two.conclusion) (j, one) (k, two)
         (omega (arith, c, q)) (omega (arith, c, l)) (omega (arith, c, r)) (omega (arith, d, z)) p.0 p.1.0)
     proof_tree-depth kind js premises given s (rule.prove_hyp {one = one} {two = two} i) p w =
-        of_two-depth deepest_proof (λ one two. prove_hyp_tree symbols scope one.1.conclusion one two) js one two (omega arith) (λ j k. prove_hyp-depth scope h one.conclusion (j, one) (k, two) p.0 p.1.0)
+        of_two-depth deepest_proof (λ one two. prove_hyp_tree symbols scope one.1.conclusion one two) js one two (omega arith)
+        (λ j k. prove_hyp-depth scope h one.conclusion (j, one) (k, two) p.0 p.1.0)
     proof_tree-depth kind js premises given s (rule.subst {types = pairs} {terms = terms} {one = one} fitting i) p w =
-        of_one-depth deepest_proof (λ one. subst_tree symbols scope pairs terms one) js one (omega arith) (λ j. subst-depth scope h pairs terms (j, one) fitting p.0
+        of_one-depth deepest_proof (λ one. subst_tree symbols scope pairs terms one) js one (omega arith)
+        (λ j. subst-depth scope h pairs terms (j, one) fitting p.0
         (All-append (λ t. term_depth (sub pairs terms t) ≤ greatest_depth) one.hypotheses (one.conclusion ∷ [])
-        (All-each (λ t. term_depth (sub pairs terms t) ≤ greatest_depth) one.hypotheses (λ t k. All-at (λ u. term_depth u ≤ greatest_depth) s.hypotheses (sub pairs terms t) (hypotheses-depth s w)
-        (subst (λ l. IsIn l (sub pairs terms t)) (sym (ap (λ (x : Sequent). x.hypotheses) i)) (IsIn-distinct term_eq term_eq-Decides (map (sub pairs terms) one.hypotheses) (sub pairs terms t) (IsIn-map (sub pairs terms) one.hypotheses t k)))))
+        (All-each (λ t. term_depth (sub pairs terms t) ≤ greatest_depth) one.hypotheses
+        (λ t k. All-at (λ u. term_depth u ≤ greatest_depth) s.hypotheses (sub pairs terms t) (hypotheses-depth s w)
+        (subst (λ l. IsIn l (sub pairs terms t)) (sym (ap (λ (x : Sequent). x.hypotheses) i))
+        (IsIn-distinct term_eq term_eq-Decides (map (sub pairs terms) one.hypotheses) (sub pairs terms t)
+        (IsIn-map (sub pairs terms) one.hypotheses t k)))))
         (subst (λ t. term_depth t ≤ greatest_depth) (ap (λ (x : Sequent). x.conclusion) i) (conclusion-depth s w), tt {0})))
     proof_tree-depth kind js premises given s (rule.recorded is) p w = omega arith
     proof_tree-depth kind js premises given s (rule.restate {one = one} is e) p w =
@@ -514,12 +554,17 @@ module _ (symbols : SymbolMap) (few : HasFewArguments symbols) where
         let same = ap type_depth (type_or-is t a d.typed) in
         refl-depth scope h (type_or t) t (omega (arith, c, is, same)) (omega (arith, c, is))
     proof_tree-depth kind js premises given s (rule.define_const_list {pairs = pairs} {one = one} d good e) p w =
-        of_one-depth deepest_proof (λ one. premise_tree (constants_scope symbols scope (constants_put pairs)) one) js one (omega arith) (λ j. list-depth scope h pairs (j, one) p.0)
+        of_one-depth deepest_proof (λ one. premise_tree (constants_scope symbols scope (constants_put pairs)) one) js one (omega arith)
+        (λ j. list-depth scope h pairs (j, one) p.0)
     proof_tree-depth kind js premises given s (rule.first_law {names = names} {c = c} {f = f} {one = one} d e) p w =
-        of_one-depth deepest_proof (λ one. first_law_tree symbols scope names (type_or (witness one.1.conclusion)) one) js one (omega arith) (λ j. first_law-depth scope h names c f one s j d e p.0 w)
+        of_one-depth deepest_proof (λ one. first_law_tree symbols scope names (type_or (witness one.1.conclusion)) one) js one (omega arith)
+        (λ j. first_law-depth scope h names c f one s j d e p.0 w)
     proof_tree-depth kind js premises given s (rule.second_law {names = names} {c = c} {f = f} {one = one} d e) p w =
-        of_one-depth deepest_proof (λ one. second_law_tree symbols scope names (type_or (witness one.1.conclusion)) one) js one (omega arith) (λ j. second_law-depth scope h names c f one s j d e p.0 w)
+        of_one-depth deepest_proof (λ one. second_law_tree symbols scope names (type_or (witness one.1.conclusion)) one) js one (omega arith)
+        (λ j. second_law-depth scope h names c f one s j d e p.0 w)
     proof_tree-depth kind js premises given s (rule.first_law_free {names = names} {c = c} {f = f} {one = one} d e) p w =
-        of_one-depth deepest_proof (λ one. first_law_free_tree symbols scope names (type_or (witness one.1.conclusion)) one) js one (omega arith) (λ j. first_free-depth scope h names c f one s j d e p.0 w)
+        of_one-depth deepest_proof (λ one. first_law_free_tree symbols scope names (type_or (witness one.1.conclusion)) one) js one (omega arith)
+        (λ j. first_free-depth scope h names c f one s j d e p.0 w)
     proof_tree-depth kind js premises given s (rule.second_law_free {names = names} {c = c} {f = f} {one = one} d e) p w =
-        of_one-depth deepest_proof (λ one. second_law_free_tree symbols scope names (type_or (witness one.1.conclusion)) one) js one (omega arith) (λ j. second_free-depth scope h names c f one s j d e p.0 w)
+        of_one-depth deepest_proof (λ one. second_law_free_tree symbols scope names (type_or (witness one.1.conclusion)) one) js one (omega arith)
+        (λ j. second_free-depth scope h names c f one s j d e p.0 w)

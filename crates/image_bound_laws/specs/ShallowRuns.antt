@@ -44,7 +44,8 @@ module _ (symbols : SymbolMap) (few : HasFewArguments symbols) where
   generic_tree-depth a h =
       let own = type_tree-depth symbols (under_types (type_variables a) unfilled) (under_types-depth (type_variables a)) a in
       let deep = h.depth in
-      let whole = products-depth (map (λ (n : Name). types) (type_variables a)) (term_of (type_tree symbols (under_types (type_variables a) unfilled) a)) (4 * greatest_depth) (types-shallow (4 * greatest_depth) (type_variables a) (omega arith)) (omega (arith, own, deep)) in
+      let whole = products-depth (map (λ (n : Name). types) (type_variables a)) (term_of (type_tree symbols (under_types (type_variables a) unfilled) a))
+      (4 * greatest_depth) (types-shallow (4 * greatest_depth) (type_variables a) (omega arith)) (omega (arith, own, deep)) in
       let long = length-map (type_variables a) (λ (n : Name). types) in
       let most = h.variables in
       omega (arith, whole, long, most)
@@ -54,7 +55,8 @@ module _ (symbols : SymbolMap) (few : HasFewArguments symbols) where
       let scope = filled symbols (under_types (type_variables a) unfilled) in
       let own = term_tree-depth symbols few scope (filled-shallow symbols (under_types (type_variables a) unfilled) (under_types-depth (type_variables a))) t in
       let deep = d.within.depth in
-      let whole = abstractions-depth (map (λ (n : Name). types) (type_variables a)) (term_tree symbols scope t) (4 * greatest_depth) (types-shallow (4 * greatest_depth) (type_variables a) (omega arith)) (omega (arith, own, deep)) in
+      let whole = abstractions-depth (map (λ (n : Name). types) (type_variables a)) (term_tree symbols scope t) (4 * greatest_depth)
+      (types-shallow (4 * greatest_depth) (type_variables a) (omega arith)) (omega (arith, own, deep)) in
       let long = length-map (type_variables a) (λ (n : Name). types) in
       let most = h.variables in
       omega (arith, whole, long, most)
@@ -65,8 +67,10 @@ module _ (symbols : SymbolMap) (few : HasFewArguments symbols) where
       → depth (part_definition_tree symbols ns i c j one) ≤ max_depth
   part_definition-depth ns names i c f j one l d w =
       let scope = filled symbols (under_types ns unfilled) in
-      let own = part-depth symbols few scope (filled-shallow symbols (under_types ns unfilled) (under_types-depth ns)) i c j one (part-shallow names c f one d (conclusion-depth one w)) w in
-      let whole = abstractions-depth (map (λ (n : Name). types) ns) (part_tree symbols scope i c (j, one)) (deepest_premise + 16) (types-shallow (deepest_premise + 16) ns (omega arith)) own in
+      let own = part-depth symbols few scope (filled-shallow symbols (under_types ns unfilled) (under_types-depth ns)) i c j one
+      (part-shallow names c f one d (conclusion-depth one w)) w in
+      let whole = abstractions-depth (map (λ (n : Name). types) ns) (part_tree symbols scope i c (j, one)) (deepest_premise + 16)
+      (types-shallow (deepest_premise + 16) ns (omega arith)) own in
       let long = length-map ns (λ (n : Name). types) in
       omega (arith, whole, long, l)
 
@@ -77,19 +81,26 @@ module _ (symbols : SymbolMap) (few : HasFewArguments symbols) where
   declaration-shallow name (defined_constant n a t) h = (generic_tree-depth a h.0, definition_tree-depth a t h.0 h.1)
   declaration-shallow name (type_operator names c f j one) h =
       (let l = operator-depth (length names.variables) in omega (arith, l, h.0), part_definition-depth names.variables names sub_symbol c f j one h.0 h.1 h.2)
-  declaration-shallow name (type_abstraction names c f j one) h =
-      (generic_tree-depth (abstraction_type names c) h.0, part_definition-depth (type_variables (abstraction_type names c)) names sub_abs_symbol c f j one h.0.variables h.1 h.2)
-  declaration-shallow name (type_representation names c f j one) h =
-      (generic_tree-depth (representation_type names c) h.0, part_definition-depth (type_variables (representation_type names c)) names sub_rep_symbol c f j one h.0.variables h.1 h.2)
+  declaration-shallow name (type_abstraction names c f j one) h = (
+    generic_tree-depth (abstraction_type names c) h.0,
+    part_definition-depth (type_variables (abstraction_type names c)) names sub_abs_symbol c f j one h.0.variables h.1 h.2,
+  )
+  declaration-shallow name (type_representation names c f j one) h = (
+    generic_tree-depth (representation_type names c) h.0,
+    part_definition-depth (type_variables (representation_type names c)) names sub_rep_symbol c f j one h.0.variables h.1 h.2,
+  )
   declaration-shallow name (unproved s) h =
       let long = length-domains symbols s h in
-      let whole = products-depth (domains_of symbols s) (conclusion_tree symbols s) deepest_term (domains-depth symbols few s h) (conclusion_tree-depth symbols few s h) in
+      let whole = products-depth (domains_of symbols s) (conclusion_tree symbols s) deepest_term (domains-depth symbols few s h)
+      (conclusion_tree-depth symbols few s h) in
       (omega (arith, long, whole), tt {0})
   declaration-shallow name (step kind js premises given s) h =
       let long = length-domains symbols s h.2 in
-      let whole = products-depth (domains_of symbols s) (conclusion_tree symbols s) deepest_term (domains-depth symbols few s h.2) (conclusion_tree-depth symbols few s h.2) in
+      let whole = products-depth (domains_of symbols s) (conclusion_tree symbols s) deepest_term (domains-depth symbols few s h.2)
+      (conclusion_tree-depth symbols few s h.2) in
       let own = proof_tree-depth symbols few (scope_of symbols s) (scope_of-shallow symbols s) kind js premises given s h.0 h.1 h.2 in
-      let body = abstractions-depth (domains_of symbols s) (proof_tree symbols (scope_of symbols s) kind js premises given) deepest_proof (deeper deepest_term deepest_proof (omega arith) (domains_of symbols s) (domains-depth symbols few s h.2)) own in
+      let body = abstractions-depth (domains_of symbols s) (proof_tree symbols (scope_of symbols s) kind js premises given) deepest_proof
+      (deeper deepest_term deepest_proof (omega arith) (domains_of symbols s) (domains-depth symbols few s h.2)) own in
       (omega (arith, long, whole), omega (arith, long, body))
 
   declarations-shallow : (items : List Item) → AreFittingItems items → AreShallow (map (declaration symbols) items)

@@ -41,7 +41,8 @@ module _ (symbols : SymbolMap) (scope : TypeScope) (h : (n : Name) → depth (sc
     type_tree-depth (variable n) = let l = h n in omega (arith, l)
     type_tree-depth (operator n ts) =
         let long = length-type_trees symbols scope ts in
-        let all = applied-depth (Sym (operator_symbol symbols n (count ts))) (type_trees symbols scope ts) (types_depth ts + 1) (omega arith) (type_trees-depth ts) in
+        let all = applied-depth (Sym (operator_symbol symbols n (count ts))) (type_trees symbols scope ts) (types_depth ts + 1) (omega arith)
+        (type_trees-depth ts) in
         omega (arith, all, long)
 
     type_trees-depth : (ts : HolTypes) → AreShallowTrees (types_depth ts + 1) (type_trees symbols scope ts)
@@ -60,15 +61,18 @@ mutual
   read_off-depth (variable n) t = (omega arith, tt {0})
   read_off-depth (operator m ts) (variable n) = tt
   read_off-depth (operator m ts) (operator n us) =
-      All-weaker (λ (p : Name × HolType). type_depth p.1 ≤ types_depth us) (λ (p : Name × HolType). type_depth p.1 ≤ type_depth (operator n us)) (λ p k. omega arith) (read_off_all ts us) (read_off_all-depth ts us)
+      All-weaker (λ (p : Name × HolType). type_depth p.1 ≤ types_depth us) (λ (p : Name × HolType). type_depth p.1 ≤ type_depth (operator n us))
+      (λ p k. omega arith) (read_off_all ts us) (read_off_all-depth ts us)
 
   read_off_all-depth : (gs ts : HolTypes) → AreShallowPairs (types_depth ts) (read_off_all gs ts)
   read_off_all-depth none us = tt
   read_off_all-depth (more g gs) none = tt
   read_off_all-depth (more g gs) (more t ts) =
       All-append (λ (p : Name × HolType). type_depth p.1 ≤ types_depth (more t ts)) (read_off g t) (read_off_all gs ts)
-      (All-weaker (λ (p : Name × HolType). type_depth p.1 ≤ type_depth t) (λ (p : Name × HolType). type_depth p.1 ≤ types_depth (more t ts)) (λ p k. omega arith) (read_off g t) (read_off-depth g t))
-      (All-weaker (λ (p : Name × HolType). type_depth p.1 ≤ types_depth ts) (λ (p : Name × HolType). type_depth p.1 ≤ types_depth (more t ts)) (λ p k. omega arith) (read_off_all gs ts) (read_off_all-depth gs ts))
+      (All-weaker (λ (p : Name × HolType). type_depth p.1 ≤ type_depth t) (λ (p : Name × HolType). type_depth p.1 ≤ types_depth (more t ts))
+      (λ p k. omega arith) (read_off g t) (read_off-depth g t))
+      (All-weaker (λ (p : Name × HolType). type_depth p.1 ≤ types_depth ts) (λ (p : Name × HolType). type_depth p.1 ≤ types_depth (more t ts))
+      (λ p k. omega arith) (read_off_all gs ts) (read_off_all-depth gs ts))
 
 image-depth : (d : ℕ) (pairs : TypePairs) (n : Name) → 1 ≤ d → AreShallowPairs d pairs → type_depth (image pairs n) ≤ d
 image-depth d [] n l h = l
@@ -121,7 +125,8 @@ inside-shallow scope h = record {
 pub under_term-shallow : (v : Variable) (scope : Scope) → IsShallowScope scope → IsShallowScope (under_term v scope)
 under_term-shallow v scope h = record {
   types = λ n. lift-depth 1 (scope.types n) (h.types n);
-  terms = λ w. cond-depth (type_depth w.1 + 7) (variable_eq w v) (Var 0) (lift 1 (scope.terms w)) (omega arith) (lift-depth (type_depth w.1 + 7) (scope.terms w) (h.terms w));
+  terms = λ w. cond-depth (type_depth w.1 + 7) (variable_eq w v) (Var 0) (lift 1 (scope.terms w)) (omega arith)
+      (lift-depth (type_depth w.1 + 7) (scope.terms w) (h.terms w));
   proofs = λ g. lift-depth 1 (scope.proofs g) (h.proofs g);
   bounds = λ k. lift-depth 1 (scope.bounds k) (h.bounds k);
 }
@@ -144,7 +149,8 @@ under_proof-shallow p scope h = record {
 
 pub under_types-shallow : (ns : List Name) (scope : TypeScope) → ((n : Name) → depth (scope n) ≤ 1) → (n : Name) → depth (under_types ns scope n) ≤ 1
 under_types-shallow [] scope h n = h n
-under_types-shallow (k ∷ ns) scope h n = under_types-shallow ns (under_type k scope) (λ j. cond-depth 1 (name_eq j k) (Var 0) (lift 1 (scope j)) (omega arith) (lift-depth 1 (scope j) (h j))) n
+under_types-shallow (k ∷ ns) scope h n = under_types-shallow ns (under_type k scope)
+    (λ j. cond-depth 1 (name_eq j k) (Var 0) (lift 1 (scope j)) (omega arith) (lift-depth 1 (scope j) (h j))) n
 
 pub under_terms-shallow : (vs : List Variable) (scope : Scope) → IsShallowScope scope → IsShallowScope (under_terms vs scope)
 under_terms-shallow [] scope h = h
@@ -160,7 +166,8 @@ filler-depth a d l h = let e = depth-lift 1 a in omega (arith, e, h, l)
 pub filled-shallow : (symbols : SymbolMap) (scope : TypeScope) → ((n : Name) → depth (scope n) ≤ 1) → IsShallowScope (filled symbols scope)
 filled-shallow symbols scope h = record {
   types = h;
-  terms = λ v. (let e = filler-depth (type_tree symbols scope v.1) (type_depth v.1 + 1) (omega arith) (type_tree-depth symbols scope h v.1) in omega (arith, e));
+  terms = λ v. (let e = filler-depth (type_tree symbols scope v.1) (type_depth v.1 + 1) (omega arith) (type_tree-depth symbols scope h v.1) in omega
+      (arith, e));
   proofs = λ g. omega arith;
   bounds = λ k. omega arith;
 }

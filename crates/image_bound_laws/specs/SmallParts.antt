@@ -27,12 +27,14 @@ use Rattle.image_bound_laws.specs.SmallPremises.{premise_cost, row_cost, IsSmall
 abbrev pub named_part_cost : ℕ
 named_part_cost = 62 * part_cost + 5 * premise_cost
 
-module _ (m : List Declaration) (symbols : SymbolMap) (names : TypeNames) (c : HolType) (f : Term) (j : ℕ) (one : Sequent) (d : IsTypeDefinition names c f one) (v : IsSmallPremise m symbols j one) where
+module _ (m : List Declaration) (symbols : SymbolMap) (names : TypeNames) (c : HolType) (f : Term) (j : ℕ) (one : Sequent) (d : IsTypeDefinition names c f one)
+    (v : IsSmallPremise m symbols j one) where
   says : IsSmallTerm m symbols (app f d.witness)
   says = subst (IsSmallTerm m symbols) d.holds (conclusion-small m symbols one v.is.over v.within)
 
   predicate-small : IsSmallTerm m symbols (predicate one.conclusion)
-  predicate-small = subst (λ t. IsSmallTerm m symbols (predicate t)) (sym d.holds) (record { over = says.over.0; size = (let k = says.size in omega (arith, k)) })
+  predicate-small = subst (λ t. IsSmallTerm m symbols (predicate t)) (sym d.holds)
+      (record { over = says.over.0; size = (let k = says.size in omega (arith, k)) })
 
   witness-small : IsSmallTerm m symbols (witness one.conclusion)
   witness-small = subst (λ t. IsSmallTerm m symbols (witness t)) (sym d.holds) (record { over = says.over.1; size = (let k = says.size in omega (arith, k)) })
@@ -50,7 +52,8 @@ module _ (m : List Declaration) (symbols : SymbolMap) (names : TypeNames) (c : H
         let y = tm-cost m symbols scope h (predicate one.conclusion) predicate-small in
         let z = tm-cost m symbols scope h (witness one.conclusion) witness-small in
         let k = premise-cost m symbols scope h j one v in
-        let whole = b (type_tree symbols scope.types c) (term_tree symbols scope (predicate one.conclusion)) (term_tree symbols scope (witness one.conclusion)) (premise_tree scope (j, one)) (omega (arith, x)) (omega (arith, y)) (omega (arith, z)) in
+        let whole = b (type_tree symbols scope.types c) (term_tree symbols scope (predicate one.conclusion)) (term_tree symbols scope (witness one.conclusion))
+        (premise_tree scope (j, one)) (omega (arith, x)) (omega (arith, y)) (omega (arith, z)) in
         omega (arith, whole, k)
 
   module _ (scope : Scope) (h : IsPlainScope symbols scope) where
@@ -68,7 +71,8 @@ module _ (m : List Declaration) (symbols : SymbolMap) (names : TypeNames) (c : H
         let part = part_tree-cost (lifted scope) (lifted-plain symbols scope h) (Var 0 ∷ []) i bounded in
         let A = type_tree symbols scope.types a in
         let P = part_tree symbols (lifted scope) i c (j, one) in
-        let whole = fun_ext-cost m part_cost A (type_tree symbols scope.types b) (term_tree symbols scope (lam a t)) (term_tree symbols scope (lam a u)) (Lam (term_of A) (App P (Var 0)))
+        let whole = fun_ext-cost m part_cost A (type_tree symbols scope.types b) (term_tree symbols scope (lam a t)) (term_tree symbols scope (lam a u))
+        (Lam (term_of A) (App P (Var 0)))
         (omega (arith, x)) (omega (arith, y)) (omega (arith, f)) (omega (arith, g)) in
         let inner = body-cost A P (omega (arith, x)) part in
         omega (arith, whole, inner)
@@ -81,15 +85,18 @@ module _ (m : List Declaration) (symbols : SymbolMap) (names : TypeNames) (c : H
         → cost m [] (first_law_tree symbols scope names (type_or (witness one.conclusion)) (j, one)) ≤ row_cost
     first_law-cost s e k =
         subst (λ c. cost m [] (first_law_tree symbols scope names c (j, one)) ≤ row_cost) (sym (part-type names c f one d))
-        (law-cost (new_type names) (new_type names) (abstracted names c (represented names c (bound 0))) (bound 0) sub_abs_rep_symbol (sub_abs_rep-cost m part_cost (Var 0) (omega arith)) (ap (λ (x : Sequent). x.conclusion) e) k)
+        (law-cost (new_type names) (new_type names) (abstracted names c (represented names c (bound 0))) (bound 0) sub_abs_rep_symbol
+        (sub_abs_rep-cost m part_cost (Var 0) (omega arith)) (ap (λ (x : Sequent). x.conclusion) e) k)
 
     pub second_law-cost : (s : Sequent) → s ≡ type_definition.second_law names c f → IsSmallTerm m symbols s.conclusion
         → cost m [] (second_law_tree symbols scope names (type_or (witness one.conclusion)) (j, one)) ≤ row_cost
     second_law-cost s e k =
         let left = lam c (equation c (represented names c (abstracted names c (bound 0))) (bound 0)) in
         subst (λ c. cost m [] (second_law_tree symbols scope names c (j, one)) ≤ row_cost) (sym (part-type names c f one d))
-        (law-cost c bool (equation c (represented names c (abstracted names c (bound 0))) (bound 0)) (app (predicate one.conclusion) (bound 0)) sub_rep_abs_symbol (sub_rep_abs-cost m part_cost (Var 0) (omega arith))
-        (subst (λ p. s.conclusion ≡ equation (function c bool) left (lam c (app p (bound 0)))) (sym (ap predicate d.holds)) (ap (λ (x : Sequent). x.conclusion) e)) k)
+        (law-cost c bool (equation c (represented names c (abstracted names c (bound 0))) (bound 0)) (app (predicate one.conclusion) (bound 0))
+        sub_rep_abs_symbol (sub_rep_abs-cost m part_cost (Var 0) (omega arith))
+        (subst (λ p. s.conclusion ≡ equation (function c bool) left (lam c (app p (bound 0)))) (sym (ap predicate d.holds))
+        (ap (λ (x : Sequent). x.conclusion) e)) k)
 
     -- in version 5: a symbol of parts at a variable
     call-cost : (i : ℕ) (x : Term) → IsSmallTerm m symbols x → ((y : Tree) → cost m [] y ≤ part_cost → IsPartBound m part_cost (y ∷ []) i)
@@ -116,7 +123,8 @@ module _ (m : List Declaration) (symbols : SymbolMap) (names : TypeNames) (c : H
         let r = type_definition.old_variable c in
         let p = predicate one.conclusion in
         let right = equation c (represented names c (abstracted names c r)) r in
-        let says : s.conclusion ≡ equation bool (app p r) right = subst (λ q. s.conclusion ≡ equation bool (app q r) right) (sym (ap predicate d.holds)) (ap (λ (x : Sequent). x.conclusion) e) in
+        let says : s.conclusion ≡ equation bool (app p r) right =
+        subst (λ q. s.conclusion ≡ equation bool (app q r) right) (sym (ap predicate d.holds)) (ap (λ (x : Sequent). x.conclusion) e) in
         let shown = subst (IsSmallTerm m symbols) says k in
         let parts = equation-over m symbols bool (app p r) right shown.over in
         let inner = equation-over m symbols c (represented names c (abstracted names c r)) r parts.right in
@@ -126,5 +134,6 @@ module _ (m : List Declaration) (symbols : SymbolMap) (names : TypeNames) (c : H
         let z = tm-cost m symbols scope h (app p r) (record { over = parts.left; size = omega (arith, own) }) in
         let last = call-cost sub_rep_abs_symbol r (record { over = inner.right; size = omega (arith, own) }) (sub_rep_abs-cost m part_cost) in
         let whole = sym-cost m part_cost lemmas (type_tree symbols scope.types bool) (term_tree symbols scope right) (term_tree symbols scope (app p r))
-        (App (part_tree symbols (filled symbols scope.types) sub_rep_abs_symbol c (j, one)) (term_tree symbols scope r)) (omega (arith, x)) (omega (arith, y)) (omega (arith, z)) in
+        (App (part_tree symbols (filled symbols scope.types) sub_rep_abs_symbol c (j, one)) (term_tree symbols scope r)) (omega (arith, x)) (omega (arith, y))
+        (omega (arith, z)) in
         subst (λ c. cost m [] (second_law_free_tree symbols scope names c (j, one)) ≤ row_cost) (sym (part-type names c f one d)) (omega (arith, whole, last))

@@ -46,12 +46,15 @@ use Rattle.image_bound_laws.specs.SmallRows.{refl-cost, eq_mp_row-cost, app_thm_
 
 -- a term in which constants over the symbols are put for variables
 module _ (m : List Declaration) (symbols : SymbolMap) (terms : TermPairs) where
-  sub-over : (t : Term) → TermOver m symbols t → AllByRecursion (λ v. TermOver m symbols (term_image terms (v.0, substitute [] v.1))) (free_places t) → TermOver m symbols (sub [] terms t)
+  sub-over : (t : Term) → TermOver m symbols t → AllByRecursion (λ v. TermOver m symbols (term_image terms (v.0, substitute [] v.1))) (free_places t)
+      → TermOver m symbols (sub [] terms t)
   sub-over (free n t) o k = k.0
   sub-over (bound i) o k = tt
   sub-over (constant n t) o k = subst (ConstantOver m symbols n) (sym (substitute-nothing t)) o
-  sub-over (app f x) o k =
-      (sub-over f o.0 (All-left (λ v. TermOver m symbols (term_image terms (v.0, substitute [] v.1))) (free_places f) (free_places x) k), sub-over x o.1 (All-right (λ v. TermOver m symbols (term_image terms (v.0, substitute [] v.1))) (free_places f) (free_places x) k))
+  sub-over (app f x) o k = (
+    sub-over f o.0 (All-left (λ v. TermOver m symbols (term_image terms (v.0, substitute [] v.1))) (free_places f) (free_places x) k),
+    sub-over x o.1 (All-right (λ v. TermOver m symbols (term_image terms (v.0, substitute [] v.1))) (free_places f) (free_places x) k),
+  )
   sub-over (lam t b) o k = (subst (TypeOver m symbols) (sym (substitute-nothing t)) o.0, sub-over b o.1 k)
 
 module _ (m : List Declaration) (lemmas : HasLemmas m) (symbols : SymbolMap) (scope : Scope) (h : IsPlainScope symbols scope) where
@@ -92,7 +95,13 @@ module _ (m : List Declaration) (lemmas : HasLemmas m) (symbols : SymbolMap) (sc
         within = IsIn-left one.hypotheses (one.conclusion ∷ []) t k;
         typed = All-at (λ t. HasType t bool) one.hypotheses t v.is.is.hypotheses k;
       })) in
-      let of_conclusion = formula one.conclusion (record { over = v.is.over.conclusion; within = IsIn-right one.hypotheses (one.conclusion ∷ []) one.conclusion (inl refl); typed = v.is.is.conclusion }) in
+      let of_conclusion = formula one.conclusion
+      (record {
+        over = v.is.over.conclusion;
+        within = IsIn-right one.hypotheses (one.conclusion ∷ []) one.conclusion (inl refl);
+        typed =
+            v.is.is.conclusion;
+      }) in
       let of_proofs = self_proofs-total one.hypotheses v.is.over.hypotheses in
       let variables = variables-size one in
       let sizes = terms-size one in
@@ -110,13 +119,15 @@ module _ (m : List Declaration) (lemmas : HasLemmas m) (symbols : SymbolMap) (sc
       put_over w k =
           let s = All-at (StandsForVariable m symbols (constants_put pairs)) (free_variables_of one) w stand k in
           subst (TermOver m symbols) (sym (ap (λ a. term_image (constants_put pairs) (w.0, a)) (substitute-nothing w.1) ∙ s.image))
-          (constant-over m symbols s.name w.1 s.term s.declared s.definition (All-at (λ v. TypeOver m symbols v.1) (free_variables_of one) w (variables-over m symbols one v.is.over) k))
+          (constant-over m symbols s.name w.1 s.term s.declared s.definition
+          (All-at (λ v. TypeOver m symbols v.1) (free_variables_of one) w (variables-over m symbols one v.is.over) k))
 
       puts : AllByRecursion (λ w. TermOver m symbols (term_image (constants_put pairs) (w.0, substitute [] w.1))) (free_variables_of one)
       puts = All-each (λ w. TermOver m symbols (term_image (constants_put pairs) (w.0, substitute [] w.1))) (free_variables_of one) put_over
 
       put_variables : (vs : List Variable) → AllByRecursion (λ w. TermOver m symbols (term_image (constants_put pairs) (w.0, substitute [] w.1))) vs
-          → total m (map (λ w. term_tree symbols scope (term_image (constants_put pairs) (w.0, substitute [] w.1))) vs) + variable_sizes symbols (constants_scope symbols scope (constants_put pairs)) vs ≤ 27 * sums variable_size vs
+          → total m (map (λ w. term_tree symbols scope (term_image (constants_put pairs) (w.0, substitute [] w.1))) vs) + variable_sizes symbols
+          (constants_scope symbols scope (constants_put pairs)) vs ≤ 27 * sums variable_size vs
       put_variables [] o = omega arith
       put_variables (w ∷ ws) o =
           let c = constants_put-size pairs (w.0, substitute [] w.1) in
@@ -129,10 +140,13 @@ module _ (m : List Declaration) (lemmas : HasLemmas m) (symbols : SymbolMap) (sc
       formula : (t : Term) → IsPut one t → size (term_tree symbols (constants_scope symbols scope (constants_put pairs)) t) ≤ 24 * term_size t
       formula t p =
           let instances = AreInstances-over m symbols t p.over in
-          let free_over = All-weaker (IsIn (free_variables_of one)) (λ w. TermOver m symbols (term_image (constants_put pairs) (w.0, substitute [] w.1))) put_over (free_places t) (term-IsFormula one symbols t p.within instances p.typed).free_variables in
+          let free_over = All-weaker (IsIn (free_variables_of one)) (λ w. TermOver m symbols (term_image (constants_put pairs) (w.0, substitute [] w.1)))
+          put_over (free_places t) (term-IsFormula one symbols t p.within instances p.typed).free_variables in
           let smaller = constants_sub-size pairs t in
           let l = term_tree-cost m symbols [] scope h (sub [] (constants_put pairs) t) (sub-over m symbols (constants_put pairs) t p.over free_over) in
-          let same = ap size (term_tree-substitution symbols [] (constants_put pairs) (AreFitting-closed m symbols [] (constants_put pairs) fitting) scope t instances ∙ term_tree-proofs symbols (self_proof symbols scope) (images symbols [] (constants_put pairs) scope) t) in
+          let same = ap size
+          (term_tree-substitution symbols [] (constants_put pairs) (AreFitting-closed m symbols [] (constants_put pairs) fitting) scope t instances
+          ∙ term_tree-proofs symbols (self_proof symbols scope) (images symbols [] (constants_put pairs) scope) t) in
           omega (arith, l, same, smaller)
 
       formulas : (ts : List Term) → AllByRecursion (IsPut one) ts
@@ -149,7 +163,8 @@ module _ (m : List Declaration) (lemmas : HasLemmas m) (symbols : SymbolMap) (sc
       let parts = equation-over m symbols a x y (subst (TermOver m symbols) e k.over) in
       let own = k.size in
       let same = ap term_size e in
-      refl-cost m lemmas symbols scope h a y (record { over = parts.ty; size = omega (arith, own, same) }) (record { over = parts.right; size = omega (arith, own, same) })
+      refl-cost m lemmas symbols scope h a y (record { over = parts.ty; size = omega (arith, own, same) })
+      (record { over = parts.right; size = omega (arith, own, same) })
 
   -- the type of the variable of an abstraction
   bound_variable : (v : Variable) (b : HolType) (x y : Term) {c : Term} → c ≡ equation (function v.1 b) x y → IsSmallTerm m symbols c
@@ -168,12 +183,14 @@ module _ (m : List Declaration) (lemmas : HasLemmas m) (symbols : SymbolMap) (sc
       let c = conclusion-small m symbols s over w in
       let is = ap (λ (x : Sequent). x.conclusion) e in
       subst (λ c. cost m [] (refl_tree symbols scope c t) ≤ row_cost) (sym (type_or-is t a typed)) (sides_row a t t is c)
-  proof_tree-cost kind js premises given s (rule.assume {p = q} typed e) p d over ws w = let l = plain-cost m [] (scope.proofs q) (h.proofs q) in omega (arith, l)
+  proof_tree-cost kind js premises given s (rule.assume {p = q} typed e) p d over ws w = let l =
+      plain-cost m [] (scope.proofs q) (h.proofs q) in omega (arith, l)
   proof_tree-cost kind js premises given s (rule.eq_mp {one = one} {two = two} e f i) p d over ws w =
       let n = two_premises m symbols js one two p in
       let c = conclusion-small m symbols one n.first.over ws.0 in
       subst (λ l. cost m [] (proof_tree symbols scope kinds.EqMp l (one ∷ two ∷ []) Parameters.nothing) ≤ row_cost) (sym n.is)
-      (eq_mp_row-cost m lemmas symbols scope h (left_side one.conclusion) (right_side one.conclusion) n.j n.k one two (left_side-small m symbols one.conclusion c) (right_side-small m symbols one.conclusion c)
+      (eq_mp_row-cost m lemmas symbols scope h (left_side one.conclusion) (right_side one.conclusion) n.j n.k one two
+      (left_side-small m symbols one.conclusion c) (right_side-small m symbols one.conclusion c)
       (record { is = n.first; within = ws.0 }) (record { is = n.second; within = ws.1.0 }))
   proof_tree-cost kind js premises given s (rule.abs_thm {v = v} {b = b} {t = t} {u = u} {one = one} e fresh i) p d over ws w =
       let n = one_premise m symbols js one p in
@@ -181,50 +198,62 @@ module _ (m : List Declaration) (lemmas : HasLemmas m) (symbols : SymbolMap) (sc
       subst (λ l. cost m [] (proof_tree symbols scope kinds.AbsThm l (one ∷ []) (Parameters.variable v)) ≤ row_cost) (sym n.is)
       (fun_ext_row-cost m lemmas symbols scope h v (equated_type one.conclusion) (left_side one.conclusion) (right_side one.conclusion) n.j one
       (bound_variable v b (rule.abstraction v t) (rule.abstraction v u) (ap (λ (x : Sequent). x.conclusion) i) (conclusion-small m symbols s over w))
-      (equated_type-small m symbols one.conclusion c) (left_side-small m symbols one.conclusion c) (right_side-small m symbols one.conclusion c) (record { is = n.first; within = ws.0 }))
+      (equated_type-small m symbols one.conclusion c) (left_side-small m symbols one.conclusion c) (right_side-small m symbols one.conclusion c)
+      (record { is = n.first; within = ws.0 }))
   proof_tree-cost kind js premises given s (rule.app_thm {one = one} {two = two} e i l) p d over ws w =
       let n = two_premises m symbols js one two p in
       let c = conclusion-small m symbols one n.first.over ws.0 in
       let k = conclusion-small m symbols two n.second.over ws.1.0 in
       let a = equated_type-small m symbols one.conclusion c in
       subst (λ l. cost m [] (proof_tree symbols scope kinds.AppThm l (one ∷ two ∷ []) Parameters.nothing) ≤ row_cost) (sym n.is)
-      (app_thm_row-cost m lemmas symbols scope h (argument_type (equated_type one.conclusion)) (result_type (equated_type one.conclusion)) (left_side one.conclusion) (right_side one.conclusion) (left_side two.conclusion) (right_side two.conclusion) n.j n.k one two
-      (argument_type-small m symbols (equated_type one.conclusion) a) (result_type-small m symbols (equated_type one.conclusion) a) (left_side-small m symbols one.conclusion c) (right_side-small m symbols one.conclusion c)
-      (left_side-small m symbols two.conclusion k) (right_side-small m symbols two.conclusion k) (record { is = n.first; within = ws.0 }) (record { is = n.second; within = ws.1.0 }))
+      (app_thm_row-cost m lemmas symbols scope h (argument_type (equated_type one.conclusion)) (result_type (equated_type one.conclusion))
+      (left_side one.conclusion) (right_side one.conclusion) (left_side two.conclusion) (right_side two.conclusion) n.j n.k one two
+      (argument_type-small m symbols (equated_type one.conclusion) a) (result_type-small m symbols (equated_type one.conclusion) a)
+      (left_side-small m symbols one.conclusion c) (right_side-small m symbols one.conclusion c)
+      (left_side-small m symbols two.conclusion k) (right_side-small m symbols two.conclusion k) (record { is = n.first; within = ws.0 })
+      (record { is = n.second; within = ws.1.0 }))
   proof_tree-cost kind js premises given s (rule.deduct_antisym {one = one} {two = two} i) p d over ws w =
       let n = two_premises m symbols js one two p in
       subst (λ l. cost m [] (proof_tree symbols scope kinds.DeductAntisym l (one ∷ two ∷ []) Parameters.nothing) ≤ row_cost) (sym n.is)
-      (prop_ext_row-cost m lemmas symbols scope h one.conclusion two.conclusion n.j n.k one two (conclusion-small m symbols one n.first.over ws.0) (conclusion-small m symbols two n.second.over ws.1.0)
+      (prop_ext_row-cost m lemmas symbols scope h one.conclusion two.conclusion n.j n.k one two (conclusion-small m symbols one n.first.over ws.0)
+      (conclusion-small m symbols two n.second.over ws.1.0)
       (record { is = n.first; within = ws.0 }) (record { is = n.second; within = ws.1.0 }))
   proof_tree-cost kind js premises given s (rule.beta_conv {a = a} {b = b} {t = t} {u = u} typed e) p d over ws w =
       let c = conclusion-small m symbols s over w in
       let is = ap (λ (x : Sequent). x.conclusion) e in
-      subst (λ c. cost m [] (refl_tree symbols scope c (put u t)) ≤ row_cost) (sym (type_or-is (app (lam a t) u) b typed)) (sides_row b (app (lam a t) u) (put u t) is c)
+      subst (λ c. cost m [] (refl_tree symbols scope c (put u t)) ≤ row_cost) (sym (type_or-is (app (lam a t) u) b typed))
+      (sides_row b (app (lam a t) u) (put u t) is c)
   proof_tree-cost kind js premises given s (rule.sym {one = one} e i) p d over ws w =
       let n = one_premise m symbols js one p in
       let c = conclusion-small m symbols one n.first.over ws.0 in
       subst (λ l. cost m [] (proof_tree symbols scope kinds.Sym l (one ∷ []) Parameters.nothing) ≤ row_cost) (sym n.is)
       (sym_row-cost m lemmas symbols scope h (equated_type one.conclusion) (left_side one.conclusion) (right_side one.conclusion) n.j one
-      (equated_type-small m symbols one.conclusion c) (left_side-small m symbols one.conclusion c) (right_side-small m symbols one.conclusion c) (record { is = n.first; within = ws.0 }))
+      (equated_type-small m symbols one.conclusion c) (left_side-small m symbols one.conclusion c) (right_side-small m symbols one.conclusion c)
+      (record { is = n.first; within = ws.0 }))
   proof_tree-cost kind js premises given s (rule.trans {one = one} {two = two} e f i) p d over ws w =
       let n = two_premises m symbols js one two p in
       let c = conclusion-small m symbols one n.first.over ws.0 in
       let k = conclusion-small m symbols two n.second.over ws.1.0 in
       subst (λ l. cost m [] (proof_tree symbols scope kinds.Trans l (one ∷ two ∷ []) Parameters.nothing) ≤ row_cost) (sym n.is)
-      (trans_row-cost m lemmas symbols scope h (equated_type one.conclusion) (left_side one.conclusion) (right_side one.conclusion) (right_side two.conclusion) n.j n.k one two
-      (equated_type-small m symbols one.conclusion c) (left_side-small m symbols one.conclusion c) (right_side-small m symbols one.conclusion c) (right_side-small m symbols two.conclusion k)
+      (trans_row-cost m lemmas symbols scope h (equated_type one.conclusion) (left_side one.conclusion) (right_side one.conclusion) (right_side two.conclusion)
+      n.j n.k one two
+      (equated_type-small m symbols one.conclusion c) (left_side-small m symbols one.conclusion c) (right_side-small m symbols one.conclusion c)
+      (right_side-small m symbols two.conclusion k)
       (record { is = n.first; within = ws.0 }) (record { is = n.second; within = ws.1.0 }))
   proof_tree-cost kind js premises given s (rule.prove_hyp {one = one} {two = two} i) p d over ws w =
       let n = two_premises m symbols js one two p in
       subst (λ l. cost m [] (proof_tree symbols scope kinds.ProveHyp l (one ∷ two ∷ []) Parameters.nothing) ≤ row_cost) (sym n.is)
-      (prove_hyp_row-cost m lemmas symbols scope h one.conclusion n.j n.k one two (record { is = n.first; within = ws.0 }) (record { is = n.second; within = ws.1.0 }))
+      (prove_hyp_row-cost m lemmas symbols scope h one.conclusion n.j n.k one two (record { is = n.first; within = ws.0 })
+      (record { is = n.second; within = ws.1.0 }))
   proof_tree-cost kind js premises given s (rule.subst {types = pairs} {terms = terms} {one = one} fitting i) p d over ws w =
       let n = one_premise m symbols js one p in
       subst (λ l. cost m [] (proof_tree symbols scope kinds.Subst l (one ∷ []) (Parameters.substitution pairs terms)) ≤ row_cost) (sym n.is)
       (subst_row-cost m lemmas symbols scope h pairs terms n.j one fitting (record { is = n.first; within = ws.0 })
       (All-append (λ t. IsSmallTerm m symbols (sub pairs terms t)) one.hypotheses (one.conclusion ∷ [])
-      (All-each (λ t. IsSmallTerm m symbols (sub pairs terms t)) one.hypotheses (λ t k. All-at (IsSmallTerm m symbols) s.hypotheses (sub pairs terms t) (hypotheses-small m symbols s over w)
-      (subst (λ l. IsIn l (sub pairs terms t)) (sym (ap (λ (x : Sequent). x.hypotheses) i)) (IsIn-distinct term_eq term_eq-Decides (map (sub pairs terms) one.hypotheses) (sub pairs terms t) (IsIn-map (sub pairs terms) one.hypotheses t k)))))
+      (All-each (λ t. IsSmallTerm m symbols (sub pairs terms t)) one.hypotheses
+      (λ t k. All-at (IsSmallTerm m symbols) s.hypotheses (sub pairs terms t) (hypotheses-small m symbols s over w)
+      (subst (λ l. IsIn l (sub pairs terms t)) (sym (ap (λ (x : Sequent). x.hypotheses) i))
+      (IsIn-distinct term_eq term_eq-Decides (map (sub pairs terms) one.hypotheses) (sub pairs terms t) (IsIn-map (sub pairs terms) one.hypotheses t k)))))
       (subst (IsSmallTerm m symbols) (ap (λ (x : Sequent). x.conclusion) i) (conclusion-small m symbols s over w), tt {0})))
   proof_tree-cost kind js premises given s (rule.recorded is) p d over ws w = let l = plain-cost m [] types Plain.nothing in omega (arith, l)
   proof_tree-cost kind js premises given s (rule.restate {one = one} is e) p d over ws w =

@@ -34,14 +34,16 @@ use Rattle.image_bound_laws.specs.SmallPremises.{row_cost, IsSmallTerm, IsSmallT
 
 -- the proof of one hypothesis among those of a list without repeats
 module _ (m : List Declaration) (f : Term → Tree) (p : Term) (x : Tree) where
-  without_it : (hs : List Term) → AllByRecursion (λ g. cost m [] (f g) ≤ 2) hs → AllByRecursion (λ g. term_eq g p ≡ false) hs → total m (map (λ g. cond (term_eq g p) x (f g)) hs) ≤ 3 * length hs
+  without_it : (hs : List Term) → AllByRecursion (λ g. cost m [] (f g) ≤ 2) hs → AllByRecursion (λ g. term_eq g p ≡ false) hs
+      → total m (map (λ g. cond (term_eq g p) x (f g)) hs) ≤ 3 * length hs
   without_it [] h k = omega arith
   without_it (g ∷ gs) h k =
       let same = ap (λ b. cost m [] (cond b x (f g))) k.0 in
       let rest = without_it gs h.1 k.1 in
       omega (arith, same, rest, h.0)
 
-  once : (hs : List Term) → IsDistinct term_eq hs → AllByRecursion (λ g. cost m [] (f g) ≤ 2) hs → total m (map (λ g. cond (term_eq g p) x (f g)) hs) ≤ 3 * length hs + cost m [] x + 1
+  once : (hs : List Term) → IsDistinct term_eq hs → AllByRecursion (λ g. cost m [] (f g) ≤ 2) hs
+      → total m (map (λ g. cond (term_eq g p) x (f g)) hs) ≤ 3 * length hs + cost m [] x + 1
   once [] d h = omega arith
   once (g ∷ gs) d h = go (term_eq g p) refl (once gs (IsDistinct-tail term_eq g gs d) h.1)
     where
@@ -89,7 +91,8 @@ module _ (m : List Declaration) (lemmas : HasLemmas m) (symbols : SymbolMap) (sc
       let b = tm-cost m symbols scope h q l in
       let c = premise-cost m symbols scope h i one v in
       let d = premise-cost m symbols scope h j two w in
-      let whole = eq_mp-cost m part_cost (term_tree symbols scope p) (term_tree symbols scope q) (premise_tree scope (i, one)) (premise_tree scope (j, two)) (omega (arith, a)) (omega (arith, b)) in
+      let whole = eq_mp-cost m part_cost (term_tree symbols scope p) (term_tree symbols scope q) (premise_tree scope (i, one)) (premise_tree scope (j, two))
+      (omega (arith, a)) (omega (arith, b)) in
       omega (arith, whole, c, d)
 
   pub app_thm_row-cost : (a b : HolType) (f g x y : Term) (i j : ℕ) (one two : Sequent) → IsSmallType m symbols a → IsSmallType m symbols b
@@ -104,8 +107,10 @@ module _ (m : List Declaration) (lemmas : HasLemmas m) (symbols : SymbolMap) (sc
       let ly = tm-cost m symbols scope h y hy in
       let c = premise-cost m symbols scope h i one v in
       let d = premise-cost m symbols scope h j two w in
-      let whole = app_thm-cost m part_cost (type_tree symbols scope.types a) (type_tree symbols scope.types b) (term_tree symbols scope f) (term_tree symbols scope g) (term_tree symbols scope x) (term_tree symbols scope y)
-      (premise_tree scope (i, one)) (premise_tree scope (j, two)) (omega (arith, la)) (omega (arith, lb)) (omega (arith, lf)) (omega (arith, lg)) (omega (arith, lx)) (omega (arith, ly)) in
+      let whole = app_thm-cost m part_cost (type_tree symbols scope.types a) (type_tree symbols scope.types b) (term_tree symbols scope f)
+      (term_tree symbols scope g) (term_tree symbols scope x) (term_tree symbols scope y)
+      (premise_tree scope (i, one)) (premise_tree scope (j, two)) (omega (arith, la)) (omega (arith, lb)) (omega (arith, lf)) (omega (arith, lg))
+      (omega (arith, lx)) (omega (arith, ly)) in
       omega (arith, whole, c, d)
 
   pub sym_row-cost : (a : HolType) (x y : Term) (i : ℕ) (one : Sequent) → IsSmallType m symbols a → IsSmallTerm m symbols x → IsSmallTerm m symbols y
@@ -115,7 +120,8 @@ module _ (m : List Declaration) (lemmas : HasLemmas m) (symbols : SymbolMap) (sc
       let lx = tm-cost m symbols scope h x hx in
       let ly = tm-cost m symbols scope h y hy in
       let c = premise-cost m symbols scope h i one v in
-      let whole = sym-cost m part_cost lemmas (type_tree symbols scope.types a) (term_tree symbols scope x) (term_tree symbols scope y) (premise_tree scope (i, one)) (omega (arith, la)) (omega (arith, lx)) (omega (arith, ly)) in
+      let whole = sym-cost m part_cost lemmas (type_tree symbols scope.types a) (term_tree symbols scope x) (term_tree symbols scope y)
+      (premise_tree scope (i, one)) (omega (arith, la)) (omega (arith, lx)) (omega (arith, ly)) in
       omega (arith, whole, c)
 
   pub trans_row-cost : (a : HolType) (x y z : Term) (i j : ℕ) (one two : Sequent) → IsSmallType m symbols a → IsSmallTerm m symbols x → IsSmallTerm m symbols y
@@ -128,7 +134,8 @@ module _ (m : List Declaration) (lemmas : HasLemmas m) (symbols : SymbolMap) (sc
       let lz = tm-cost m symbols scope h z hz in
       let c = premise-cost m symbols scope h i one v in
       let d = premise-cost m symbols scope h j two w in
-      let whole = trans-cost m part_cost lemmas (type_tree symbols scope.types a) (term_tree symbols scope x) (term_tree symbols scope y) (term_tree symbols scope z)
+      let whole = trans-cost m part_cost lemmas (type_tree symbols scope.types a) (term_tree symbols scope x) (term_tree symbols scope y)
+      (term_tree symbols scope z)
       (premise_tree scope (i, one)) (premise_tree scope (j, two)) (omega (arith, la)) (omega (arith, lx)) (omega (arith, ly)) (omega (arith, lz)) in
       omega (arith, whole, c, d)
 
@@ -147,7 +154,8 @@ module _ (m : List Declaration) (lemmas : HasLemmas m) (symbols : SymbolMap) (sc
       let lt = abs_tree-cost v t hv ht in
       let lu = abs_tree-cost v u hv hu in
       let c = premise-cost m symbols (under_term v scope) (under_term-plain symbols v scope h) i one w in
-      let whole = fun_ext-cost m (2 * part_cost) (type_tree symbols scope.types v.1) (type_tree symbols scope.types b) (abs_tree symbols scope v t) (abs_tree symbols scope v u)
+      let whole = fun_ext-cost m (2 * part_cost) (type_tree symbols scope.types v.1) (type_tree symbols scope.types b) (abs_tree symbols scope v t)
+      (abs_tree symbols scope v u)
       (Lam (term_of (type_tree symbols scope.types v.1)) (premise_tree (under_term v scope) (i, one))) (omega (arith, la)) (omega (arith, lb)) lt lu in
       omega (arith, whole, c, la)
 
@@ -159,7 +167,8 @@ module _ (m : List Declaration) (lemmas : HasLemmas m) (symbols : SymbolMap) (sc
       let b = tm-cost m symbols scope h q l in
       let c = premise-cost m symbols (under_proof q scope) (under_proof-plain symbols q scope h) i one v in
       let d = premise-cost m symbols (under_proof p scope) (under_proof-plain symbols p scope h) j two w in
-      let whole = prop_ext-cost m part_cost (term_tree symbols scope p) (term_tree symbols scope q) (Lam (proof_of (term_tree symbols scope p)) (premise_tree (under_proof p scope) (j, two)))
+      let whole = prop_ext-cost m part_cost (term_tree symbols scope p) (term_tree symbols scope q)
+      (Lam (proof_of (term_tree symbols scope p)) (premise_tree (under_proof p scope) (j, two)))
       (Lam (proof_of (term_tree symbols scope q)) (premise_tree (under_proof q scope) (i, one))) (omega (arith, a)) (omega (arith, b)) in
       omega (arith, whole, a, b, c, d)
 
@@ -180,12 +189,16 @@ module _ (m : List Declaration) (lemmas : HasLemmas m) (symbols : SymbolMap) (sc
   restate_row-cost i one v = let c = premise-cost m symbols scope h i one v in omega (arith, c)
 
   -- the images of a substitution
-  pub subst_row-cost : (pairs : TypePairs) (terms : TermPairs) (i : ℕ) (one : Sequent) → AreFitting terms → IsSmallPremise m symbols i one → AllByRecursion (λ t. IsSmallTerm m symbols (sub pairs terms t)) (terms_of one)
+  pub subst_row-cost : (pairs : TypePairs) (terms : TermPairs) (i : ℕ) (one : Sequent) → AreFitting terms → IsSmallPremise m symbols i one
+      → AllByRecursion (λ t. IsSmallTerm m symbols (sub pairs terms t)) (terms_of one)
       → cost m [] (subst_tree symbols scope pairs terms (i, one)) ≤ row_cost
   subst_row-cost pairs terms i one fitting v all =
-      let overs = All-weaker (λ t. IsSmallTerm m symbols (sub pairs terms t)) (λ t. TermOver m symbols (sub pairs terms t)) (λ t k. k.over) (terms_of one) all in
-      let sizes = All-weaker (λ t. IsSmallTerm m symbols (sub pairs terms t)) (λ t. term_size (sub pairs terms t) ≤ greatest_size) (λ t k. k.size) (terms_of one) all in
-      let types_put = All-distinct _ name_eq (flat_map type_variable_places (terms_of one)) (all_types-over m symbols pairs terms fitting (terms_of one) overs) in
+      let overs = All-weaker (λ t. IsSmallTerm m symbols (sub pairs terms t)) (λ t. TermOver m symbols (sub pairs terms t)) (λ t k. k.over) (terms_of one) all
+      in
+      let sizes = All-weaker (λ t. IsSmallTerm m symbols (sub pairs terms t)) (λ t. term_size (sub pairs terms t) ≤ greatest_size) (λ t k. k.size)
+      (terms_of one) all in
+      let types_put = All-distinct _ name_eq (flat_map type_variable_places (terms_of one)) (all_types-over m symbols pairs terms fitting (terms_of one) overs)
+      in
       let type_sizes = type_images-size pairs terms fitting greatest_size one sizes in
       let terms_put = All-distinct _ variable_eq (flat_map free_places (terms_of one)) (all_terms-over m symbols pairs terms fitting (terms_of one) overs) in
       let put_sizes = term_images_of-size pairs terms greatest_size one sizes in
@@ -194,13 +207,16 @@ module _ (m : List Declaration) (lemmas : HasLemmas m) (symbols : SymbolMap) (sc
       let of_types = put_types (type_variables_of one) types_put type_sizes in
       let of_terms = put_terms (free_variables_of one) terms_put put_sizes in
       let of_variables = put_variables (free_variables_of one) terms_put put_sizes in
-      let of_hypotheses = hypotheses one.hypotheses v.is.over.hypotheses (All-left (λ t. IsSmallTerm m symbols (sub pairs terms t)) one.hypotheses (one.conclusion ∷ []) all) in
-      let of_conclusion = formula one.conclusion v.is.over.conclusion (All-right (λ t. IsSmallTerm m symbols (sub pairs terms t)) one.hypotheses (one.conclusion ∷ []) all).0 in
+      let of_hypotheses = hypotheses one.hypotheses v.is.over.hypotheses
+      (All-left (λ t. IsSmallTerm m symbols (sub pairs terms t)) one.hypotheses (one.conclusion ∷ []) all) in
+      let of_conclusion = formula one.conclusion v.is.over.conclusion
+      (All-right (λ t. IsSmallTerm m symbols (sub pairs terms t)) one.hypotheses (one.conclusion ∷ []) all).0 in
       let of_proofs = plain-total m symbols scope h (sub pairs terms) one.hypotheses in
       let most = v.within.parameters in
       omega (arith, whole, of_types, of_terms, of_variables, of_hypotheses, of_conclusion, of_proofs, most)
     where
-      put_types : (ns : List Name) → AllByRecursion (λ n. TypeOver m symbols (image pairs n)) ns → AllByRecursion (λ n. type_size (image pairs n) ≤ 2 * greatest_size) ns
+      put_types : (ns : List Name) → AllByRecursion (λ n. TypeOver m symbols (image pairs n)) ns
+          → AllByRecursion (λ n. type_size (image pairs n) ≤ 2 * greatest_size) ns
           → total m (map (λ n. type_tree symbols scope.types (image pairs n)) ns) ≤ length ns * part_cost
       put_types [] o k = omega arith
       put_types (n ∷ ns) o k =
@@ -208,7 +224,8 @@ module _ (m : List Declaration) (lemmas : HasLemmas m) (symbols : SymbolMap) (sc
           let rest = put_types ns o.1 k.1 in
           omega (arith, one, rest)
 
-      put_terms : (vs : List Variable) → AllByRecursion (λ v. TermOver m symbols (term_image terms (v.0, substitute pairs v.1))) vs → AllByRecursion (λ v. term_size (term_image terms (v.0, substitute pairs v.1)) ≤ greatest_size) vs
+      put_terms : (vs : List Variable) → AllByRecursion (λ v. TermOver m symbols (term_image terms (v.0, substitute pairs v.1))) vs
+          → AllByRecursion (λ v. term_size (term_image terms (v.0, substitute pairs v.1)) ≤ greatest_size) vs
           → total m (map (λ v. term_tree symbols scope (term_image terms (v.0, substitute pairs v.1))) vs) ≤ length vs * part_cost
       put_terms [] o k = omega arith
       put_terms (v ∷ vs) o k =
@@ -216,7 +233,8 @@ module _ (m : List Declaration) (lemmas : HasLemmas m) (symbols : SymbolMap) (sc
           let rest = put_terms vs o.1 k.1 in
           omega (arith, one, rest)
 
-      put_variables : (vs : List Variable) → AllByRecursion (λ v. TermOver m symbols (term_image terms (v.0, substitute pairs v.1))) vs → AllByRecursion (λ v. term_size (term_image terms (v.0, substitute pairs v.1)) ≤ greatest_size) vs
+      put_variables : (vs : List Variable) → AllByRecursion (λ v. TermOver m symbols (term_image terms (v.0, substitute pairs v.1))) vs
+          → AllByRecursion (λ v. term_size (term_image terms (v.0, substitute pairs v.1)) ≤ greatest_size) vs
           → variable_sizes symbols (images symbols pairs terms scope) vs ≤ length vs * (4 * greatest_size)
       put_variables [] o k = omega arith
       put_variables (v ∷ vs) o k =
@@ -230,10 +248,12 @@ module _ (m : List Declaration) (lemmas : HasLemmas m) (symbols : SymbolMap) (sc
           → size (term_tree symbols (images symbols pairs terms scope) t) ≤ part_cost
       formula t o k =
           let l = tm-cost m symbols scope h (sub pairs terms t) k in
-          let same = ap size (term_tree-substitution symbols pairs terms (AreFitting-closed m symbols pairs terms fitting) scope t (AreInstances-over m symbols t o)) in
+          let same = ap size
+          (term_tree-substitution symbols pairs terms (AreFitting-closed m symbols pairs terms fitting) scope t (AreInstances-over m symbols t o)) in
           omega (arith, l, same)
 
-      hypotheses : (hs : List Term) → AllByRecursion (TermOver m symbols) hs → AllByRecursion (λ t. IsSmallTerm m symbols (sub pairs terms t)) hs → term_sizes symbols (images symbols pairs terms scope) hs ≤ length hs * part_cost
+      hypotheses : (hs : List Term) → AllByRecursion (TermOver m symbols) hs → AllByRecursion (λ t. IsSmallTerm m symbols (sub pairs terms t)) hs
+          → term_sizes symbols (images symbols pairs terms scope) hs ≤ length hs * part_cost
       hypotheses [] o k = omega arith
       hypotheses (t ∷ ts) o k =
           let one = formula t o.0 k.0 in

@@ -103,7 +103,8 @@ module _ (m : List Declaration) (symbols : SymbolMap) where
       omega (arith, one, two, of_types, of_terms, of_proofs, variables, sizes, size, most)
 
   conclusion-cost : (s : Sequent) → SequentOver m symbols s → SequentWithin s → cost m [] (conclusion_tree symbols s) ≤ part_cost
-  conclusion-cost s over within = let l = tm-cost m symbols (scope_of symbols s) (scope_of-plain symbols s) s.conclusion (conclusion-small m symbols s over within) in omega (arith, l)
+  conclusion-cost s over within = let l = tm-cost m symbols (scope_of symbols s) (scope_of-plain symbols s) s.conclusion
+      (conclusion-small m symbols s over within) in omega (arith, l)
 
   under_types-here : (a : HolType) (n : Name) → Plain (under_types (type_variables a) unfilled n)
   under_types-here a n = under_types-plain symbols (type_variables a) unfilled (λ k. Plain.truth) n
@@ -134,7 +135,8 @@ module _ (m : List Declaration) (symbols : SymbolMap) where
       → cost m [] (part_definition_tree symbols ns i c j one) ≤ part_cost + named_part_cost
   part_definition-cost ns i b names c f j one l d v =
       let scope = filled symbols (under_types ns unfilled) in
-      let own = part_tree-cost m symbols names c f j one d v scope (filled-plain symbols (under_types ns unfilled) (λ n. under_types-plain symbols ns unfilled (λ k. Plain.truth) n)) [] i b in
+      let own = part_tree-cost m symbols names c f j one d v scope
+      (filled-plain symbols (under_types ns unfilled) (λ n. under_types-plain symbols ns unfilled (λ k. Plain.truth) n)) [] i b in
       let whole = cost-abstractions m (map (λ (n : Name). types) ns) (part_tree symbols scope i c (j, one)) in
       let front = types-total m ns in
       omega (arith, own, whole, front, l)
@@ -165,11 +167,13 @@ module _ (m : List Declaration) (symbols : SymbolMap) where
         omega (arith, whole, front, last, few, body)
     content-weight name (type_abstraction names c f j one) i h =
         let l = generic_tree-cost (abstraction_type names c) (TypeOver-taken m symbols before holds (abstraction_type names c) i.1) h.0 in
-        let body = part_definition-cost (type_variables (abstraction_type names c)) sub_abs_symbol (sub_abs-cost m part_cost) names c f j one h.0.variables h.1 (premise-here j one i.0.among h.2) in
+        let body = part_definition-cost (type_variables (abstraction_type names c)) sub_abs_symbol (sub_abs-cost m part_cost) names c f j one h.0.variables h.1
+        (premise-here j one i.0.among h.2) in
         omega (arith, l, body)
     content-weight name (type_representation names c f j one) i h =
         let l = generic_tree-cost (representation_type names c) (TypeOver-taken m symbols before holds (representation_type names c) i.1) h.0 in
-        let body = part_definition-cost (type_variables (representation_type names c)) sub_rep_symbol (sub_rep-cost m part_cost) names c f j one h.0.variables h.1 (premise-here j one i.0.among h.2) in
+        let body = part_definition-cost (type_variables (representation_type names c)) sub_rep_symbol (sub_rep-cost m part_cost) names c f j one h.0.variables
+        h.1 (premise-here j one i.0.among h.2) in
         omega (arith, l, body)
     content-weight name (unproved s) i h =
         let over = SequentOver-taken m symbols before holds s i in
@@ -182,7 +186,8 @@ module _ (m : List Declaration) (symbols : SymbolMap) where
         let front = domains-total s over h.2 in
         let last = conclusion-cost s over h.2 in
         let whole = cost-products m (domains_of symbols s) (conclusion_tree symbols s) in
-        let row = proof_tree-cost m has symbols (scope_of symbols s) (scope_of-plain symbols s) kind js premises given s h.0 (ArePremises-among m symbols before holds js premises i.0.among) (defined_among m symbols before holds kind js premises given i.1) over h.1 h.2 in
+        let row = proof_tree-cost m has symbols (scope_of symbols s) (scope_of-plain symbols s) kind js premises given s h.0
+        (ArePremises-among m symbols before holds js premises i.0.among) (defined_among m symbols before holds kind js premises given i.1) over h.1 h.2 in
         let body = cost-abstractions m (domains_of symbols s) (proof_tree symbols (scope_of symbols s) kind js premises given) in
         omega (arith, whole, front, last, row, body)
 
@@ -191,14 +196,17 @@ module _ (symbols : SymbolMap) where
   items-hold : (m : List Declaration) (before xs : List Item) → length m ≡ length lemmas + length before → AllByRecursion (HoldsItem m symbols) before
       → AreItems symbols before xs
       → AllByRecursion (HoldsItem (m ++ map (declaration symbols) xs) symbols) (before ++ xs)
-  items-hold m before [] size holds h = subst (λ l. AllByRecursion (HoldsItem l symbols) (before ++ [])) (sym (append-nil m)) (subst (AllByRecursion (HoldsItem m symbols)) (sym (append-nil before)) holds)
+  items-hold m before [] size holds h = subst (λ l. AllByRecursion (HoldsItem l symbols) (before ++ [])) (sym (append-nil m))
+      (subst (AllByRecursion (HoldsItem m symbols)) (sym (append-nil before)) holds)
   items-hold m before (x ∷ xs) size holds h =
       let d = declaration symbols x in
       let place : x.symbol ≡ length signature + length m = h.0 ∙ ap (λ k. length signature + k) (sym size) in
       let declared : symbol_declaration (m ++ d ∷ []) x.symbol ≡ Some d = ap (symbol_declaration (m ++ d ∷ [])) place ∙ slice_get-last signature m d in
       let new : HoldsItem (m ++ d ∷ []) symbols x = content-holds symbols m before x.symbol x.name x.content holds h.2 h.1 declared in
-      let old : AllByRecursion (HoldsItem (m ++ d ∷ []) symbols) before = All-weaker (HoldsItem m symbols) (HoldsItem (m ++ d ∷ []) symbols) (λ y k. Holds-append m (d ∷ []) symbols y.symbol y.content k) before holds in
-      let longer : length (m ++ d ∷ []) ≡ length lemmas + length (before ++ x ∷ []) = omega (arith, length-append m (d ∷ []), length-append before (x ∷ []), size) in
+      let old : AllByRecursion (HoldsItem (m ++ d ∷ []) symbols) before =
+      All-weaker (HoldsItem m symbols) (HoldsItem (m ++ d ∷ []) symbols) (λ y k. Holds-append m (d ∷ []) symbols y.symbol y.content k) before holds in
+      let longer : length (m ++ d ∷ []) ≡ length lemmas + length (before ++ x ∷ []) =
+      omega (arith, length-append m (d ∷ []), length-append before (x ∷ []), size) in
       subst (λ l. AllByRecursion (HoldsItem l symbols) (before ++ x ∷ xs)) (append_assoc m (d ∷ []) (map (declaration symbols) xs))
       (subst (AllByRecursion (HoldsItem ((m ++ d ∷ []) ++ map (declaration symbols) xs) symbols)) (append_assoc before (x ∷ []) xs)
       (items-hold (m ++ d ∷ []) (before ++ x ∷ []) xs longer (All-append (HoldsItem (m ++ d ∷ []) symbols) before (x ∷ []) old (new, tt {0})) h.3))
@@ -216,13 +224,20 @@ module _ (symbols : SymbolMap) where
 lemmas-weight : (m : List Declaration) → (weight m sym_lemma ≤ greatest_weight) × (weight m trans_lemma ≤ greatest_weight)
 lemmas-weight m = (omega arith, omega arith)
 
-pub run-weights : (articles : List (List ℕ)) (run : Accepted) → Run articles (accepted run) → AllByRecursion (λ d. weight (image run) d ≤ greatest_weight) (image run)
+pub run-weights : (articles : List (List ℕ)) (run : Accepted) → Run articles (accepted run)
+    → AllByRecursion (λ d. weight (image run) d ≤ greatest_weight) (image run)
 run-weights articles run r =
     let items = kept_items run in
     let symbols = symbols_of items in
     let made = items-made [] items (kept-made articles run r) in
-    let two = lemmas-weight (image run) in
-    (two.0, (two.1, declarations-weight symbols (image run) (record { symmetry = refl; transitivity = refl }) [] items (items-hold symbols lemmas [] items refl (tt {0}) made) made (kept-fit articles run r)))
+    let two = lemmas-weight (image run) in (
+      two.0,
+      (
+        two.1,
+        declarations-weight symbols (image run) (record { symmetry = refl; transitivity = refl }) [] items
+            (items-hold symbols lemmas [] items refl (tt {0}) made) made (kept-fit articles run r),
+      ),
+    )
 
 -- 64 times the cube of such a weight is no u128 too great
 cube : (w : ℕ) → w ≤ greatest_weight → 64 * (w * w * w) ≤ greatest
@@ -237,7 +252,8 @@ RunsAreBounded = (articles : List (List ℕ)) (run : Accepted) → Run articles 
     → 64 * (weight (image run) d * weight (image run) d * weight (image run) d) ≤ greatest
 
 pub runs_are_bounded : RunsAreBounded
-runs_are_bounded articles run r i d e = cube (weight (image run) d) (All-get (λ d. weight (image run) d ≤ greatest_weight) (image run) i d (run-weights articles run r) e)
+runs_are_bounded articles run r i d e = cube (weight (image run) d)
+    (All-get (λ d. weight (image run) d ≤ greatest_weight) (image run) i d (run-weights articles run r) e)
 
 -- the check of a declaration finds its type, within the bound that is written
 pub record IsWithinBound (m : List Declaration) (i : ℕ) (d : Declaration) : Type 0 where
@@ -247,7 +263,8 @@ pub record IsWithinBound (m : List Declaration) (i : ℕ) (d : Declaration) : Ty
 
 -- The law: each check ends within its bound
 abbrev pub RunsAreWithinBounds : Type 0
-RunsAreWithinBounds = (articles : List (List ℕ)) (run : Accepted) → Run articles (accepted run) → (i : ℕ) (d : Declaration) → slice_get (image run) i ≡ Some d → IsWithinBound (image run) i d
+RunsAreWithinBounds = (articles : List (List ℕ)) (run : Accepted) → Run articles (accepted run) → (i : ℕ) (d : Declaration) → slice_get (image run) i ≡ Some d
+    → IsWithinBound (image run) i d
 
 pub runs_are_within_bounds : RunsAreWithinBounds
 runs_are_within_bounds articles run r i d e =

@@ -116,7 +116,8 @@ module _ (symbols : SymbolMap) where
 
   pub under_types-plain : (ns : List Name) (scope : TypeScope) → ((n : Name) → Plain (scope n)) → (n : Name) → Plain (under_types ns scope n)
   under_types-plain [] scope h n = h n
-  under_types-plain (k ∷ ns) scope h n = under_types-plain ns (under_type k scope) (λ j. plain-cond (name_eq j k) (Var 0) (lift 1 (scope j)) Plain.variable (plain-lift (scope j) (h j))) n
+  under_types-plain (k ∷ ns) scope h n = under_types-plain ns (under_type k scope)
+      (λ j. plain-cond (name_eq j k) (Var 0) (lift 1 (scope j)) Plain.variable (plain-lift (scope j) (h j))) n
 
   pub under_terms-plain : (vs : List Variable) (scope : Scope) → IsPlainScope symbols scope → IsPlainScope symbols (under_terms vs scope)
   under_terms-plain [] scope h = h
@@ -133,7 +134,8 @@ module _ (symbols : SymbolMap) where
   scope_of_types-plain s = filled-plain (under_types (type_variables_of s) unfilled) (under_types-plain (type_variables_of s) unfilled (λ n. Plain.truth))
 
   pub scope_of-plain : (s : Sequent) → IsPlainScope symbols (scope_of symbols s)
-  scope_of-plain s = under_proofs-plain s.hypotheses (scope_of_terms symbols s) (under_terms-plain (free_variables_of s) (scope_of_types symbols s) (scope_of_types-plain s))
+  scope_of-plain s = under_proofs-plain s.hypotheses (scope_of_terms symbols s)
+      (under_terms-plain (free_variables_of s) (scope_of_types symbols s) (scope_of_types-plain s))
 
 -- binders of `type` are one node each
 pub domain_sizes-types : (other : Name → Tree) (ns : List Name) (s : ℕ → Tree) → domain_sizes s (map (λ (n : Name). types) ns) (map other ns) ≡ length ns
@@ -179,7 +181,8 @@ module _ (m : List Declaration) (symbols : SymbolMap) (scope : TypeScope) (h : (
         omega (arith, one, rest)
 
   -- a constant: its type arguments fill its generic type
-  arguments-cost : (pairs : TypePairs) (ns : List Name) → AllByRecursion (λ n. TypeOver m symbols (image pairs n)) ns → total m (map (λ n. type_tree symbols scope (image pairs n)) ns) + length ns ≤ 4 * put_sizes pairs ns
+  arguments-cost : (pairs : TypePairs) (ns : List Name) → AllByRecursion (λ n. TypeOver m symbols (image pairs n)) ns
+      → total m (map (λ n. type_tree symbols scope (image pairs n)) ns) + length ns ≤ 4 * put_sizes pairs ns
   arguments-cost pairs [] o = omega arith
   arguments-cost pairs (n ∷ ns) o =
       let one = type_tree-cost [] (image pairs n) o.0 in
@@ -196,12 +199,14 @@ module _ (m : List Declaration) (symbols : SymbolMap) (scope : TypeScope) (h : (
       let own : filled_in (image pairs) generic ≡ t = sym (substitute-is pairs generic) ∙ o.instance.1 in
       let filled_over : TypeOver m symbols (filled_in (image pairs) generic) = subst (TypeOver m symbols) (sym own) o.ty in
       let over : AllByRecursion (λ k. TypeOver m symbols (image pairs k)) names =
-      All-each _ names (λ k i. TypeOver-filled_in m symbols (image pairs) generic k (IsIn-distinct_of name_eq name_eq-Decides (variable_places generic) k i) filled_over) in
+      All-each _ names
+      (λ k i. TypeOver-filled_in m symbols (image pairs) generic k (IsIn-distinct_of name_eq name_eq-Decides (variable_places generic) k i) filled_over) in
       let xs = map other names in
       let inner = type_tree symbols (under_types names unfilled) generic in
       let result : sub (after Var xs) inner ≡ type_tree symbols scope t =
       type_tree-sub symbols (after Var xs) (under_types names unfilled) generic
-      ∙ type_tree-agrees symbols (IsIn names) (through_types (after Var xs) (under_types names unfilled)) other (λ k i. types-agree m [] other names unfilled Var k (inl i)) generic
+      ∙ type_tree-agrees symbols (IsIn names) (through_types (after Var xs) (under_types names unfilled)) other
+      (λ k i. types-agree m [] other names unfilled Var k (inl i)) generic
       (All-each _ (variable_places generic) (λ k i. IsIn-distinct name_eq name_eq-Decides (variable_places generic) k i))
       ∙ sym (type_tree-substitute symbols pairs scope generic)
       ∙ ap (type_tree symbols scope) o.instance.1 in

@@ -43,7 +43,8 @@ module _ (symbols : SymbolMap) (scope : Scope) where
       total m (map scope.types (type_variables_of s)) + total m (map scope.terms (free_variables_of s)) + variable_sizes (free_variables_of s)
       + (term_sizes s.hypotheses + size (term_tree symbols scope s.conclusion))
 
-pub total-map : {A : Type 0} (m : List Declaration) (c : ℕ) (f : A → Tree) (xs : List A) → AllByRecursion (λ x. cost m [] (f x) + 1 ≤ c) xs → total m (map f xs) ≤ length xs * c
+pub total-map : {A : Type 0} (m : List Declaration) (c : ℕ) (f : A → Tree) (xs : List A) → AllByRecursion (λ x. cost m [] (f x) + 1 ≤ c) xs
+    → total m (map f xs) ≤ length xs * c
 total-map m c f [] h = omega arith
 total-map m c f (x ∷ xs) h = let l = total-map m c f xs h.1 in omega (arith, h.0, l)
 
@@ -55,7 +56,8 @@ domain_sizes-append s (d ∷ ds) es [] vs e = absurd (omega (arith, e))
 domain_sizes-append s (d ∷ ds) es (u ∷ us) vs e = let l = domain_sizes-append (cons u s) ds es us vs (omega (arith, e)) in omega (arith, l)
 
 module _ (m : List Declaration) (G : List Tree) (symbols : SymbolMap) (other : Scope) (P : Name → Type 0) (Q : Variable → Type 0) where
-  terms-sizes : (vs : List Variable) (scope : Scope) (s : ℕ → Tree) → TypesAgree m G symbols other P Q s scope → AllByRecursion (λ v. AllByRecursion P (variable_places v.1)) vs
+  terms-sizes : (vs : List Variable) (scope : Scope) (s : ℕ → Tree) → TypesAgree m G symbols other P Q s scope
+      → AllByRecursion (λ v. AllByRecursion P (variable_places v.1)) vs
       → domain_sizes s (term_domains symbols vs scope) (map other.terms vs) ≡ variable_sizes symbols other vs + 2 * length vs
   terms-sizes [] scope s a k = omega arith
   terms-sizes (v ∷ vs) scope s a k =
@@ -69,7 +71,8 @@ module _ (m : List Declaration) (G : List Tree) (symbols : SymbolMap) (other : S
   proofs-sizes [] scope s a b f = omega arith
   proofs-sizes (p ∷ ps) scope s a b f =
       let same = ap size (formula-agrees m G symbols other P Q s scope a b p f.0) in
-      let rest = proofs-sizes ps (under_proof p scope) (cons (other.proofs p) s) (TypesAgree-under m G symbols other P Q s (other.proofs p) scope a) (TermsAgree-under m G symbols other P Q s (other.proofs p) scope b) f.1 in
+      let rest = proofs-sizes ps (under_proof p scope) (cons (other.proofs p) s) (TypesAgree-under m G symbols other P Q s (other.proofs p) scope a)
+      (TermsAgree-under m G symbols other P Q s (other.proofs p) scope b) f.1 in
       omega (arith, same, rest)
 
 -- A theorem in a scope
@@ -85,13 +88,17 @@ theorem_tree-cost m symbols scope s symbol declared is instances =
     let one = after Var names in
     let two = after one variables in
     let three = after two proofs in
-    let types_one : (n : Name) → P n → sub one ((scope_of_types symbols s).types n) ≡ scope.types n = λ n p. types-agree m [] scope.types (type_variables_of s) unfilled Var n (inl p) in
+    let types_one : (n : Name) → P n → sub one ((scope_of_types symbols s).types n) ≡ scope.types n =
+    λ n p. types-agree m [] scope.types (type_variables_of s) unfilled Var n (inl p) in
     let types_two = terms-TypesAgree m [] symbols scope P Q (free_variables_of s) (scope_of_types symbols s) one types_one in
-    let terms_two : (v : Variable) → Q v → sub two ((scope_of_terms symbols s).terms v) ≡ scope.terms v = λ v q. terms-agree m [] symbols scope P Q (free_variables_of s) (scope_of_types symbols s) one v (inl q) in
+    let terms_two : (v : Variable) → Q v → sub two ((scope_of_terms symbols s).terms v) ≡ scope.terms v =
+    λ v q. terms-agree m [] symbols scope P Q (free_variables_of s) (scope_of_types symbols s) one v (inl q) in
     let types_three = proofs-TypesAgree m [] symbols scope P Q s.hypotheses (scope_of_terms symbols s) two types_two in
     let terms_three = proofs-TermsAgree m [] symbols scope P Q s.hypotheses (scope_of_terms symbols s) two terms_two in
     let formulas : AllByRecursion (IsFormula symbols P Q) s.hypotheses =
-    All-each _ s.hypotheses (λ h i. term-IsFormula s symbols h (IsIn-left s.hypotheses (s.conclusion ∷ []) h i) (All-at _ s.hypotheses h instances.hypotheses i) (All-at _ s.hypotheses h is.hypotheses i)) in
+    All-each _ s.hypotheses
+    (λ h i. term-IsFormula s symbols h (IsIn-left s.hypotheses (s.conclusion ∷ []) h i) (All-at _ s.hypotheses h instances.hypotheses i)
+    (All-at _ s.hypotheses h is.hypotheses i)) in
     let conclusion : IsFormula symbols P Q s.conclusion =
     term-IsFormula s symbols s.conclusion (IsIn-right s.hypotheses (s.conclusion ∷ []) s.conclusion (inl refl)) instances.conclusion is.conclusion in
     let first = domain_sizes-types scope.types (type_variables_of s) Var in
@@ -100,18 +107,23 @@ theorem_tree-cost m symbols scope s symbol declared is instances =
     let type_domains = map (λ (n : Name). types) (type_variables_of s) in
     let variable_domains = term_domains symbols (free_variables_of s) (scope_of_types symbols s) in
     let hypothesis_domains = proof_domains symbols s.hypotheses (scope_of_terms symbols s) in
-    let long_types : length names ≡ length type_domains = length-map (type_variables_of s) scope.types ∙ sym (length-map (type_variables_of s) (λ (n : Name). types)) in
-    let long_terms : length variables ≡ length variable_domains = length-map (free_variables_of s) scope.terms ∙ sym (length-term_domains symbols (free_variables_of s) (scope_of_types symbols s)) in
-    let long_proofs : length proofs ≡ length hypothesis_domains = length-map s.hypotheses scope.proofs ∙ sym (length-proof_domains symbols s.hypotheses (scope_of_terms symbols s)) in
+    let long_types : length names ≡ length type_domains =
+    length-map (type_variables_of s) scope.types ∙ sym (length-map (type_variables_of s) (λ (n : Name). types)) in
+    let long_terms : length variables ≡ length variable_domains =
+    length-map (free_variables_of s) scope.terms ∙ sym (length-term_domains symbols (free_variables_of s) (scope_of_types symbols s)) in
+    let long_proofs : length proofs ≡ length hypothesis_domains =
+    length-map s.hypotheses scope.proofs ∙ sym (length-proof_domains symbols s.hypotheses (scope_of_terms symbols s)) in
     let split : after Var (names ++ variables) ≡ two = after-append Var names variables in
     let split_all : after Var ((names ++ variables) ++ proofs) ≡ three = after-append Var (names ++ variables) proofs ∙ ap (λ w. after w proofs) split in
     let front : length (names ++ variables) ≡ length (type_domains ++ variable_domains) =
     (let a = length-append names variables in let b = length-append type_domains variable_domains in omega (arith, a, b, long_types, long_terms)) in
     let long : length ((names ++ variables) ++ proofs) ≡ length (domains_of symbols s) =
-    (let a = length-append (names ++ variables) proofs in let b = length-append (type_domains ++ variable_domains) hypothesis_domains in omega (arith, a, b, front, long_proofs)) in
+    (let a = length-append (names ++ variables) proofs in let b =
+    length-append (type_domains ++ variable_domains) hypothesis_domains in omega (arith, a, b, front, long_proofs)) in
     let args = (names ++ variables) ++ proofs in
     let inner = term_tree symbols (scope_of symbols s) s.conclusion in
-    let becomes = ap size (ap (λ w. sub w inner) split_all ∙ formula-agrees m [] symbols scope P Q three (scope_of symbols s) types_three terms_three s.conclusion conclusion) in
+    let becomes = ap size (ap (λ w. sub w inner) split_all
+    ∙ formula-agrees m [] symbols scope P Q three (scope_of symbols s) types_three terms_three s.conclusion conclusion) in
     let sizes_all = domain_sizes-append Var (type_domains ++ variable_domains) hypothesis_domains (names ++ variables) proofs front in
     let sizes_front = domain_sizes-append Var type_domains variable_domains names variables long_types in
     let sizes_last = ap (λ w. domain_sizes w hypothesis_domains proofs) split in

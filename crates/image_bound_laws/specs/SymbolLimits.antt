@@ -76,7 +76,8 @@ part-within s h u i t p =
     record {
       within = record { size = (let l = p.size in omega (arith, size, l)); depth = (let l = p.depth in omega (arith, depth, l)) };
       variables = few-places s h (type_variable_places t)
-          (All-weaker (IsIn (type_variable_places u)) (IsIn (flat_map type_variable_places (terms_of s))) (λ n k. IsIn-flat_map type_variable_places (terms_of s) u n i k) (type_variable_places t) p.places);
+          (All-weaker (IsIn (type_variable_places u)) (IsIn (flat_map type_variable_places (terms_of s)))
+          (λ n k. IsIn-flat_map type_variable_places (terms_of s) u n i k) (type_variable_places t) p.places);
     }
 
 -- the type of a term that defines a constant

@@ -41,7 +41,8 @@ pub free_places-depth : (t : Term) (d : ℕ) → term_depth t ≤ d → AllByRec
 free_places-depth (free n t) d h = (omega (arith, h), tt {0})
 free_places-depth (bound k) d h = tt
 free_places-depth (constant n t) d h = tt
-free_places-depth (app f x) d h = All-append _ (free_places f) (free_places x) (free_places-depth f d (omega (arith, h))) (free_places-depth x d (omega (arith, h)))
+free_places-depth (app f x) d h = All-append _ (free_places f) (free_places x) (free_places-depth f d (omega (arith, h)))
+    (free_places-depth x d (omega (arith, h)))
 free_places-depth (lam t b) d h = free_places-depth b d (omega (arith, h))
 
 all_free_places-depth : (ts : List Term) (d : ℕ) → AreShallowTerms d ts → AllByRecursion (λ (v : Variable). type_depth v.1 ≤ d) (flat_map free_places ts)
@@ -82,7 +83,8 @@ module _ (pairs : TypePairs) where
     images-depth d (variable n) h = (h, tt {0})
     images-depth d (operator n ts) h = all_images-depth d ts (omega (arith, h))
 
-    all_images-depth : (d : ℕ) (ts : HolTypes) → types_depth (substitute_all pairs ts) ≤ d → AllByRecursion (λ n. type_depth (image pairs n) ≤ d) (variable_places_of_all ts)
+    all_images-depth : (d : ℕ) (ts : HolTypes) → types_depth (substitute_all pairs ts) ≤ d
+        → AllByRecursion (λ n. type_depth (image pairs n) ≤ d) (variable_places_of_all ts)
     all_images-depth d none h = tt
     all_images-depth d (more t ts) h =
         All-append _ (variable_places t) (variable_places_of_all ts) (images-depth d t (omega (arith, h))) (all_images-depth d ts (omega (arith, h)))
@@ -99,34 +101,44 @@ image-typed (p ∷ ps) h v = go (variable_eq v p.0) (variable_eq-Decides v p.0).
 
 module _ (pairs : TypePairs) (terms : TermPairs) (fitting : AreFitting terms) where
   -- so it does in a term after a substitution, up to the types of what is put
-  term_images-depth : (d : ℕ) (t : Term) → term_depth (sub pairs terms t) ≤ d → AllByRecursion (λ n. type_depth (image pairs n) ≤ 3 * d) (type_variable_places t)
-  term_images-depth d (free n t) h = images-depth pairs (3 * d) t (HasType-depth d (term_image terms (n, substitute pairs t)) (substitute pairs t) h (image-typed terms fitting (n, substitute pairs t)))
+  term_images-depth : (d : ℕ) (t : Term) → term_depth (sub pairs terms t) ≤ d
+      → AllByRecursion (λ n. type_depth (image pairs n) ≤ 3 * d) (type_variable_places t)
+  term_images-depth d (free n t) h = images-depth pairs (3 * d) t
+      (HasType-depth d (term_image terms (n, substitute pairs t)) (substitute pairs t) h (image-typed terms fitting (n, substitute pairs t)))
   term_images-depth d (bound k) h = tt
   term_images-depth d (constant n t) h = images-depth pairs (3 * d) t (omega (arith, h))
-  term_images-depth d (app f x) h = All-append _ (type_variable_places f) (type_variable_places x) (term_images-depth d f (omega (arith, h))) (term_images-depth d x (omega (arith, h)))
-  term_images-depth d (lam t b) h = All-append _ (variable_places t) (type_variable_places b) (images-depth pairs (3 * d) t (omega (arith, h))) (term_images-depth d b (omega (arith, h)))
+  term_images-depth d (app f x) h = All-append _ (type_variable_places f) (type_variable_places x) (term_images-depth d f (omega (arith, h)))
+      (term_images-depth d x (omega (arith, h)))
+  term_images-depth d (lam t b) h = All-append _ (variable_places t) (type_variable_places b) (images-depth pairs (3 * d) t (omega (arith, h)))
+      (term_images-depth d b (omega (arith, h)))
 
-  all_term_images-depth : (d : ℕ) (ts : List Term) → AllByRecursion (λ t. term_depth (sub pairs terms t) ≤ d) ts → AllByRecursion (λ n. type_depth (image pairs n) ≤ 3 * d) (flat_map type_variable_places ts)
+  all_term_images-depth : (d : ℕ) (ts : List Term) → AllByRecursion (λ t. term_depth (sub pairs terms t) ≤ d) ts
+      → AllByRecursion (λ n. type_depth (image pairs n) ≤ 3 * d) (flat_map type_variable_places ts)
   all_term_images-depth d [] h = tt
-  all_term_images-depth d (t ∷ ts) h = All-append _ (type_variable_places t) (flat_map type_variable_places ts) (term_images-depth d t h.0) (all_term_images-depth d ts h.1)
+  all_term_images-depth d (t ∷ ts) h = All-append _ (type_variable_places t) (flat_map type_variable_places ts) (term_images-depth d t h.0)
+      (all_term_images-depth d ts h.1)
 
-  pub type_images-depth : (d : ℕ) (s : Sequent) → AllByRecursion (λ t. term_depth (sub pairs terms t) ≤ d) (terms_of s) → AllByRecursion (λ n. type_depth (image pairs n) ≤ 3 * d) (type_variables_of s)
+  pub type_images-depth : (d : ℕ) (s : Sequent) → AllByRecursion (λ t. term_depth (sub pairs terms t) ≤ d) (terms_of s)
+      → AllByRecursion (λ n. type_depth (image pairs n) ≤ 3 * d) (type_variables_of s)
   type_images-depth d s h = All-distinct _ name_eq (flat_map type_variable_places (terms_of s)) (all_term_images-depth d (terms_of s) h)
 
 module _ (pairs : TypePairs) (terms : TermPairs) where
   -- what is put for free variables
-  put_terms-depth : (d : ℕ) (t : Term) → term_depth (sub pairs terms t) ≤ d → AllByRecursion (λ v. term_depth (term_image terms (v.0, substitute pairs v.1)) ≤ d) (free_places t)
+  put_terms-depth : (d : ℕ) (t : Term) → term_depth (sub pairs terms t) ≤ d
+      → AllByRecursion (λ v. term_depth (term_image terms (v.0, substitute pairs v.1)) ≤ d) (free_places t)
   put_terms-depth d (free n t) h = (h, tt {0})
   put_terms-depth d (bound k) h = tt
   put_terms-depth d (constant n t) h = tt
   put_terms-depth d (app f x) h = All-append _ (free_places f) (free_places x) (put_terms-depth d f (omega (arith, h))) (put_terms-depth d x (omega (arith, h)))
   put_terms-depth d (lam t b) h = put_terms-depth d b (omega (arith, h))
 
-  all_put_terms-depth : (d : ℕ) (ts : List Term) → AllByRecursion (λ t. term_depth (sub pairs terms t) ≤ d) ts → AllByRecursion (λ v. term_depth (term_image terms (v.0, substitute pairs v.1)) ≤ d) (flat_map free_places ts)
+  all_put_terms-depth : (d : ℕ) (ts : List Term) → AllByRecursion (λ t. term_depth (sub pairs terms t) ≤ d) ts
+      → AllByRecursion (λ v. term_depth (term_image terms (v.0, substitute pairs v.1)) ≤ d) (flat_map free_places ts)
   all_put_terms-depth d [] h = tt
   all_put_terms-depth d (t ∷ ts) h = All-append _ (free_places t) (flat_map free_places ts) (put_terms-depth d t h.0) (all_put_terms-depth d ts h.1)
 
-  pub term_images_of-depth : (d : ℕ) (s : Sequent) → AllByRecursion (λ t. term_depth (sub pairs terms t) ≤ d) (terms_of s) → AllByRecursion (λ v. term_depth (term_image terms (v.0, substitute pairs v.1)) ≤ d) (free_variables_of s)
+  pub term_images_of-depth : (d : ℕ) (s : Sequent) → AllByRecursion (λ t. term_depth (sub pairs terms t) ≤ d) (terms_of s)
+      → AllByRecursion (λ v. term_depth (term_image terms (v.0, substitute pairs v.1)) ≤ d) (free_variables_of s)
   term_images_of-depth d s h = All-distinct _ variable_eq (flat_map free_places (terms_of s)) (all_put_terms-depth d (terms_of s) h)
 
 -- a constant that is put is no deeper than its variable

@@ -28,7 +28,8 @@ free_places-size : (t : Term) (d : ℕ) → term_size t ≤ d → AllByRecursion
 free_places-size (free n t) d h = (omega (arith, h), tt {0})
 free_places-size (bound k) d h = tt
 free_places-size (constant n t) d h = tt
-free_places-size (app f x) d h = All-append _ (free_places f) (free_places x) (free_places-size f d (omega (arith, h))) (free_places-size x d (omega (arith, h)))
+free_places-size (app f x) d h = All-append _ (free_places f) (free_places x) (free_places-size f d (omega (arith, h)))
+    (free_places-size x d (omega (arith, h)))
 free_places-size (lam t b) d h = free_places-size b d (omega (arith, h))
 
 all_free_places-size : (ts : List Term) (d : ℕ) → AreSmallTerms d ts → AllByRecursion (λ (v : Variable). type_size v.1 + 1 ≤ d) (flat_map free_places ts)
@@ -73,43 +74,54 @@ module _ (pairs : TypePairs) where
     images-size d (variable n) h = (h, tt {0})
     images-size d (operator n ts) h = all_images-size d ts (omega (arith, h))
 
-    all_images-size : (d : ℕ) (ts : HolTypes) → types_size (substitute_all pairs ts) ≤ d → AllByRecursion (λ n. type_size (image pairs n) ≤ d) (variable_places_of_all ts)
+    all_images-size : (d : ℕ) (ts : HolTypes) → types_size (substitute_all pairs ts) ≤ d
+        → AllByRecursion (λ n. type_size (image pairs n) ≤ d) (variable_places_of_all ts)
     all_images-size d none h = tt
-    all_images-size d (more t ts) h = All-append _ (variable_places t) (variable_places_of_all ts) (images-size d t (omega (arith, h))) (all_images-size d ts (omega (arith, h)))
+    all_images-size d (more t ts) h = All-append _ (variable_places t) (variable_places_of_all ts) (images-size d t (omega (arith, h)))
+        (all_images-size d ts (omega (arith, h)))
 
 module _ (pairs : TypePairs) (terms : TermPairs) (fitting : AreFitting terms) where
   -- the type of what is put for a free variable
   pub image_type-size : (d : ℕ) (v : Variable) → term_size (term_image terms (v.0, substitute pairs v.1)) ≤ d → type_size (substitute pairs v.1) ≤ 2 * d
-  image_type-size d v h = let l = HasType-size (term_image terms (v.0, substitute pairs v.1)) (substitute pairs v.1) (image-typed terms fitting (v.0, substitute pairs v.1)) in omega (arith, l, h)
+  image_type-size d v h = let l = HasType-size (term_image terms (v.0, substitute pairs v.1)) (substitute pairs v.1)
+      (image-typed terms fitting (v.0, substitute pairs v.1)) in omega (arith, l, h)
 
   term_images-size : (d : ℕ) (t : Term) → term_size (sub pairs terms t) ≤ d → AllByRecursion (λ n. type_size (image pairs n) ≤ 2 * d) (type_variable_places t)
   term_images-size d (free n t) h = images-size pairs (2 * d) t (image_type-size d (n, t) h)
   term_images-size d (bound k) h = tt
   term_images-size d (constant n t) h = images-size pairs (2 * d) t (omega (arith, h))
-  term_images-size d (app f x) h = All-append _ (type_variable_places f) (type_variable_places x) (term_images-size d f (omega (arith, h))) (term_images-size d x (omega (arith, h)))
-  term_images-size d (lam t b) h = All-append _ (variable_places t) (type_variable_places b) (images-size pairs (2 * d) t (omega (arith, h))) (term_images-size d b (omega (arith, h)))
+  term_images-size d (app f x) h = All-append _ (type_variable_places f) (type_variable_places x) (term_images-size d f (omega (arith, h)))
+      (term_images-size d x (omega (arith, h)))
+  term_images-size d (lam t b) h = All-append _ (variable_places t) (type_variable_places b) (images-size pairs (2 * d) t (omega (arith, h)))
+      (term_images-size d b (omega (arith, h)))
 
-  all_term_images-size : (d : ℕ) (ts : List Term) → AllByRecursion (λ t. term_size (sub pairs terms t) ≤ d) ts → AllByRecursion (λ n. type_size (image pairs n) ≤ 2 * d) (flat_map type_variable_places ts)
+  all_term_images-size : (d : ℕ) (ts : List Term) → AllByRecursion (λ t. term_size (sub pairs terms t) ≤ d) ts
+      → AllByRecursion (λ n. type_size (image pairs n) ≤ 2 * d) (flat_map type_variable_places ts)
   all_term_images-size d [] h = tt
-  all_term_images-size d (t ∷ ts) h = All-append _ (type_variable_places t) (flat_map type_variable_places ts) (term_images-size d t h.0) (all_term_images-size d ts h.1)
+  all_term_images-size d (t ∷ ts) h = All-append _ (type_variable_places t) (flat_map type_variable_places ts) (term_images-size d t h.0)
+      (all_term_images-size d ts h.1)
 
-  pub type_images-size : (d : ℕ) (s : Sequent) → AllByRecursion (λ t. term_size (sub pairs terms t) ≤ d) (terms_of s) → AllByRecursion (λ n. type_size (image pairs n) ≤ 2 * d) (type_variables_of s)
+  pub type_images-size : (d : ℕ) (s : Sequent) → AllByRecursion (λ t. term_size (sub pairs terms t) ≤ d) (terms_of s)
+      → AllByRecursion (λ n. type_size (image pairs n) ≤ 2 * d) (type_variables_of s)
   type_images-size d s h = All-distinct _ name_eq (flat_map type_variable_places (terms_of s)) (all_term_images-size d (terms_of s) h)
 
 module _ (pairs : TypePairs) (terms : TermPairs) where
   -- what is put for free variables
-  put_terms-size : (d : ℕ) (t : Term) → term_size (sub pairs terms t) ≤ d → AllByRecursion (λ v. term_size (term_image terms (v.0, substitute pairs v.1)) ≤ d) (free_places t)
+  put_terms-size : (d : ℕ) (t : Term) → term_size (sub pairs terms t) ≤ d
+      → AllByRecursion (λ v. term_size (term_image terms (v.0, substitute pairs v.1)) ≤ d) (free_places t)
   put_terms-size d (free n t) h = (h, tt {0})
   put_terms-size d (bound k) h = tt
   put_terms-size d (constant n t) h = tt
   put_terms-size d (app f x) h = All-append _ (free_places f) (free_places x) (put_terms-size d f (omega (arith, h))) (put_terms-size d x (omega (arith, h)))
   put_terms-size d (lam t b) h = put_terms-size d b (omega (arith, h))
 
-  all_put_terms-size : (d : ℕ) (ts : List Term) → AllByRecursion (λ t. term_size (sub pairs terms t) ≤ d) ts → AllByRecursion (λ v. term_size (term_image terms (v.0, substitute pairs v.1)) ≤ d) (flat_map free_places ts)
+  all_put_terms-size : (d : ℕ) (ts : List Term) → AllByRecursion (λ t. term_size (sub pairs terms t) ≤ d) ts
+      → AllByRecursion (λ v. term_size (term_image terms (v.0, substitute pairs v.1)) ≤ d) (flat_map free_places ts)
   all_put_terms-size d [] h = tt
   all_put_terms-size d (t ∷ ts) h = All-append _ (free_places t) (flat_map free_places ts) (put_terms-size d t h.0) (all_put_terms-size d ts h.1)
 
-  pub term_images_of-size : (d : ℕ) (s : Sequent) → AllByRecursion (λ t. term_size (sub pairs terms t) ≤ d) (terms_of s) → AllByRecursion (λ v. term_size (term_image terms (v.0, substitute pairs v.1)) ≤ d) (free_variables_of s)
+  pub term_images_of-size : (d : ℕ) (s : Sequent) → AllByRecursion (λ t. term_size (sub pairs terms t) ≤ d) (terms_of s)
+      → AllByRecursion (λ v. term_size (term_image terms (v.0, substitute pairs v.1)) ≤ d) (free_variables_of s)
   term_images_of-size d s h = All-distinct _ variable_eq (flat_map free_places (terms_of s)) (all_put_terms-size d (terms_of s) h)
 
 -- a constant that is put is as large as its variable

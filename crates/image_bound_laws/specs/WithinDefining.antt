@@ -42,7 +42,8 @@ right-part a x y h e =
     subst (IsPart y) (sym e) (record {
       size = omega arith;
       depth = omega arith;
-      places = All-each (IsIn (type_variable_places (equation a x y))) (type_variable_places y) (λ n k. IsIn-right (type_variable_places (app (constant equality_name (equality_type a)) x)) (type_variable_places y) n k);
+      places = All-each (IsIn (type_variable_places (equation a x y))) (type_variable_places y)
+          (λ n k. IsIn-right (type_variable_places (app (constant equality_name (equality_type a)) x)) (type_variable_places y) n k);
     })
 
 -- a term that is defined with its own equation
@@ -72,7 +73,8 @@ sequents-within (Made.step x ∷ made) h = (h.0, sequents-within made h.1)
 pub nothing-within : SequentWithin (record { hypotheses = []; conclusion = Term.bound 0 })
 nothing-within = record { size = omega arith; depth = omega arith; parameters = omega arith }
 
-pub at-within : (ss : List Sequent) (i : ℕ) → AllByRecursion SequentWithin ss → SequentWithin (slice_index_or ss i (record { hypotheses = []; conclusion = Term.bound 0 }))
+pub at-within : (ss : List Sequent) (i : ℕ) → AllByRecursion SequentWithin ss
+    → SequentWithin (slice_index_or ss i (record { hypotheses = []; conclusion = Term.bound 0 }))
 at-within [] i h = nothing-within
 at-within (s ∷ ss) zero h = h.0
 at-within (s ∷ ss) (suc i) h = at-within ss i h.1
@@ -109,8 +111,11 @@ module _ (one : Sequent) (within : SequentWithin one) where
   definitions-within pairs (q ∷ qs) h =
       go (definiens pairs one.hypotheses q.1) (λ t e. lookup-All Within (defining_equations pairs one.hypotheses) q.1 t h e) (definitions-within pairs qs h)
     where
-      go : (o : Option Term) → ((t : Term) → o ≡ Some t → DefinitionWithin t) → AllByRecursion SymbolWithin (map defined (filter_map (λ p. option_map (Definition.constant p.0) (definiens pairs one.hypotheses p.1)) qs))
-          → AllByRecursion SymbolWithin (map defined (cons_option (option_map (Definition.constant q.0) o) (filter_map (λ p. option_map (Definition.constant p.0) (definiens pairs one.hypotheses p.1)) qs)))
+      go : (o : Option Term) → ((t : Term) → o ≡ Some t → DefinitionWithin t)
+          → AllByRecursion SymbolWithin (map defined (filter_map (λ p. option_map (Definition.constant p.0) (definiens pairs one.hypotheses p.1)) qs))
+          → AllByRecursion SymbolWithin
+          (map defined (cons_option (option_map (Definition.constant q.0) o)
+          (filter_map (λ p. option_map (Definition.constant p.0) (definiens pairs one.hypotheses p.1)) qs)))
       go None f rest = rest
       go (Some t) f rest = (f t refl, rest)
 
@@ -124,12 +129,14 @@ pub define_const_list-within : (m : List Made) (pairs : ConstantPairs) (i : ℕ)
     → AllByRecursion MadeWithin (map Made.symbol (map defined (definitions_in pairs (sequent_at m i).hypotheses)))
 define_const_list-within m pairs i h =
     let one = sequent_at m i in
-    All-mapped MadeWithin Made.symbol (map defined (definitions_in pairs one.hypotheses)) (list-within one (at-within (sequents_of m) i (sequents-within m h)) pairs)
+    All-mapped MadeWithin Made.symbol (map defined (definitions_in pairs one.hypotheses))
+    (list-within one (at-within (sequents_of m) i (sequents-within m h)) pairs)
 
 -- the types that a type definition makes
 generic-of_law : (s : Sequent) → SequentWithin s → (a : HolType) → type_size a ≤ greatest_size → type_depth a ≤ greatest_depth
     → AllByRecursion (IsIn (flat_map type_variable_places (terms_of s))) (variable_places a) → GenericWithin a
-generic-of_law s h a size depth places = record { size = omega (arith, size); depth = omega (arith, depth); variables = few-places s h (variable_places a) places }
+generic-of_law s h a size depth places = record
+    { size = omega (arith, size); depth = omega (arith, depth); variables = few-places s h (variable_places a) places }
 
 -- both constants stand in the first law
 law-places : (names : TypeNames) (c : HolType) (n : Name)
@@ -158,28 +165,38 @@ free-places names c n k =
 
 abstraction-places : (edition : Version) (names : TypeNames) (c : HolType) (n : Name) → IsIn (variable_places (abstraction_type names c)) n
     → IsIn (flat_map type_variable_places (terms_of (first_law_of edition names c))) n
-abstraction-places Five names c n k = free-places names c n (IsIn-left (variable_places (abstraction_type names c)) (variable_places (representation_type names c) ++ variable_places (new_type names)) n k)
-abstraction-places Six names c n k = law-places names c n (IsIn-left (variable_places (abstraction_type names c)) (variable_places (representation_type names c) ++ []) n k)
+abstraction-places Five names c n k = free-places names c n
+    (IsIn-left (variable_places (abstraction_type names c)) (variable_places (representation_type names c) ++ variable_places (new_type names)) n k)
+abstraction-places Six names c n k = law-places names c n
+    (IsIn-left (variable_places (abstraction_type names c)) (variable_places (representation_type names c) ++ []) n k)
 
 representation-places : (edition : Version) (names : TypeNames) (c : HolType) (n : Name) → IsIn (variable_places (representation_type names c)) n
     → IsIn (flat_map type_variable_places (terms_of (first_law_of edition names c))) n
 representation-places Five names c n k =
-    free-places names c n (IsIn-right (variable_places (abstraction_type names c)) (variable_places (representation_type names c) ++ variable_places (new_type names)) n (IsIn-left (variable_places (representation_type names c)) (variable_places (new_type names)) n k))
+    free-places names c n
+    (IsIn-right (variable_places (abstraction_type names c)) (variable_places (representation_type names c) ++ variable_places (new_type names)) n
+    (IsIn-left (variable_places (representation_type names c)) (variable_places (new_type names)) n k))
 representation-places Six names c n k =
-    law-places names c n (IsIn-right (variable_places (abstraction_type names c)) (variable_places (representation_type names c) ++ []) n (IsIn-left (variable_places (representation_type names c)) [] n k))
+    law-places names c n
+    (IsIn-right (variable_places (abstraction_type names c)) (variable_places (representation_type names c) ++ []) n
+    (IsIn-left (variable_places (representation_type names c)) [] n k))
 
 abstraction-within : (edition : Version) (names : TypeNames) (c : HolType) → SequentWithin (first_law_of edition names c)
     → type_size (abstraction_type names c) ≤ greatest_size → type_depth (abstraction_type names c) ≤ greatest_depth → GenericWithin (abstraction_type names c)
 abstraction-within edition names c h size depth =
     let a = abstraction_type names c in
-    generic-of_law (first_law_of edition names c) h a size depth (All-each (IsIn (flat_map type_variable_places (terms_of (first_law_of edition names c)))) (variable_places a) (λ n k. abstraction-places edition names c n k))
+    generic-of_law (first_law_of edition names c) h a size depth
+    (All-each (IsIn (flat_map type_variable_places (terms_of (first_law_of edition names c)))) (variable_places a)
+    (λ n k. abstraction-places edition names c n k))
 
 representation-within : (edition : Version) (names : TypeNames) (c : HolType) → SequentWithin (first_law_of edition names c)
     → type_size (representation_type names c) ≤ greatest_size → type_depth (representation_type names c) ≤ greatest_depth
     → GenericWithin (representation_type names c)
 representation-within edition names c h size depth =
     let r = representation_type names c in
-    generic-of_law (first_law_of edition names c) h r size depth (All-each (IsIn (flat_map type_variable_places (terms_of (first_law_of edition names c)))) (variable_places r) (λ n k. representation-places edition names c n k))
+    generic-of_law (first_law_of edition names c) h r size depth
+    (All-each (IsIn (flat_map type_variable_places (terms_of (first_law_of edition names c)))) (variable_places r)
+    (λ n k. representation-places edition names c n k))
 
 -- an operator within the limits has few arguments
 pub arguments-few : (n : Name) (ts : List HolType) → type_depth (HolType.operator n (types_of ts)) ≤ greatest_depth → length ts ≤ greatest_depth

@@ -64,7 +64,8 @@ module _ (number : ℕ → ℕ) where
   symbol_name-renumbered ss c name (IsSymbolName.an_input n is e w) = IsSymbolName.an_input n is (ap (renumbered_content number) e) w
   symbol_name-renumbered ss c name (IsSymbolName.an_input_operator n k is e w) = IsSymbolName.an_input_operator n k is (ap (renumbered_content number) e) w
   symbol_name-renumbered ss c name (IsSymbolName.a_constant n is e w) = IsSymbolName.a_constant n is (constant_named-renumbered c ∙ e) w
-  symbol_name-renumbered ss c name (IsSymbolName.an_operator names a f j one is among e w) = IsSymbolName.an_operator names a f (number j) one is among (ap (renumbered_content number) e) w
+  symbol_name-renumbered ss c name (IsSymbolName.an_operator names a f j one is among e w) =
+      IsSymbolName.an_operator names a f (number j) one is among (ap (renumbered_content number) e) w
 
   name-renumbered : (ss : List Symbol) (z : Item) → HasItemName ss z → HasItemName ss (renumbered number z)
   name-renumbered ss z (HasItemName.of_symbol h) = HasItemName.of_symbol (symbol_name-renumbered ss z.content z.name h)
@@ -76,7 +77,8 @@ pub kept-named : (run : Accepted) (keep : ℕ → Bool) (xs : List Item) → Hav
 kept-named run keep xs h =
     let P = HasItemName (symbols_of run.made) in
     All-mapped P (renumbered (symbol_of keep)) (kept keep xs)
-    (All-weaker P (λ (z : Item). P (renumbered (symbol_of keep) z)) (name-renumbered (symbol_of keep) (symbols_of run.made)) (kept keep xs) (All-kept keep P xs (names-all run [] xs h)))
+    (All-weaker P (λ (z : Item). P (renumbered (symbol_of keep) z)) (name-renumbered (symbol_of keep) (symbols_of run.made)) (kept keep xs)
+    (All-kept keep P xs (names-all run [] xs h)))
 
 pub other_byte : {A : Type 0} (a b : ℕ) (r s name : List ℕ) → nat_eq a b ≡ false → name ≡ a ∷ r → name ≡ b ∷ s → A
 other_byte a b r s name h e f =
@@ -143,12 +145,15 @@ module _ (made : List Made) (proof : IsProof made) where
   input-operator n k is y (HasItemName.of_symbol (IsSymbolName.an_operator names a f j one js among g w)) e = other_byte 116 111 _ _ y.name refl e w
 
   -- No other item is the same operator
-  module _ (Q : Item → Type 0) (z : Item) (n : Name) (k : ℕ) (own : is_operator n k z.content ≡ true) (could : (y : Item) → HasItemName ss y → Q y → is_operator n k y.content ≡ true) where
+  module _ (Q : Item → Type 0) (z : Item) (n : Name) (k : ℕ) (own : is_operator n k z.content ≡ true)
+      (could : (y : Item) → HasItemName ss y → Q y → is_operator n k y.content ≡ true) where
     pub operator-before : (before : List Item) → IsNew before z.content → AllByRecursion (HasItemName ss) before → AllByRecursion (λ (y : Item). Q y → ⊥) before
     operator-before before new named =
-        All-each (λ (y : Item). Q y → ⊥) before (λ y i q. operators-apart n k before y z.content new i (could y (All-at (HasItemName ss) before y named i) q) own)
+        All-each (λ (y : Item). Q y → ⊥) before
+        (λ y i q. operators-apart n k before y z.content new i (could y (All-at (HasItemName ss) before y named i) q) own)
 
-    pub operator-after : (before ys : List Item) → IsIn before z → AreMade before ys → AllByRecursion (HasItemName ss) ys → AllByRecursion (λ (y : Item). Q y → ⊥) ys
+    pub operator-after : (before ys : List Item) → IsIn before z → AreMade before ys → AllByRecursion (HasItemName ss) ys
+        → AllByRecursion (λ (y : Item). Q y → ⊥) ys
     operator-after before [] i h named = tt
     operator-after before (y ∷ ys) i h named = (
       λ q. operators-apart n k before z y.content h.1 i own (could y named.0 q),
@@ -156,12 +161,15 @@ module _ (made : List Made) (proof : IsProof made) where
     )
 
   -- No other item could have the name of a symbol's
-  module _ (Q : Item → Type 0) (z : Item) (name : List ℕ) (own : IsSymbolName ss z.content name) (could : (y : Item) → HasItemName ss y → Q y → IsSymbolName ss y.content name) where
+  module _ (Q : Item → Type 0) (z : Item) (name : List ℕ) (own : IsSymbolName ss z.content name)
+      (could : (y : Item) → HasItemName ss y → Q y → IsSymbolName ss y.content name) where
     pub before-apart : (before : List Item) → IsNew before z.content → AllByRecursion (HasItemName ss) before → AllByRecursion (λ (y : Item). Q y → ⊥) before
     before-apart before new named =
-        All-each (λ (y : Item). Q y → ⊥) before (λ y i q. symbols-apart made proof before y z.content name new i (could y (All-at (HasItemName ss) before y named i) q) own)
+        All-each (λ (y : Item). Q y → ⊥) before
+        (λ y i q. symbols-apart made proof before y z.content name new i (could y (All-at (HasItemName ss) before y named i) q) own)
 
-    pub after-apart : (before ys : List Item) → IsIn before z → AreMade before ys → AllByRecursion (HasItemName ss) ys → AllByRecursion (λ (y : Item). Q y → ⊥) ys
+    pub after-apart : (before ys : List Item) → IsIn before z → AreMade before ys → AllByRecursion (HasItemName ss) ys
+        → AllByRecursion (λ (y : Item). Q y → ⊥) ys
     after-apart before [] i h named = tt
     after-apart before (y ∷ ys) i h named = (
       λ q. symbols-apart made proof before z y.content name h.1 i own (could y named.0 q),

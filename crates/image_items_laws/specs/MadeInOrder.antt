@@ -63,7 +63,8 @@ declared-at : (before ds es : List Declaration) (d : Declaration) → order.AreD
 declared-at before [] es d h = subst (λ l. MayFollow l d) (sym (append-nil before)) h.0
 declared-at before (c ∷ ds) es d h = subst (λ l. MayFollow l d) (append_assoc before (c ∷ []) ds) (declared-at (before ++ c ∷ []) ds es d h.1)
 
-module-split : (symbols : SymbolMap) (before after : List Item) (x : Item) → module_of symbols (before ++ x ∷ after) ≡ module_of symbols before ++ declaration symbols x ∷ map (declaration symbols) after
+module-split : (symbols : SymbolMap) (before after : List Item) (x : Item) → module_of symbols (before ++ x ∷ after) ≡ module_of symbols before
+    ++ declaration symbols x ∷ map (declaration symbols) after
 module-split symbols before after x =
     let D = declaration symbols in ap (λ l. lemmas ++ l) (map-append D before (x ∷ after)) ∙ sym (append_assoc lemmas (map D before) (D x ∷ map D after))
 
@@ -71,7 +72,8 @@ module-split symbols before after x =
 pub next-follows : NextFollows
 next-follows run sound named before after x whole =
     let symbols = kept_symbols run in
-    let same : image run ≡ module_of symbols before ++ declaration symbols x ∷ map (declaration symbols) after = ap (module_of symbols) whole ∙ module-split symbols before after x in
+    let same : image run ≡ module_of symbols before ++ declaration symbols x ∷ map (declaration symbols) after =
+    ap (module_of symbols) whole ∙ module-split symbols before after x in
     declared-at signature (module_of symbols before) (map (declaration symbols) after) (declaration symbols x)
     (subst (order.AreDeclared signature) same (image-IsModule run named sound (sound-carried (name_in run) run sound)))
 
@@ -121,7 +123,8 @@ pub step-says : (before : List Item) (x : Step) → says (step_content before x)
 step-says before x =
     let ss = sequents_at before x.premises in
     let y = needed ss x in
-    says-step (has_row y.kind) y.kind (map (λ k. (premise_at before k).0) y.premises) (sequents_at before y.premises) y.parameters y.sequent ∙ ap Some (needed-sequent ss x)
+    says-step (has_row y.kind) y.kind (map (λ k. (premise_at before k).0) y.premises) (sequents_at before y.premises) y.parameters y.sequent
+    ∙ ap Some (needed-sequent ss x)
 
 new-said : (before : List Item) (x : Made) (name : Content → List ℕ) (i : ℕ)
     → length (said_by (numbered name i (contents before x))) ≡ length (steps_of (x ∷ []))
@@ -150,7 +153,8 @@ module _ (named : Naming) where
       let name = named (length (said_by before)) x in
       let new = numbered name (length before) (contents before x) in
       let one : length (said_by (before ++ new)) ≡ length (steps_of (made ++ x ∷ [])) =
-      ap (λ (l : List (ℕ × Sequent)). length l) (filter_map-append said_of before new) ∙ length-append (said_by before) (said_by new) ∙ (λ i. e i + new-said before x name (length before) i)
+      ap (λ (l : List (ℕ × Sequent)). length l) (filter_map-append said_of before new) ∙ length-append (said_by before) (said_by new)
+      ∙ (λ i. e i + new-said before x name (length before) i)
       ∙ sym (ap (λ (l : List Step). length l) (steps_of-append made (x ∷ [])) ∙ length-append (steps_of made) (steps_of (x ∷ []))) in
       said-after (before ++ new) (made ++ x ∷ []) xs one ∙ ap (λ l. length (steps_of l)) (append_assoc made (x ∷ []) xs)
 
@@ -161,7 +165,8 @@ module _ (named : Naming) where
 pub items-grow : ItemsGrow
 items-grow run earlier y =
     let items = items_made run earlier in
-    items_after-append (name_in run) [] earlier (y ∷ []) ∙ ap (λ n. items ++ numbered (name_in run n y) (length items) (contents items y)) (said-steps (name_in run) earlier)
+    items_after-append (name_in run) [] earlier (y ∷ [])
+    ∙ ap (λ n. items ++ numbered (name_in run n y) (length items) (contents items y)) (said-steps (name_in run) earlier)
 
 -- And what was made keeps its items
 pub items-stay : ItemsStay

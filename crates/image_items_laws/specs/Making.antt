@@ -53,11 +53,13 @@ declared run before = module_of (kept_symbols run) before
 
 -- The statements about the next item of its module: what is declared so far tells what it mentions
 abbrev pub NextTells : Type 0
-NextTells = (run : Accepted) → IsSoundRun run → HasNames run → (before after : List Item) (x : Item) → kept_items run ≡ before ++ x ∷ after → TellsContent (declared run before) (kept_symbols run) x.content
+NextTells = (run : Accepted) → IsSoundRun run → HasNames run → (before after : List Item) (x : Item) → kept_items run ≡ before ++ x ∷ after
+    → TellsContent (declared run before) (kept_symbols run) x.content
 
 -- its declaration may follow
 abbrev pub NextFollows : Type 0
-NextFollows = (run : Accepted) → IsSoundRun run → HasNames run → (before after : List Item) (x : Item) → kept_items run ≡ before ++ x ∷ after → MayFollow (signature ++ declared run before) (declaration (kept_symbols run) x)
+NextFollows = (run : Accepted) → IsSoundRun run → HasNames run → (before after : List Item) (x : Item) → kept_items run ≡ before ++ x ∷ after
+    → MayFollow (signature ++ declared run before) (declaration (kept_symbols run) x)
 
 -- it has the next number, is new, and asks for nothing but what is declared so far
 pub record IsNext (before : List Item) (x : Item) : Type 0 where
@@ -88,7 +90,8 @@ pub record IsNextStep (run : Accepted) (earlier : List Made) (x : Step) : Type 0
   pub item : step_item run (length (steps_of earlier)) ≡ length (items_made run earlier)
   pub content : renumbered_content (module_number run) (step_content (items_made run earlier) x) ≡ module_content run (used_step run x)
   pub earlier_premises : AllByRecursion (λ k. k < length (steps_of earlier)) (used_step run x).premises
-  pub kept_premises : is_kept run (length (items_made run earlier)) ≡ true → has_row x.kind ≡ true → AllByRecursion (λ k. is_kept run (step_item run k) ≡ true) (used_step run x).premises
+  pub kept_premises : is_kept run (length (items_made run earlier)) ≡ true → has_row x.kind ≡ true
+      → AllByRecursion (λ k. is_kept run (step_item run k) ≡ true) (used_step run x).premises
 
 abbrev pub NextPremises : Type 0
 NextPremises = (run : Accepted) → IsSoundRun run → (earlier later : List Made) (x : Step) → run.made ≡ earlier ++ Made.step x ∷ later → IsNextStep run earlier x
@@ -106,10 +109,12 @@ ItemsStay = (run : Accepted) (earlier later : List Made) → run.made ≡ earlie
 -- of these the module has those that are kept
 abbrev pub KeptStays : Type 0
 KeptStays = (run : Accepted) (earlier later : List Item) (z : Item) → made_items run ≡ earlier ++ z ∷ later → is_kept run z.symbol ≡ true
-    → (kept_items run ≡ kept_of run earlier ++ renumbered (module_number run) z ∷ kept_of run later) × (kept_of run (earlier ++ z ∷ []) ≡ kept_of run earlier ++ renumbered (module_number run) z ∷ [])
+    → (kept_items run ≡ kept_of run earlier ++ renumbered (module_number run) z ∷ kept_of run later)
+    × (kept_of run (earlier ++ z ∷ []) ≡ kept_of run earlier ++ renumbered (module_number run) z ∷ [])
 
 abbrev pub OthersGo : Type 0
-OthersGo = (run : Accepted) (earlier later : List Item) (z : Item) → made_items run ≡ earlier ++ z ∷ later → is_kept run z.symbol ≡ false → kept_of run (earlier ++ z ∷ []) ≡ kept_of run earlier
+OthersGo = (run : Accepted) (earlier later : List Item) (z : Item) → made_items run ≡ earlier ++ z ∷ later → is_kept run z.symbol ≡ false
+    → kept_of run (earlier ++ z ∷ []) ≡ kept_of run earlier
 
 -- an item is the next of the module after what is kept of some items, and with these and one item more it is kept
 pub record IsNextKept (run : Accepted) (items grown : List Item) (x : Item) : Type 0 where
@@ -127,11 +132,13 @@ step_in_module run earlier x = record {
 
 -- What the next step adds to the module: its item, where that is kept, else nothing
 abbrev pub NextStepKept : Type 0
-NextStepKept = (run : Accepted) → IsSoundRun run → (earlier later : List Made) (x : Step) → run.made ≡ earlier ++ Made.step x ∷ later → is_kept run (length (items_made run earlier)) ≡ true
+NextStepKept = (run : Accepted) → IsSoundRun run → (earlier later : List Made) (x : Step) → run.made ≡ earlier ++ Made.step x ∷ later
+    → is_kept run (length (items_made run earlier)) ≡ true
     → IsNextKept run (items_made run earlier) (items_made run (earlier ++ Made.step x ∷ [])) (step_in_module run earlier x)
 
 abbrev pub NextStepGone : Type 0
-NextStepGone = (run : Accepted) (earlier later : List Made) (x : Step) → run.made ≡ earlier ++ Made.step x ∷ later → is_kept run (length (items_made run earlier)) ≡ false
+NextStepGone = (run : Accepted) (earlier later : List Made) (x : Step) → run.made ≡ earlier ++ Made.step x ∷ later
+    → is_kept run (length (items_made run earlier)) ≡ false
     → kept_of run (items_made run (earlier ++ Made.step x ∷ [])) ≡ kept_of run (items_made run earlier)
 
 -- the items up to some of the contents of the next symbol, the number of the item of the content after these, and that item in the module
@@ -146,19 +153,24 @@ symbol_in_module run earlier s front c = record { symbol = module_number run (co
 
 -- What each content of the next symbol adds: its item, where that is kept, else nothing
 abbrev pub NextSymbolKept : Type 0
-NextSymbolKept = (run : Accepted) (earlier later : List Made) (s : Symbol) → run.made ≡ earlier ++ Made.symbol s ∷ later → (front back : List Content) (c : Content) → contents_of s ≡ front ++ c ∷ back
-    → is_kept run (content_number run earlier front) ≡ true → IsNextKept run (items_up_to run earlier s front) (items_up_to run earlier s (front ++ c ∷ [])) (symbol_in_module run earlier s front c)
+NextSymbolKept = (run : Accepted) (earlier later : List Made) (s : Symbol) → run.made ≡ earlier ++ Made.symbol s ∷ later
+    → (front back : List Content) (c : Content) → contents_of s ≡ front ++ c ∷ back
+    → is_kept run (content_number run earlier front) ≡ true
+    → IsNextKept run (items_up_to run earlier s front) (items_up_to run earlier s (front ++ c ∷ [])) (symbol_in_module run earlier s front c)
 
 abbrev pub NextSymbolGone : Type 0
-NextSymbolGone = (run : Accepted) (earlier later : List Made) (s : Symbol) → run.made ≡ earlier ++ Made.symbol s ∷ later → (front back : List Content) (c : Content) → contents_of s ≡ front ++ c ∷ back
-    → is_kept run (content_number run earlier front) ≡ false → kept_of run (items_up_to run earlier s (front ++ c ∷ [])) ≡ kept_of run (items_up_to run earlier s front)
+NextSymbolGone = (run : Accepted) (earlier later : List Made) (s : Symbol) → run.made ≡ earlier ++ Made.symbol s ∷ later
+    → (front back : List Content) (c : Content) → contents_of s ≡ front ++ c ∷ back
+    → is_kept run (content_number run earlier front) ≡ false → kept_of run (items_up_to run earlier s (front ++ c ∷ []))
+    ≡ kept_of run (items_up_to run earlier s front)
 
 -- the items up to some of the contents of the next type definition, and the item of the content after these in the module
 abbrev pub definition_up_to : Accepted → List Made → List Content → List Item
 definition_up_to run earlier front = items_made run earlier ++ numbered type_definition_name (length (items_made run earlier)) front
 
 abbrev pub definition_in_module : Accepted → List Made → List Content → Content → Item
-definition_in_module run earlier front c = record { symbol = module_number run (content_number run earlier front); name = type_definition_name c; content = renumbered_content (module_number run) c }
+definition_in_module run earlier front c = record
+    { symbol = module_number run (content_number run earlier front); name = type_definition_name c; content = renumbered_content (module_number run) c }
 
 -- these are the contents of the next type definition
 abbrev pub AreDefinitionContents : Accepted → List Made → TypeNames → HolType → Term → ℕ → List Content → Type 0
@@ -166,13 +178,17 @@ AreDefinitionContents run earlier names a f k cs = type_contents names a f (prem
 
 -- What each content of the next type definition adds: its item, where that is kept, else nothing
 abbrev pub NextDefinitionKept : Type 0
-NextDefinitionKept = (run : Accepted) (earlier later : List Made) (names : TypeNames) (a : HolType) (f : Term) (k : ℕ) → run.made ≡ earlier ++ Made.type_definition names a f k ∷ later
-    → (front back : List Content) (c : Content) → AreDefinitionContents run earlier names a f k (front ++ c ∷ back) → is_kept run (content_number run earlier front) ≡ true
+NextDefinitionKept = (run : Accepted) (earlier later : List Made) (names : TypeNames) (a : HolType) (f : Term) (k : ℕ) → run.made ≡ earlier
+    ++ Made.type_definition names a f k ∷ later
+    → (front back : List Content) (c : Content) → AreDefinitionContents run earlier names a f k (front ++ c ∷ back)
+    → is_kept run (content_number run earlier front) ≡ true
     → IsNextKept run (definition_up_to run earlier front) (definition_up_to run earlier (front ++ c ∷ [])) (definition_in_module run earlier front c)
 
 abbrev pub NextDefinitionGone : Type 0
-NextDefinitionGone = (run : Accepted) (earlier later : List Made) (names : TypeNames) (a : HolType) (f : Term) (k : ℕ) → run.made ≡ earlier ++ Made.type_definition names a f k ∷ later
-    → (front back : List Content) (c : Content) → AreDefinitionContents run earlier names a f k (front ++ c ∷ back) → is_kept run (content_number run earlier front) ≡ false
+NextDefinitionGone = (run : Accepted) (earlier later : List Made) (names : TypeNames) (a : HolType) (f : Term) (k : ℕ) → run.made ≡ earlier
+    ++ Made.type_definition names a f k ∷ later
+    → (front back : List Content) (c : Content) → AreDefinitionContents run earlier names a f k (front ++ c ∷ back)
+    → is_kept run (content_number run earlier front) ≡ false
     → kept_of run (definition_up_to run earlier (front ++ c ∷ [])) ≡ kept_of run (definition_up_to run earlier front)
 
 -- The premise of the next type definition: an earlier step, which is kept with each of the contents
@@ -183,7 +199,8 @@ pub record IsNextDefinition (run : Accepted) (earlier : List Made) (names : Type
       → is_kept run (content_number run earlier front) ≡ true → is_kept run (step_item run k) ≡ true
 
 abbrev pub NextDefinition : Type 0
-NextDefinition = (run : Accepted) → IsSoundRun run → (earlier later : List Made) (names : TypeNames) (a : HolType) (f : Term) (k : ℕ) → run.made ≡ earlier ++ Made.type_definition names a f k ∷ later → IsNextDefinition run earlier names a f k
+NextDefinition = (run : Accepted) → IsSoundRun run → (earlier later : List Made) (names : TypeNames) (a : HolType) (f : Term) (k : ℕ) → run.made ≡ earlier
+    ++ Made.type_definition names a f k ∷ later → IsNextDefinition run earlier names a f k
 
 -- A run that is sound is carried: its module is shaped, well typed and priced, and each export is what an item says
 abbrev pub SoundCarried : Type 0

@@ -26,7 +26,8 @@ use Rattle.image_items_laws.specs.NextItems.{numbered-append}
 use Rattle.image_items_laws.specs.NextSteps.{each-at, numbered-at, nothing_said}
 use Rattle.image_items_laws.specs.Positions.{index-front, index-map, index-IsIn, get-within}
 
-module _ (run : Accepted) (earlier later : List Made) (names : TypeNames) (a : HolType) (f : Term) (k : ℕ) (whole : run.made ≡ earlier ++ Made.type_definition names a f k ∷ later) where
+module _ (run : Accepted) (earlier later : List Made) (names : TypeNames) (a : HolType) (f : Term) (k : ℕ)
+    (whole : run.made ≡ earlier ++ Made.type_definition names a f k ∷ later) where
   abbrev before : List Item
   before = items_made run earlier
 
@@ -36,7 +37,8 @@ module _ (run : Accepted) (earlier later : List Made) (names : TypeNames) (a : H
   -- the items of the definition, and then those of what is made later
   definition-items : (rest : List Item) × (made_items run ≡ (before ++ numbered type_definition_name (length before) own) ++ rest)
   definition-items =
-      let r = items-stay run (earlier ++ Made.type_definition names a f k ∷ []) later (whole ∙ sym (append_assoc earlier (Made.type_definition names a f k ∷ []) later)) in
+      let r = items-stay run (earlier ++ Made.type_definition names a f k ∷ []) later
+      (whole ∙ sym (append_assoc earlier (Made.type_definition names a f k ∷ []) later)) in
       (r.0, r.1 ∙ ap (λ l. l ++ r.0) (items-grow run earlier (Made.type_definition names a f k)))
 
   up-to : (xs ys : List Content)
@@ -75,10 +77,12 @@ next-definition-gone run earlier later names a f k whole front back c among gone
     ∙ others-go run (definition_up_to run earlier front) items.0 (content_item run earlier later names a f k whole front back c among) items.1 gone
 
 -- each content needs the premise
-contents-need : (names : TypeNames) (a : HolType) (f : Term) (one : ℕ × Sequent) → AllByRecursion (λ c. IsIn (needs c) (number_key one.0)) (type_contents names a f one)
+contents-need : (names : TypeNames) (a : HolType) (f : Term) (one : ℕ × Sequent)
+    → AllByRecursion (λ c. IsIn (needs c) (number_key one.0)) (type_contents names a f one)
 contents-need names a f one = (inl refl, (inl refl, (inl refl, tt {0})))
 
-module _ (run : Accepted) (sound : IsSoundRun run) (earlier later : List Made) (names : TypeNames) (a : HolType) (f : Term) (k : ℕ) (whole : run.made ≡ earlier ++ Made.type_definition names a f k ∷ later) where
+module _ (run : Accepted) (sound : IsSoundRun run) (earlier later : List Made) (names : TypeNames) (a : HolType) (f : Term) (k : ℕ)
+    (whole : run.made ≡ earlier ++ Made.type_definition names a f k ∷ later) where
   abbrev so_far : List Item
   so_far = items_made run earlier
 
@@ -104,11 +108,13 @@ module _ (run : Accepted) (sound : IsSoundRun run) (earlier later : List Made) (
   premise-within = let l = premise-earlier in let long = said-length in omega (arith, l, long)
 
   premise-same : premise_at so_far k ≡ premise_at (made_items run) k
-  premise-same = let w = said-whole in sym (ap (λ l. slice_index_or l k (0, nothing_said)) w.1 ∙ index-front (said_by so_far) w.0 k (0, nothing_said) premise-within)
+  premise-same = let w = said-whole in sym
+      (ap (λ l. slice_index_or l k (0, nothing_said)) w.1 ∙ index-front (said_by so_far) w.0 k (0, nothing_said) premise-within)
 
   premise-says : (premise_at (made_items run) k).1 ≡ sequent_at run.made k
   premise-says =
-      index-map (λ (p : ℕ × Sequent). p.1) (said_by (made_items run)) k (0, nothing_said) ∙ ap (λ l. slice_index_or l k nothing_said) (made-joined (name_in run) run.made sound.proof sound.over).said
+      index-map (λ (p : ℕ × Sequent). p.1) (said_by (made_items run)) k (0, nothing_said)
+      ∙ ap (λ l. slice_index_or l k nothing_said) (made-joined (name_in run) run.made sound.proof sound.over).said
 
   kept-premise : (front back : List Content) (c : Content) → AreDefinitionContents run earlier names a f k (front ++ c ∷ back)
       → is_kept run (content_number run earlier front) ≡ true → is_kept run (step_item run k) ≡ true
@@ -116,21 +122,26 @@ module _ (run : Accepted) (sound : IsSoundRun run) (earlier later : List Made) (
       let at = content-items run earlier later names a f k whole front back c among in
       let z = content_item run earlier later names a f k whole front back c among in
       let roots = roots_of (name_in run) run.made run.exports in
-      let in_order : AreNumbered (is_kept run) [] (made_items run) = made-numbered roots [] (made_items run) (tt {0}) (made-joined (name_in run) run.made sound.proof sound.over).order in
-      let needs_kept : AreKept (is_kept run) (definition_up_to run earlier front) (needs c) = numbered-at (is_kept run) [] (definition_up_to run earlier front) at.0 z (subst (AreNumbered (is_kept run) []) at.1 in_order) keep in
+      let in_order : AreNumbered (is_kept run) [] (made_items run) =
+      made-numbered roots [] (made_items run) (tt {0}) (made-joined (name_in run) run.made sound.proof sound.over).order in
+      let needs_kept : AreKept (is_kept run) (definition_up_to run earlier front) (needs c) =
+      numbered-at (is_kept run) [] (definition_up_to run earlier front) at.0 z (subst (AreNumbered (is_kept run) []) at.1 in_order) keep in
       let said = said-in so_far (premise_at so_far k) (index-IsIn (said_by so_far) k (0, nothing_said) premise-within) in
       let w : Item = said.0 in
-      let gives_it : number_key (premise_at so_far k).0 ≡ gives w = ap number_key (sym said.2) ∙ sym (says-gives_of w.symbol w.content (premise_at so_far k).1 said.3) in
+      let gives_it : number_key (premise_at so_far k).0 ≡ gives w =
+      ap number_key (sym said.2) ∙ sym (says-gives_of w.symbol w.content (premise_at so_far k).1 said.3) in
       let P = λ (c : Content). IsIn (needs c) (number_key (premise_at so_far k).0) in
       let need : IsIn (needs c) (number_key (premise_at so_far k).0) =
-      All-at P (front ++ c ∷ back) c (subst (AllByRecursion P) among (contents-need names a f (premise_at so_far k))) (IsIn-right front (c ∷ back) c (inl refl)) in
+      All-at P (front ++ c ∷ back) c (subst (AllByRecursion P) among (contents-need names a f (premise_at so_far k))) (IsIn-right front (c ∷ back) c (inl refl))
+      in
       let there : IsIn (definition_up_to run earlier front) w = IsIn-left so_far (numbered type_definition_name (length so_far) front) w said.1 in
       sym (ap (λ (p : ℕ × Sequent). is_kept run p.0) premise-same) ∙ ap (is_kept run) (sym said.2) ∙ needs_kept w there (subst (IsIn (needs c)) gives_it need)
 
 -- The law of the next type definition
 pub next-definition : NextDefinition
 next-definition run sound earlier later names a f k whole = record {
-  premise = premise-same run sound earlier later names a f k whole ∙ (λ i. ((premise_at (made_items run) k).0, premise-says run sound earlier later names a f k whole i));
+  premise = premise-same run sound earlier later names a f k whole
+      ∙ (λ i. ((premise_at (made_items run) k).0, premise-says run sound earlier later names a f k whole i));
   earlier_premise = premise-earlier run sound earlier later names a f k whole;
   kept_premise = kept-premise run sound earlier later names a f k whole;
 }

@@ -16,7 +16,12 @@ use Rattle.image_items_laws.specs.NextSteps.{next-premises}
 -- the items of a step, and then those of what is made later
 module _ (run : Accepted) (earlier later : List Made) (x : Step) (whole : run.made ≡ earlier ++ Made.step x ∷ later) where
   abbrev step_item : Item
-  step_item = record { symbol = length (items_made run earlier); name = step_name run (length (steps_of earlier)) x.kind; content = step_content (items_made run earlier) x }
+  step_item = record {
+    symbol = length (items_made run earlier);
+    name = step_name run (length (steps_of earlier)) x.kind;
+    content =
+        step_content (items_made run earlier) x;
+  }
 
   step-items : (rest : List Item) × (made_items run ≡ items_made run earlier ++ step_item ∷ rest)
   step-items =
@@ -30,7 +35,12 @@ next-step-kept run sound earlier later x whole keep =
     let z = step_item run earlier later x whole in
     let k = kept-stays run (items_made run earlier) items.0 z items.1 keep in
     let same : renumbered (module_number run) z ≡ step_in_module run earlier x =
-    λ i. record { symbol = module_number run (length (items_made run earlier)); name = step_name run (length (steps_of earlier)) x.kind; content = (next-premises run sound earlier later x whole).content i } in
+    λ i. record {
+      symbol = module_number run (length (items_made run earlier));
+      name = step_name run (length (steps_of earlier)) x.kind;
+      content =
+          (next-premises run sound earlier later x whole).content i;
+    } in
     record {
       after = kept_of run items.0;
       whole = k.0 ∙ ap (λ y. kept_of run (items_made run earlier) ++ y ∷ kept_of run items.0) same;
@@ -55,29 +65,35 @@ pub numbered-append : (named : Content → List ℕ) (i : ℕ) (xs ys : List Con
 numbered-append named i [] ys = let z : i ≡ i + 0 = omega arith in ap (λ j. numbered named j ys) z
 numbered-append named i (x ∷ xs) ys =
     let z : i + 1 + length xs ≡ i + length (x ∷ xs) = omega arith in
-    ap (λ l. record { symbol = i; name = named x; content = x } ∷ l) (numbered-append named (i + 1) xs ys ∙ ap (λ j. numbered named (i + 1) xs ++ numbered named j ys) z)
+    ap (λ l. record { symbol = i; name = named x; content = x } ∷ l)
+    (numbered-append named (i + 1) xs ys ∙ ap (λ j. numbered named (i + 1) xs ++ numbered named j ys) z)
 
-module _ (run : Accepted) (earlier later : List Made) (s : Symbol) (whole : run.made ≡ earlier ++ Made.symbol s ∷ later) (front back : List Content) (c : Content) (among : contents_of s ≡ front ++ c ∷ back) where
+module _ (run : Accepted) (earlier later : List Made) (s : Symbol) (whole : run.made ≡ earlier ++ Made.symbol s ∷ later) (front back : List Content)
+    (c : Content) (among : contents_of s ≡ front ++ c ∷ back) where
   abbrev content_item : Item
   content_item = record { symbol = content_number run earlier front; name = symbol_name s; content = c }
 
-  up-to : (xs ys : List Content) → items_up_to run earlier s (xs ++ ys) ≡ items_up_to run earlier s xs ++ numbered (λ (c : Content). symbol_name s) (content_number run earlier xs) ys
+  up-to : (xs ys : List Content) → items_up_to run earlier s (xs ++ ys) ≡ items_up_to run earlier s xs
+      ++ numbered (λ (c : Content). symbol_name s) (content_number run earlier xs) ys
   up-to xs ys =
       let items = items_made run earlier in
       ap (λ l. items ++ l) (numbered-append (λ (c : Content). symbol_name s) (length items) xs ys)
-      ∙ sym (append_assoc items (numbered (λ (c : Content). symbol_name s) (length items) xs) (numbered (λ (c : Content). symbol_name s) (length items + length xs) ys))
+      ∙ sym (append_assoc items (numbered (λ (c : Content). symbol_name s) (length items) xs)
+      (numbered (λ (c : Content). symbol_name s) (length items + length xs) ys))
 
   symbol-items : (rest : List Item) × (made_items run ≡ items_up_to run earlier s front ++ content_item ∷ rest)
   symbol-items =
       let r = items-stay run (earlier ++ Made.symbol s ∷ []) later (whole ∙ sym (append_assoc earlier (Made.symbol s ∷ []) later)) in
       let others = numbered (λ (c : Content). symbol_name s) (content_number run earlier front + 1) back in
-      let own : items_made run (earlier ++ Made.symbol s ∷ []) ≡ items_up_to run earlier s front ++ content_item ∷ others = items-grow run earlier (Made.symbol s) ∙ ap (items_up_to run earlier s) among ∙ up-to front (c ∷ back) in
+      let own : items_made run (earlier ++ Made.symbol s ∷ []) ≡ items_up_to run earlier s front ++ content_item ∷ others =
+      items-grow run earlier (Made.symbol s) ∙ ap (items_up_to run earlier s) among ∙ up-to front (c ∷ back) in
       (others ++ r.0, r.1 ∙ ap (λ l. l ++ r.0) own ∙ append_assoc (items_up_to run earlier s front) (content_item ∷ others) r.0)
 
   same-item : renumbered (module_number run) content_item ≡ symbol_in_module run earlier s front c
   same-item =
       let e : renumbered_content (module_number run) c ≡ c =
-      All-at (λ (c : Content). renumbered_content (module_number run) c ≡ c) (front ++ c ∷ back) c (subst (AllByRecursion (λ (c : Content). renumbered_content (module_number run) c ≡ c)) among (contents-renumbered (module_number run) s))
+      All-at (λ (c : Content). renumbered_content (module_number run) c ≡ c) (front ++ c ∷ back) c
+      (subst (AllByRecursion (λ (c : Content). renumbered_content (module_number run) c ≡ c)) among (contents-renumbered (module_number run) s))
       (IsIn-right front (c ∷ back) c (inl refl)) in
       λ i. record { symbol = module_number run (content_number run earlier front); name = symbol_name s; content = e i }
 

@@ -37,7 +37,8 @@ each-at P before (x ∷ xs) ys y h = subst (λ l. P l y) (append_assoc before (x
 pub numbered-at : (keep : ℕ → Bool) (before xs ys : List Item) (z : Item) → AreNumbered keep before (xs ++ z ∷ ys) → keep z.symbol ≡ true
     → AreKept keep (before ++ xs) (needs z.content)
 numbered-at keep before [] ys z h e = subst (λ l. AreKept keep l (needs z.content)) (sym (append-nil before)) (h.3 e)
-numbered-at keep before (x ∷ xs) ys z h e = subst (λ l. AreKept keep l (needs z.content)) (append_assoc before (x ∷ []) xs) (numbered-at keep (before ++ x ∷ []) xs ys z h.4 e)
+numbered-at keep before (x ∷ xs) ys z h e = subst (λ l. AreKept keep l (needs z.content)) (append_assoc before (x ∷ []) xs)
+    (numbered-at keep (before ++ x ∷ []) xs ys z h.4 e)
 
 -- premises are earlier steps
 premises-earlier : (sequents : List Sequent) (ks : List ℕ) (ss : List Sequent) → ArePremises sequents ks ss → AllByRecursion (λ k. k < length sequents) ks
@@ -66,7 +67,8 @@ content-renumbered number false kind js ss g s = refl
 -- a step with a proof needs its premises
 needs-premise : (b : Bool) (kind : StepKind) (js : List ℕ) (ss : List Sequent) (g : Parameters) (s : Sequent) (j : ℕ) → b ≡ true → IsIn js j
     → IsIn (needs (content_by b kind js ss g s)) (number_key j)
-needs-premise true kind js ss g s j e i = IsIn-left (sequent_keys s ++ map number_key js) (given_keys g) (number_key j) (IsIn-right (sequent_keys s) (map number_key js) (number_key j) (IsIn-map number_key js j i))
+needs-premise true kind js ss g s j e i = IsIn-left (sequent_keys s ++ map number_key js) (given_keys g) (number_key j)
+    (IsIn-right (sequent_keys s) (map number_key js) (number_key j) (IsIn-map number_key js j i))
 needs-premise false kind js ss g s j e i = absurd (cc)
 
 abbrev pub nothing_said : Sequent
@@ -100,7 +102,8 @@ module _ (run : Accepted) (sound : IsSoundRun run) (earlier later : List Made) (
   step_item-is : step_item run (length (steps_of earlier)) ≡ length before
   step_item-is =
       let w = said-whole in
-      ap (λ k. (premise_at (made_items run) k).0) (sym said-length) ∙ ap (λ (l : List (ℕ × Sequent)). (slice_index_or l (length (said_by before)) (0, nothing_said)).0) w.1
+      ap (λ k. (premise_at (made_items run) k).0) (sym said-length)
+      ∙ ap (λ (l : List (ℕ × Sequent)). (slice_index_or l (length (said_by before)) (0, nothing_said)).0) w.1
       ∙ ap (λ (p : ℕ × Sequent). p.0) (index-seam (said_by before) w.0 (length before, x.sequent) (0, nothing_said))
 
   -- an earlier step has the same item now as then
@@ -108,19 +111,22 @@ module _ (run : Accepted) (sound : IsSoundRun run) (earlier later : List Made) (
   premise-same k l =
       let w = said-whole in
       let long = said-length in
-      sym (ap (λ l. slice_index_or l k (0, nothing_said)) w.1 ∙ index-front (said_by before) ((length before, x.sequent) ∷ w.0) k (0, nothing_said) (omega (arith, l, long)))
+      sym (ap (λ l. slice_index_or l k (0, nothing_said)) w.1
+      ∙ index-front (said_by before) ((length before, x.sequent) ∷ w.0) k (0, nothing_said) (omega (arith, l, long)))
 
   -- and it says what the step does
   premise-says : (k : ℕ) → (premise_at (made_items run) k).1 ≡ sequent_at run.made k
   premise-says k =
-      index-map (λ (p : ℕ × Sequent). p.1) (said_by (made_items run)) k (0, nothing_said) ∙ ap (λ l. slice_index_or l k nothing_said) (made-joined (name_in run) run.made sound.proof sound.over).said
+      index-map (λ (p : ℕ × Sequent). p.1) (said_by (made_items run)) k (0, nothing_said)
+      ∙ ap (λ l. slice_index_or l k nothing_said) (made-joined (name_in run) run.made sound.proof sound.over).said
 
   is_step : IsStep earlier x
   is_step = each-at IsMade [] earlier later (Made.step x) (subst (EachAfter IsMade []) whole (each-after IsMade run.made sound.proof))
 
   all-earlier : AllByRecursion (λ k. k < length (steps_of earlier)) x.premises
   all-earlier =
-      subst (λ n. AllByRecursion (λ k. k < n) x.premises) (length-map (steps_of earlier) (λ (y : Step). y.sequent)) (premises-earlier (sequents_of earlier) x.premises is_step.premises is_step.earlier)
+      subst (λ n. AllByRecursion (λ k. k < n) x.premises) (length-map (steps_of earlier) (λ (y : Step). y.sequent))
+      (premises-earlier (sequents_of earlier) x.premises is_step.premises is_step.earlier)
 
   abbrev used : Step
   used = used_step run x
@@ -132,7 +138,8 @@ module _ (run : Accepted) (sound : IsSoundRun run) (earlier later : List Made) (
   sequents-same : (ks : List ℕ) → AllByRecursion (λ k. k < length (steps_of earlier)) ks → sequents_at before ks ≡ map (sequent_at run.made) ks
   sequents-same ks h =
       map-each (λ k. (premise_at before k).1) (sequent_at run.made) ks
-      (All-weaker (λ k. k < length (steps_of earlier)) (λ k. (premise_at before k).1 ≡ sequent_at run.made k) (λ k l. ap (λ (p : ℕ × Sequent). p.1) (premise-same k l) ∙ premise-says k) ks h)
+      (All-weaker (λ k. k < length (steps_of earlier)) (λ k. (premise_at before k).1 ≡ sequent_at run.made k)
+      (λ k l. ap (λ (p : ℕ × Sequent). p.1) (premise-same k l) ∙ premise-says k) ks h)
 
   -- the content of the step
   content-used : step_content before x ≡ shown_content before used
@@ -142,12 +149,14 @@ module _ (run : Accepted) (sound : IsSoundRun run) (earlier later : List Made) (
   numbers-same =
       map-twice (module_number run) (λ k. (premise_at before k).0) used.premises
       ∙ map-each (λ k. module_number run (premise_at before k).0) (step_symbol run) used.premises
-      (All-weaker (λ k. k < length (steps_of earlier)) (λ k. module_number run (premise_at before k).0 ≡ step_symbol run k) (λ k l. ap (λ (p : ℕ × Sequent). module_number run p.0) (premise-same k l)) used.premises used-earlier)
+      (All-weaker (λ k. k < length (steps_of earlier)) (λ k. module_number run (premise_at before k).0 ≡ step_symbol run k)
+      (λ k l. ap (λ (p : ℕ × Sequent). module_number run p.0) (premise-same k l)) used.premises used-earlier)
 
   content-is : renumbered_content (module_number run) (step_content before x) ≡ module_content run used
   content-is =
       ap (renumbered_content (module_number run)) content-used
-      ∙ content-renumbered (module_number run) (has_row used.kind) used.kind (map (λ k. (premise_at before k).0) used.premises) (sequents_at before used.premises) used.parameters used.sequent
+      ∙ content-renumbered (module_number run) (has_row used.kind) used.kind (map (λ k. (premise_at before k).0) used.premises)
+      (sequents_at before used.premises) used.parameters used.sequent
       ∙ (λ i. content_by (has_row used.kind) used.kind (numbers-same i) (sequents-same used.premises used-earlier i) used.parameters used.sequent)
 
   -- what is kept with it
@@ -158,8 +167,10 @@ module _ (run : Accepted) (sound : IsSoundRun run) (earlier later : List Made) (
       needs_kept =
           let at = item-at in
           let roots = roots_of (name_in run) run.made run.exports in
-          let numbered : AreNumbered (is_kept run) [] (made_items run) = made-numbered roots [] (made_items run) (tt {0}) (made-joined (name_in run) run.made sound.proof sound.over).order in
-          subst (λ c. AreKept (is_kept run) before (needs c)) content-used (numbered-at (is_kept run) [] before at.0 z (subst (AreNumbered (is_kept run) []) at.1 numbered) keep)
+          let numbered : AreNumbered (is_kept run) [] (made_items run) =
+          made-numbered roots [] (made_items run) (tt {0}) (made-joined (name_in run) run.made sound.proof sound.over).order in
+          subst (λ c. AreKept (is_kept run) before (needs c)) content-used
+          (numbered-at (is_kept run) [] before at.0 z (subst (AreNumbered (is_kept run) []) at.1 numbered) keep)
 
       each : (k : ℕ) → IsIn used.premises k → is_kept run (step_item run k) ≡ true
       each k i =
@@ -167,10 +178,13 @@ module _ (run : Accepted) (sound : IsSoundRun run) (earlier later : List Made) (
           let long = said-length in
           let said = said-in before (premise_at before k) (index-IsIn (said_by before) k (0, nothing_said) (omega (arith, l, long))) in
           let w : Item = said.0 in
-          let own : number_key (premise_at before k).0 ≡ gives w = ap number_key (sym said.2) ∙ sym (says-gives_of w.symbol w.content (premise_at before k).1 said.3) in
-          let needed_key = needs-premise (has_row used.kind) used.kind (map (λ k. (premise_at before k).0) used.premises) (sequents_at before used.premises) used.parameters used.sequent (premise_at before k).0
+          let own : number_key (premise_at before k).0 ≡ gives w =
+          ap number_key (sym said.2) ∙ sym (says-gives_of w.symbol w.content (premise_at before k).1 said.3) in
+          let needed_key = needs-premise (has_row used.kind) used.kind (map (λ k. (premise_at before k).0) used.premises) (sequents_at before used.premises)
+          used.parameters used.sequent (premise_at before k).0
           (needed-row (map (sequent_at run.made) x.premises) x ∙ row) (IsIn-map (λ k. (premise_at before k).0) used.premises k i) in
-          sym (ap (λ (p : ℕ × Sequent). is_kept run p.0) (premise-same k l)) ∙ ap (is_kept run) (sym said.2) ∙ needs_kept w said.1 (subst (IsIn (needs (shown_content before used))) own needed_key)
+          sym (ap (λ (p : ℕ × Sequent). is_kept run p.0) (premise-same k l)) ∙ ap (is_kept run) (sym said.2)
+          ∙ needs_kept w said.1 (subst (IsIn (needs (shown_content before used))) own needed_key)
 
 -- The law of the next step
 pub next-premises : NextPremises

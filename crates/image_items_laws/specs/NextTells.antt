@@ -75,7 +75,8 @@ said-taken before (step kind js ss g r) s e h = subst (SequentTaken before) (sam
 same_constant : (m n : Name) (t : HolType) → term.Term.constant m t ≡ term.Term.constant n t → m ≡ n
 same_constant m n t e = cc
 
-module _ (made : List Made) (is_proof : IsProof made) (xs before rest : List Item) (whole : xs ≡ before ++ rest) (order : AreMade [] xs) (named : AllByRecursion (HasItemName (proof.symbols_of made)) xs) where
+module _ (made : List Made) (is_proof : IsProof made) (xs before rest : List Item) (whole : xs ≡ before ++ rest) (order : AreMade [] xs)
+    (named : AllByRecursion (HasItemName (proof.symbols_of made)) xs) where
   abbrev symbols : SymbolMap
   symbols = symbols_of xs
 
@@ -97,7 +98,8 @@ module _ (made : List Made) (is_proof : IsProof made) (xs before rest : List Ite
     operator-taken n k (items.OperatorTaken.primitive e) = operator-primitive m symbols n k k e
     operator-taken n k (items.OperatorTaken.declared h) = operator-told made is_proof xs before rest whole order named n k h.0 (among h.0 h.1) h.2
     operator-taken n k (items.OperatorTaken.part names c u j one h e f) =
-        subst₂ (λ o l. told_operator m o l ≡ Some (operator_symbol symbols o l)) (sym e) (sym f) (part-told made is_proof xs before rest whole order named names c u j one h.0 (among h.0 h.1) h.2)
+        subst₂ (λ o l. told_operator m o l ≡ Some (operator_symbol symbols o l)) (sym e) (sym f)
+        (part-told made is_proof xs before rest whole order named names c u j one h.0 (among h.0 h.1) h.2)
 
     constant-has : (n : Name) (c : Content) → constant_named c ≡ Some n → Has earlier c → told_constant m n ≡ Some (constant_symbol symbols n)
     constant-has n c e h = constant-told made is_proof xs before rest whole order named n h.0 (among h.0 h.1) (ap constant_named h.2 ∙ e)
@@ -128,7 +130,11 @@ module _ (made : List Made) (is_proof : IsProof made) (xs before rest : List Ite
     term-told (term.Term.lam t b) h = (type-told t h.0, term-told b h.1)
 
     sequent-told : (s : Sequent) → SequentTaken earlier s → TellsSequent m symbols s
-    sequent-told s h = record { hypotheses = All-weaker (TermTaken earlier) (TellsTerm m symbols) term-told s.hypotheses h.hypotheses; conclusion = term-told s.conclusion h.conclusion }
+    sequent-told s h = record {
+      hypotheses = All-weaker (TermTaken earlier) (TellsTerm m symbols) term-told s.hypotheses h.hypotheses;
+      conclusion =
+          term-told s.conclusion h.conclusion;
+    }
 
     -- the type of a term that defines a constant
     defined-told : (a : HolType) (t : Term) → IsDefining earlier a t → TellsType m symbols a
@@ -157,7 +163,9 @@ module _ (made : List Made) (is_proof : IsProof made) (xs before rest : List Ite
       }
 
   -- the constants of a list are defined among them
-  list-told : (pairs : ConstantPairs) (one : Sequent) → is_definition_list pairs one ≡ true → AllByRecursion (λ v. (t : Term) × IsDefinedBy before (constants_put pairs) v t) (free_variables_of one) → TellsGiven m symbols (Parameters.constants pairs)
+  list-told : (pairs : ConstantPairs) (one : Sequent) → is_definition_list pairs one ≡ true
+      → AllByRecursion (λ v. (t : Term) × IsDefinedBy before (constants_put pairs) v t) (free_variables_of one)
+      → TellsGiven m symbols (Parameters.constants pairs)
   list-told pairs one good defines = All-each (λ (w : Variable × Term). TellsTerm m symbols w.1) (constants_put pairs) each
     where
       each : (w : Variable × Term) → IsIn (constants_put pairs) w → TellsTerm m symbols w.1
@@ -165,10 +173,12 @@ module _ (made : List Made) (is_proof : IsProof made) (xs before rest : List Ite
           let p = put-from pairs w i in
           let n = p.0.0 in
           let v = p.0.1 in
-          let d = All-at (λ v. (t : Term) × IsDefinedBy before (constants_put pairs) v t) (free_variables_of one) v defines (listed-free pairs one good v (listed-variable pairs p.0 p.1)) in
+          let d = All-at (λ v. (t : Term) × IsDefinedBy before (constants_put pairs) v t) (free_variables_of one) v defines
+          (listed-free pairs one good v (listed-variable pairs p.0 p.1)) in
           let put = constant-put pairs (list_parts pairs one good).variables p.0 p.1 in
           let same : d.1.name ≡ n = same_constant d.1.name n v.1 (sym d.1.image ∙ put) in
-          subst (λ (u : Variable × Term). TellsTerm m symbols u.1) (sym p.2) (subst (λ (k : Name). TellsTerm m symbols (term.Term.constant k v.1)) same (constant-defined d.1.name v.1 d.0 d.1.has))
+          subst (λ (u : Variable × Term). TellsTerm m symbols u.1) (sym p.2)
+          (subst (λ (k : Name). TellsTerm m symbols (term.Term.constant k v.1)) same (constant-defined d.1.name v.1 d.0 d.1.has))
 
   given-told : (kind : StepKind) (js : List ℕ) (premises : List Sequent) (given : Parameters) (s : Sequent) → Rule kind premises given s
       → DefinesAmong before kind js premises given → TellsGiven m symbols given
@@ -198,13 +208,17 @@ module _ (made : List Made) (is_proof : IsProof made) (xs before rest : List Ite
   content-told (constant n a) h = type-told before (λ x i. i) a h
   content-told (defined_constant n a t) h = (defined-told before (λ x i. i) a t h, term-told before (λ x i. i) t h.taken)
   content-told (type_operator names c u j one) h = (type-told before (λ x i. i) c h.ty, (premises-told (j ∷ []) (one ∷ []) h.among).0)
-  content-told (type_abstraction names c u j one) h = (type-told before (λ x i. i) (abstraction_type names c) h.1, type-told before (λ x i. i) c h.0.ty, (premises-told (j ∷ []) (one ∷ []) h.0.among).0)
-  content-told (type_representation names c u j one) h = (type-told before (λ x i. i) (representation_type names c) h.1, type-told before (λ x i. i) c h.0.ty, (premises-told (j ∷ []) (one ∷ []) h.0.among).0)
+  content-told (type_abstraction names c u j one) h =
+      (type-told before (λ x i. i) (abstraction_type names c) h.1, type-told before (λ x i. i) c h.0.ty, (premises-told (j ∷ []) (one ∷ []) h.0.among).0)
+  content-told (type_representation names c u j one) h =
+      (type-told before (λ x i. i) (representation_type names c) h.1, type-told before (λ x i. i) c h.0.ty, (premises-told (j ∷ []) (one ∷ []) h.0.among).0)
   content-told (unproved s) h = sequent-told before (λ x i. i) s h
-  content-told (step kind js premises given s) h = (sequent-told before (λ x i. i) s h.0.taken, premises-told js premises h.0.among, given-told kind js premises given s h.0.rule h.1)
+  content-told (step kind js premises given s) h =
+      (sequent-told before (λ x i. i) s h.0.taken, premises-told js premises h.0.among, given-told kind js premises given s h.0.rule h.1)
 
 -- The law: what is declared so far tells the next item
 pub next-tells : NextTells
 next-tells run sound names before after x whole =
     let named = kept-named run (is_kept run) (made_items run) (items-named run names sound [] (made_items run) (made-origins run run.made)) in
-    content-told run.made sound.proof (kept_items run) before (x ∷ after) whole (kept-made run sound) named x.content (next-made run sound before after x whole).content
+    content-told run.made sound.proof (kept_items run) before (x ∷ after) whole (kept-made run sound) named x.content
+    (next-made run sound before after x whole).content

@@ -18,7 +18,8 @@ pub record TellsSequent (declarations : List Declaration) (symbols : SymbolMap) 
 
 -- of what a step is given beside its premises: those of the constants of a list
 abbrev pub TellsGiven : List Declaration → SymbolMap → Parameters → Type 0
-TellsGiven declarations symbols (Parameters.constants pairs) = AllByRecursion (λ (p : Variable × Term). TellsTerm declarations symbols p.1) (constants_put pairs)
+TellsGiven declarations symbols (Parameters.constants pairs) =
+    AllByRecursion (λ (p : Variable × Term). TellsTerm declarations symbols p.1) (constants_put pairs)
 TellsGiven declarations symbols given = Unit {0}
 
 -- of an item
@@ -27,7 +28,10 @@ TellsContent declarations symbols (operator n k) = Unit {0}
 TellsContent declarations symbols (constant n a) = TellsType declarations symbols a
 TellsContent declarations symbols (defined_constant n a t) = TellsType declarations symbols a × TellsTerm declarations symbols t
 TellsContent declarations symbols (type_operator names c u j one) = TellsType declarations symbols c × TellsSequent declarations symbols one
-TellsContent declarations symbols (type_abstraction names c u j one) = TellsType declarations symbols (abstraction_type names c) × TellsType declarations symbols c × TellsSequent declarations symbols one
-TellsContent declarations symbols (type_representation names c u j one) = TellsType declarations symbols (representation_type names c) × TellsType declarations symbols c × TellsSequent declarations symbols one
+TellsContent declarations symbols (type_abstraction names c u j one) =
+    TellsType declarations symbols (abstraction_type names c) × TellsType declarations symbols c × TellsSequent declarations symbols one
+TellsContent declarations symbols (type_representation names c u j one) =
+    TellsType declarations symbols (representation_type names c) × TellsType declarations symbols c × TellsSequent declarations symbols one
 TellsContent declarations symbols (unproved s) = TellsSequent declarations symbols s
-TellsContent declarations symbols (step kind js premises given s) = TellsSequent declarations symbols s × AllByRecursion (TellsSequent declarations symbols) premises × TellsGiven declarations symbols given
+TellsContent declarations symbols (step kind js premises given s) =
+    TellsSequent declarations symbols s × AllByRecursion (TellsSequent declarations symbols) premises × TellsGiven declarations symbols given

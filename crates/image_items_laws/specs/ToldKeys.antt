@@ -114,7 +114,8 @@ constant-tells symbols i n (type_representation names c u j one) e h = subst (λ
 constant-tells symbols i n (unproved s) e h = absurd (cc)
 constant-tells symbols i n (step kind js ss g s) e h = absurd (cc)
 
-module _ (made : List Made) (is_proof : IsProof made) (xs before rest : List Item) (whole : xs ≡ before ++ rest) (order : AreMade [] xs) (named : AllByRecursion (HasItemName (proof.symbols_of made)) xs) where
+module _ (made : List Made) (is_proof : IsProof made) (xs before rest : List Item) (whole : xs ≡ before ++ rest) (order : AreMade [] xs)
+    (named : AllByRecursion (HasItemName (proof.symbols_of made)) xs) where
   abbrev ss : List Symbol
   ss = proof.symbols_of made
 
@@ -147,7 +148,8 @@ module _ (made : List Made) (is_proof : IsProof made) (xs before rest : List Ite
       no-input : IsName n → (z.name ≡ input_operator_name k n → ⊥) → symbol_number m (input_operator_name k n) ≡ None
       no-input is differs =
           let name = input_operator_name k n in
-          other-number symbols made is_proof before order-before names z i name name (input is) (λ y h f. same-name made is_proof z y name (input is) h f) differs (symbol_name-high ss z.content name (input is)).1
+          other-number symbols made is_proof before order-before names z i name name (input is) (λ y h f. same-name made is_proof z y name (input is) h f)
+          differs (symbol_name-high ss z.content name (input is)).1
 
       go : HasItemName ss z → either_number (symbol_number m (input_operator_name k n)) (symbol_number m (operator_name n)) ≡ Some z.symbol
       go (HasItemName.of_step s f l low) = let g : None ≡ Some s = sym (ap says e) ∙ f in absurd (cc)
@@ -157,9 +159,11 @@ module _ (made : List Made) (is_proof : IsProof made) (xs before rest : List Ite
           let same : c ≡ n = cc in
           let count : j ≡ k = cc in
           let is_named : z.name ≡ input_operator_name k n = w ∙ (λ t. input_operator_name (count t) (same t)) in
-          ap (λ o. either_number o (symbol_number m (operator_name n))) (item-number symbols made is_proof before order-before names z i (input_operator_name k n) (input (subst IsName same is)) is_named)
+          ap (λ o. either_number o (symbol_number m (operator_name n)))
+          (item-number symbols made is_proof before order-before names z i (input_operator_name k n) (input (subst IsName same is)) is_named)
       go (HasItemName.of_symbol (IsSymbolName.a_constant c is f w)) = let g : None ≡ Some c = sym (ap constant_named e) ∙ f in absurd (cc)
-      go (HasItemName.of_symbol (IsSymbolName.an_operator told a f j one is among g w)) = let h : type_operator told a f j one ≡ operator n k = sym g ∙ e in absurd (cc)
+      go (HasItemName.of_symbol (IsSymbolName.an_operator told a f j one is among g w)) = let h : type_operator told a f j one ≡ operator n k =
+          sym g ∙ e in absurd (cc)
 
   -- That of a type definition's operator
   pub part-told : (own : TypeNames) (c : HolType) (u : Term) (l : ℕ) (one : Sequent) (z : Item) → IsIn before z → z.content ≡ type_operator own c u l one
@@ -171,18 +175,21 @@ module _ (made : List Made) (is_proof : IsProof made) (xs before rest : List Ite
       operator-named m symbols own.operator (length own.variables) new.0 ∙ go (All-at (HasItemName ss) before z names i) ∙ ap Some (sym symbol)
     where
       is-own : is_operator own.operator (length own.variables) z.content ≡ true
-      is-own = ap (is_operator own.operator (length own.variables)) e ∙ rw ((name_eq-Decides own.operator own.operator).1 refl) ((unsigned_Decides (length own.variables) (length own.variables)).1 refl)
+      is-own = ap (is_operator own.operator (length own.variables)) e
+          ∙ rw ((name_eq-Decides own.operator own.operator).1 refl) ((unsigned_Decides (length own.variables) (length own.variables)).1 refl)
 
       no-input : IsName own.operator → (z.name ≡ input_operator_name (length own.variables) own.operator → ⊥)
           → symbol_number m (input_operator_name (length own.variables) own.operator) ≡ None
       no-input is differs =
           let n = own.operator in
           let k = length own.variables in
-          other-operator symbols made is_proof before order-before names z i n k (input_operator_name k n) is-own (λ y h f. input-operator made is_proof n k is y h f) differs
+          other-operator symbols made is_proof before order-before names z i n k (input_operator_name k n) is-own
+          (λ y h f. input-operator made is_proof n k is y h f) differs
           (symbol_name-high ss (operator n k) (input_operator_name k n) (IsSymbolName.an_input_operator n k is refl refl)).1
 
       go : HasItemName ss z
-          → either_number (symbol_number m (input_operator_name (length own.variables) own.operator)) (symbol_number m (operator_name own.operator)) ≡ Some z.symbol
+          → either_number (symbol_number m (input_operator_name (length own.variables) own.operator)) (symbol_number m (operator_name own.operator))
+          ≡ Some z.symbol
       go (HasItemName.of_step s f low_one low) = let g : None ≡ Some s = sym (ap says e) ∙ f in absurd (cc)
       go (HasItemName.of_symbol (IsSymbolName.an_input k is f w)) = let g : type_operator own c u l one ≡ constant k generic = sym e ∙ f in absurd (cc)
       go (HasItemName.of_symbol (IsSymbolName.an_input_operator k j is f w)) = let g : type_operator own c u l one ≡ operator k j = sym e ∙ f in absurd (cc)
@@ -194,7 +201,8 @@ module _ (made : List Made) (is_proof : IsProof made) (xs before rest : List Ite
           let is_named : z.name ≡ operator_name own.operator = w ∙ ap operator_name same in
           let none = no-input (subst IsName same is) (λ q. other_byte 111 116 _ _ z.name refl w q) in
           ap (λ o. either_number o (symbol_number m (operator_name own.operator))) none
-          ∙ item-number symbols made is_proof before order-before names z i (operator_name own.operator) (IsSymbolName.an_operator told a f j two is among g (ap operator_name (sym same))) is_named
+          ∙ item-number symbols made is_proof before order-before names z i (operator_name own.operator)
+          (IsSymbolName.an_operator told a f j two is among g (ap operator_name (sym same))) is_named
 
   -- And so is that of a constant
   pub constant-told : (n : Name) (z : Item) → IsIn before z → constant_named z.content ≡ Some n → told_constant m n ≡ Some (constant_symbol symbols n)
@@ -222,7 +230,8 @@ module _ (made : List Made) (is_proof : IsProof made) (xs before rest : List Ite
           let same : c ≡ n = same_Some _ _ (sym (ap constant_named f) ∙ e) in
           let is_named : z.name ≡ input_constant_name n = w ∙ ap input_constant_name same in
           ap (λ o. either_number o (symbol_number m (constant_name n)))
-          (item-number symbols made is_proof before order-before names z i (input_constant_name n) (IsSymbolName.an_input c is f (ap input_constant_name (sym same))) is_named)
+          (item-number symbols made is_proof before order-before names z i (input_constant_name n)
+          (IsSymbolName.an_input c is f (ap input_constant_name (sym same))) is_named)
       go (HasItemName.of_symbol (IsSymbolName.an_input_operator c j is f w)) = let g : None ≡ Some n = sym (ap constant_named f) ∙ e in absurd (cc)
       go (HasItemName.of_symbol (IsSymbolName.a_constant c is f w)) =
           let same : c ≡ n = same_Some _ _ (sym f ∙ e) in
@@ -230,7 +239,8 @@ module _ (made : List Made) (is_proof : IsProof made) (xs before rest : List Ite
           let is_name : IsName n = subst IsName same is in
           let ninety_five : second_byte (input_constant_name n) ≡ 95 = refl in
           let none : symbol_number m (input_constant_name n) ≡ None =
-          other-number symbols made is_proof before order-before names z i (constant_name n) (input_constant_name n) (definition is_name) (input-name made is_proof n is_name) (λ q. other_byte 99 105 _ _ z.name refl w q)
+          other-number symbols made is_proof before order-before names z i (constant_name n) (input_constant_name n) (definition is_name)
+          (input-name made is_proof n is_name) (λ q. other_byte 99 105 _ _ z.name refl w q)
           (omega (arith, ninety_five)) in
           ap (λ o. either_number o (symbol_number m (constant_name n))) none
           ∙ item-number symbols made is_proof before order-before names z i (constant_name n) (definition is_name) is_named

@@ -80,7 +80,8 @@ data Head (i high : ℕ) (is : List ℕ) : Type 0 where
 below-none : (i low high : ℕ) (is : List ℕ) → i < low → Ascend low high is → is_one_of i is ≡ false
 below-none i low high [] l h = refl
 below-none i low high (j ∷ is) l h =
-    ap (λ b. b || is_one_of i is) (ne_eqb i j (λ e. let m = h.0 in omega (arith, l, m, e))) ∙ (let m = h.0 in below-none i (suc j) high is (omega (arith, l, m)) h.1)
+    ap (λ b. b || is_one_of i is) (ne_eqb i j (λ e. let m = h.0 in omega (arith, l, m, e)))
+    ∙ (let m = h.0 in below-none i (suc j) high is (omega (arith, l, m)) h.1)
 
 is_or_less : (i r : ℕ) → i ≤ r → (i ≡ r) ⊎ (i < r)
 is_or_less i r h = grind arith
@@ -106,7 +107,8 @@ no_more i high [] e h = refl
 no_more i high (r ∷ is) e h = let l = Ascend-bounds (suc r) high is h.1 in let m = h.0 in absurd (omega (arith, l, m, e))
 
 -- the sequent of a step
-pub sequent-step : (steps : List Step) (i : ℕ) (x : Step) (d : Sequent) → slice_get steps i ≡ Some x → slice_index_or (map (λ (y : Step). y.sequent) steps) i d ≡ x.sequent
+pub sequent-step : (steps : List Step) (i : ℕ) (x : Step) (d : Sequent) → slice_get steps i ≡ Some x → slice_index_or (map (λ (y : Step). y.sequent) steps) i d
+    ≡ x.sequent
 sequent-step [] i x d e = absurd (cc)
 sequent-step (y ∷ steps) zero x d e = ap (λ (y : Step). y.sequent) (same_Some _ _ e)
 sequent-step (y ∷ steps) (suc i) x d e = sequent-step steps i x d e
@@ -141,13 +143,15 @@ module _ (run : Accepted) (sound : IsSoundRun run) (rows : HaveRows run) where
   unexported : (z : Item) (zs : List Item) → is_export_name z.name ≡ false → exports_among (z ∷ zs) ≡ exports_among zs
   unexported z zs e = go (keep z.symbol)
     where
-      go : (b : Bool) → filter (λ (d : Declaration). is_export_name d.name) (map (declaration symbols) (map (renumbered number) (cond b (z ∷ kept keep zs) (kept keep zs)))) ≡ exports_among zs
+      go : (b : Bool) → filter (λ (d : Declaration). is_export_name d.name)
+          (map (declaration symbols) (map (renumbered number) (cond b (z ∷ kept keep zs) (kept keep zs)))) ≡ exports_among zs
       go true = ap (λ b. cond b (declared z ∷ exports_among zs) (exports_among zs)) (ap is_export_name (declared-name symbols number z) ∙ e)
       go false = refl
 
   exported : (z : Item) (zs : List Item) → is_export_name z.name ≡ true → keep z.symbol ≡ true → exports_among (z ∷ zs) ≡ declared z ∷ exports_among zs
   exported z zs e k =
-      ap (λ b. filter (λ (d : Declaration). is_export_name d.name) (map (declaration symbols) (map (renumbered number) (cond b (z ∷ kept keep zs) (kept keep zs))))) k
+      ap (λ b. filter (λ (d : Declaration). is_export_name d.name)
+      (map (declaration symbols) (map (renumbered number) (cond b (z ∷ kept keep zs) (kept keep zs))))) k
       ∙ ap (λ b. cond b (declared z ∷ exports_among zs) (exports_among zs)) (ap is_export_name (declared-name symbols number z) ∙ e)
 
   one_of-IsIn : (i : ℕ) (is : List ℕ) → is_one_of i is ≡ true → IsIn is i
@@ -164,8 +168,10 @@ module _ (run : Accepted) (sound : IsSoundRun run) (rows : HaveRows run) where
       → keep z.symbol ≡ true
   export-kept order before zs z s whole e one =
       let i = length (said_by before) in
-      let key : gives z ≡ number_key (premise_at items i).0 = says-gives_of z.symbol z.content s e ∙ ap (λ (p : ℕ × Sequent). number_key p.0) (sym (premise_at-said items before zs z s whole e)) in
-      let root : IsIn roots (gives z) = subst (IsIn roots) (sym key) (IsIn-map (λ k. number_key (premise_at items k).0) run.exports i (one_of-IsIn i run.exports one)) in
+      let key : gives z ≡ number_key (premise_at items i).0 =
+      says-gives_of z.symbol z.content s e ∙ ap (λ (p : ℕ × Sequent). number_key p.0) (sym (premise_at-said items before zs z s whole e)) in
+      let root : IsIn roots (gives z) = subst (IsIn roots) (sym key)
+      (IsIn-map (λ k. number_key (premise_at items k).0) run.exports i (one_of-IsIn i run.exports one)) in
       let there : IsIn items z = subst (λ l. IsIn l z) (sym whole) (IsIn-right before (z ∷ zs) z (inl refl)) in
       subst (λ l. keep_of roots l z.symbol ≡ true) (append-nil items) (keep-wanted roots 0 items [] z (numbered-from [] items order) there root)
 
@@ -180,18 +186,22 @@ module _ (run : Accepted) (sound : IsSoundRun run) (rows : HaveRows run) where
   AllStand = (z : Item) → IsIn items z → keep z.symbol ≡ true → (s : Sequent) → says z.content ≡ Some s → Enc (image run) (closed_form s) (declared z).ty
 
   module _ (order : AreMadeInOrder [] items) (stand : AllStand) where
-    exports-left : (before zs : List Item) (done rest : List ℕ) → items ≡ before ++ zs → run.exports ≡ done ++ rest → AllByRecursion (λ j. j < length (said_by before)) done
-        → Ascend (length (said_by before)) (length (steps_of run.made)) rest → HaveNames run before zs → AreExports (image run) run (length done) rest (exports_among zs)
+    exports-left : (before zs : List Item) (done rest : List ℕ) → items ≡ before ++ zs → run.exports ≡ done ++ rest
+        → AllByRecursion (λ j. j < length (said_by before)) done
+        → Ascend (length (said_by before)) (length (steps_of run.made)) rest → HaveNames run before zs
+        → AreExports (image run) run (length done) rest (exports_among zs)
     exports-left before [] done rest whole split low up names =
         let n = ap (λ l. length (said_by l)) (whole ∙ append-nil before) in
-        let none : rest ≡ [] = no_more (length (said_by before)) (length (steps_of run.made)) rest (omega (arith, n, made-said (name_in run) run.made sound.proof sound.over)) up in
+        let none : rest ≡ [] = no_more (length (said_by before)) (length (steps_of run.made)) rest
+        (omega (arith, n, made-said (name_in run) run.made sound.proof sound.over)) up in
         subst (λ l. AreExports (image run) run (length done) l []) (sym none) AreExports.none
     exports-left before (z ∷ zs) done rest whole split low up names =
         at names.0 (λ n r s l u. exports-left (before ++ z ∷ []) zs n r (whole ∙ sym (append_assoc before (z ∷ []) zs)) s l u names.1)
       where
         at : IsItemName run (λ i. i ≡ length (said_by before)) z
             → ((done2 rest2 : List ℕ) → run.exports ≡ done2 ++ rest2 → AllByRecursion (λ j. j < length (said_by (before ++ z ∷ []))) done2
-            → Ascend (length (said_by (before ++ z ∷ []))) (length (steps_of run.made)) rest2 → AreExports (image run) run (length done2) rest2 (exports_among zs))
+            → Ascend (length (said_by (before ++ z ∷ []))) (length (steps_of run.made)) rest2
+            → AreExports (image run) run (length done2) rest2 (exports_among zs))
             → AreExports (image run) run (length done) rest (exports_among (z ∷ zs))
         at (IsItemName.by_symbol h) next =
             let same = silent-length before z (symbol-silent (symbols_of run.made) z.content z.name h) in
@@ -199,23 +209,32 @@ module _ (run : Accepted) (sound : IsSoundRun run) (rows : HaveRows run) where
             (next done rest split (subst (λ n. AllByRecursion (λ j. j < n) done) same low) (subst (λ n. Ascend n (length (steps_of run.made)) rest) same up))
         at (IsItemName.by_step i x p got told name) next =
             elim (head n (length (steps_of run.made)) rest (omega (arith, p, within)) up) [
-              | Head.later out more ↦ other name (passed-none n done low rest ∙ out) (next done rest split wider (subst (λ k. Ascend k (length (steps_of run.made)) rest) longer more))
+              | Head.later out more ↦ other name (passed-none n done low rest ∙ out)
+                  (next done rest split wider (subst (λ k. Ascend k (length (steps_of run.made)) rest) longer more))
               | Head.here rest2 is more ↦
                   let split2 : run.exports ≡ (done ++ n ∷ []) ++ rest2 = split ∙ ap (λ l. done ++ l) is ∙ sym (append_assoc done (n ∷ []) rest2) in
-                  let one : is_one_of n run.exports ≡ true = ap (is_one_of n) (split ∙ ap (λ l. done ++ l) is) ∙ passed-none n done low (n ∷ rest2) ∙ self-one n rest2 in
-                  let tail = next (done ++ n ∷ []) rest2 split2 (All-append (λ j. j < length (said_by (before ++ z ∷ []))) done (n ∷ []) wider (omega (arith, longer), tt {0}))
+                  let one : is_one_of n run.exports ≡ true =
+                  ap (is_one_of n) (split ∙ ap (λ l. done ++ l) is) ∙ passed-none n done low (n ∷ rest2) ∙ self-one n rest2 in
+                  let tail = next (done ++ n ∷ []) rest2 split2
+                  (All-append (λ j. j < length (said_by (before ++ z ∷ []))) done (n ∷ []) wider (omega (arith, longer), tt {0}))
                   (subst (λ k. Ascend k (length (steps_of run.made)) rest2) longer more) in
                   let size : length (done ++ n ∷ []) ≡ suc (length done) = let l = length-append done (n ∷ []) in omega (arith, l) in
-                  let place : position_or_len (nat_eq n) run.exports ≡ length done = ap (position_or_len (nat_eq n)) (split ∙ ap (λ l. done ++ l) is) ∙ passed-place n done rest2 low in
+                  let place : position_or_len (nat_eq n) run.exports ≡ length done =
+                  ap (position_or_len (nat_eq n)) (split ∙ ap (λ l. done ++ l) is) ∙ passed-place n done rest2 low in
                   let stays : keep z.symbol ≡ true = export-kept order before zs z x.sequent whole (content-says x z.content told) one in
                   let there : IsIn items z = subst (λ l. IsIn l z) (sym whole) (IsIn-right before (z ∷ zs) z (inl refl)) in
                   let row : has_row x.kind ≡ true = rows n x one (ap (slice_get (steps_of run.made)) (sym p) ∙ got) in
-                  let text : z.name ≡ codes "E" ++ numeral (length done) = named-export name one ∙ ap (λ k. codes "E" ++ numeral k) (ap (λ k. position_or_len (nat_eq k) run.exports) p ∙ place) in
-                  let said : sequent_at run.made n ≡ x.sequent = sequent-step (steps_of run.made) n x (record { hypotheses = []; conclusion = bound 0 }) (ap (slice_get (steps_of run.made)) (sym p) ∙ got) in
+                  let text : z.name ≡ codes "E" ++ numeral (length done) =
+                  named-export name one ∙ ap (λ k. codes "E" ++ numeral k) (ap (λ k. position_or_len (nat_eq k) run.exports) p ∙ place) in
+                  let said : sequent_at run.made n ≡ x.sequent =
+                  sequent-step (steps_of run.made) n x (record { hypotheses = []; conclusion = bound 0 }) (ap (slice_get (steps_of run.made)) (sym p) ∙ got)
+                  in
                   subst (λ l. AreExports (image run) run (length done) l (exports_among (z ∷ zs))) (sym is)
-                  (subst (AreExports (image run) run (length done) (n ∷ rest2)) (sym (exported z zs (ap is_export_name text ∙ export-named (length done)) stays))
+                  (subst (AreExports (image run) run (length done) (n ∷ rest2))
+                  (sym (exported z zs (ap is_export_name text ∙ export-named (length done)) stays))
                   (AreExports.more (declared-name symbols number z ∙ text)
-                  (ap (λ c. (declaration_of symbols z.name (renumbered_content number c)).form) told.is ∙ form-step z.name (has_row x.kind) row told.kind told.premises told.sequents told.parameters x.sequent)
+                  (ap (λ c. (declaration_of symbols z.name (renumbered_content number c)).form) told.is
+                  ∙ form-step z.name (has_row x.kind) row told.kind told.premises told.sequents told.parameters x.sequent)
                   (subst (λ s. Enc (image run) (closed_form s) (declared z).ty) (sym said) (stand z there stays x.sequent (content-says x z.content told)))
                   (subst (λ k. AreExports (image run) run k rest2 (exports_among zs)) size tail)))
             ]
@@ -248,9 +267,12 @@ module _ (run : Accepted) (sound : IsSoundRun run) (rows : HaveRows run) where
             other : IsStepName run i x.kind z.name → is_one_of n (done ++ rest) ≡ false → AreExports (image run) run (length done) rest (exports_among zs)
                 → AreExports (image run) run (length done) rest (exports_among (z ∷ zs))
             other (IsStepName.an_export e w) out h = differ e (at_n false (ap (is_one_of n) split ∙ out))
-            other (IsStepName.an_assumption e f k w) out h = subst (AreExports (image run) run (length done) rest) (sym (unexported z zs (other_first 65 _ z.name refl w))) h
-            other (IsStepName.a_law e k w) out h = subst (AreExports (image run) run (length done) rest) (sym (unexported z zs (other_first 76 _ z.name refl w))) h
-            other (IsStepName.a_theorem e k w) out h = subst (AreExports (image run) run (length done) rest) (sym (unexported z zs (other_first 84 _ z.name refl w))) h
+            other (IsStepName.an_assumption e f k w) out h =
+                subst (AreExports (image run) run (length done) rest) (sym (unexported z zs (other_first 65 _ z.name refl w))) h
+            other (IsStepName.a_law e k w) out h =
+                subst (AreExports (image run) run (length done) rest) (sym (unexported z zs (other_first 76 _ z.name refl w))) h
+            other (IsStepName.a_theorem e k w) out h =
+                subst (AreExports (image run) run (length done) rest) (sym (unexported z zs (other_first 84 _ z.name refl w))) h
 
     -- The exports of the module are the run's
     pub exports-are : HaveNames run [] items → AreExports (image run) run 0 run.exports (filter (λ (d : Declaration). is_export_name d.name) (image run))

@@ -20,8 +20,11 @@ use Rattle.image_laws.specs.AcceptedRuns.{step-said}
 
 pub numbered-from : (before xs : List Item) → AreMadeInOrder before xs → NumberedFrom (length before) xs
 numbered-from before [] h = tt
-numbered-from before (x ∷ xs) h =
-    (h.0, subst (λ k. NumberedFrom k xs) (length-append before (x ∷ []) ∙ (let z : length before + 1 ≡ suc (length before) = omega arith in z)) (numbered-from (before ++ x ∷ []) xs h.3))
+numbered-from before (x ∷ xs) h = (
+  h.0,
+  subst (λ k. NumberedFrom k xs) (length-append before (x ∷ []) ∙ (let z : length before + 1 ≡ suc (length before) = omega arith in z))
+      (numbered-from (before ++ x ∷ []) xs h.3),
+)
 
 -- the items of the module of what these steps reach
 abbrev pub kept_items : Naming → List Made → List ℕ → List Item
@@ -37,8 +40,11 @@ export-declared named made proof over exports k i l =
     let roots = roots_of named made exports in
     let s = step-said named made proof over k l in
     let root : IsIn roots (gives s.0) =
-    subst (IsIn roots) (ap number_key (sym s.2) ∙ sym (says-gives_of s.0.symbol s.0.content (sequent_at made k) s.3)) (IsIn-map (λ k. number_key (premise_at ps k).0) exports k i) in
-    let keeps : keep_of roots ps s.0.symbol ≡ true = subst (λ l. keep_of roots l s.0.symbol ≡ true) (append-nil ps) (keep-wanted roots 0 ps [] s.0 (numbered-from [] ps (made-in_order named made proof over)) s.1 root) in
+    subst (IsIn roots) (ap number_key (sym s.2) ∙ sym (says-gives_of s.0.symbol s.0.content (sequent_at made k) s.3))
+    (IsIn-map (λ k. number_key (premise_at ps k).0) exports k i) in
+    let keeps : keep_of roots ps s.0.symbol ≡ true =
+    subst (λ l. keep_of roots l s.0.symbol ≡ true) (append-nil ps)
+    (keep-wanted roots 0 ps [] s.0 (numbered-from [] ps (made-in_order named made proof over)) s.1 root) in
     (_, IsIn-map _ (kept (keep_of roots ps) ps) s.0 (IsIn-kept (keep_of roots ps) ps s.0 s.1 keeps), says-renumbered _ s.0.content ∙ s.3)
 
 -- what holds of each element holds where more is known of it
@@ -53,4 +59,5 @@ ExportsAreDeclared =
 pub exports_are_declared : ExportsAreDeclared
 exports_are_declared named articles a run =
     let sound = runs_are_sound articles a run in
-    both-All (IsDerived a) (IsDeclared named a.made a.exports) a.exports sound.exports (λ k i h. export-declared named a.made sound.proof sound.over a.exports k i h.step)
+    both-All (IsDerived a) (IsDeclared named a.made a.exports) a.exports sound.exports
+    (λ k i h. export-declared named a.made sound.proof sound.over a.exports k i h.step)

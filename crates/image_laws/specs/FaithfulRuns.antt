@@ -43,9 +43,11 @@ module _ (run : Accepted) (named : HasNames run) (sound : IsSoundRun run) (carri
     typed = carried.typed;
     given = each-declaration run named sound carried.in_order origins (λ i d. d.body ≡ None → IsGiven (image run) run d) (λ e. absurd (cc)) (λ e. absurd (cc))
         (λ z i k n at e. item-given run named sound rows carried.in_order origins z i k e);
-    definitions = each-declaration run named sound carried.in_order origins (λ i d. d.form ≡ Def → IsDefined (image run) run d) (λ e. absurd (cc)) (λ e. absurd (cc))
+    definitions = each-declaration run named sound carried.in_order origins (λ i d. d.form ≡ Def → IsDefined (image run) run d) (λ e. absurd (cc))
+        (λ e. absurd (cc))
         (λ z i k n at e. item-defined run named sound rows carried.in_order origins z i k e);
-    theorems = each-declaration run named sound carried.in_order origins (λ i d. d.form ≡ Thm → IsTheoremName d.name) (λ e. IsTheoremName.symmetry refl) (λ e. IsTheoremName.transitivity refl)
+    theorems = each-declaration run named sound carried.in_order origins (λ i d. d.form ≡ Thm → IsTheoremName d.name) (λ e. IsTheoremName.symmetry refl)
+        (λ e. IsTheoremName.transitivity refl)
         (λ z i k n at e. item-theorem run named sound rows carried.in_order origins z i e);
     exports = exports-are run sound rows carried.in_order (item-stands run named sound carried.in_order origins)
         (items-named run named sound [] (items_of (name_in run) run.made) (made-origins run run.made));

@@ -68,7 +68,8 @@ proved-body : (symbols : SymbolMap) (number : ℕ → ℕ) (name : List ℕ) (b 
 proved-body symbols number name true e kind js ss g s f = absurd (cc)
 proved-body symbols number name false e kind js ss g s f = absurd (cc)
 
-no_definition : (symbols : SymbolMap) (number : ℕ → ℕ) (name : List ℕ) (b : Bool) (kind : StepKind) (js : List ℕ) (ss : List Sequent) (g : Parameters) (s : Sequent)
+no_definition : (symbols : SymbolMap) (number : ℕ → ℕ) (name : List ℕ) (b : Bool) (kind : StepKind) (js : List ℕ) (ss : List Sequent) (g : Parameters)
+    (s : Sequent)
     → (declaration_of symbols name (renumbered_content number (content_by b kind js ss g s))).form ≡ Def → ⊥
 no_definition symbols number name true kind js ss g s f = absurd (cc)
 no_definition symbols number name false kind js ss g s f = absurd (cc)
@@ -100,7 +101,8 @@ content-asked keep before (y ∷ ys) z h (inl e) = record {
   kept = subst (λ (x : Item). keep x.symbol ≡ true → AreKept keep before (needs x.content)) (sym e) h.3;
   inside = λ w i. IsIn-left before (y ∷ ys) w i;
 }
-content-asked keep before (y ∷ ys) z h (inr i) = subst (λ l. Asked keep l z) (append_assoc before (y ∷ []) ys) (content-asked keep (before ++ y ∷ []) ys z h.4 i)
+content-asked keep before (y ∷ ys) z h (inr i) = subst (λ l. Asked keep l z) (append_assoc before (y ∷ []) ys)
+    (content-asked keep (before ++ y ∷ []) ys z h.4 i)
 
 module _ (m : List Declaration) (symbols : SymbolMap) where
   own-distinct : (a : HolType) → IsDistinct name_eq (type_variables a)
@@ -128,7 +130,8 @@ module _ (m : List Declaration) (symbols : SymbolMap) where
 
   -- and the term of a definition
   pub definition-stands : (before : List Item) (a : HolType) (t : Term) → IsDefining before a t → TermMeant m symbols t
-      → StandsForTerm m (close_term (type_variables a) [] t) (place (length (type_variables a)) 0 0 0) (term_tree symbols (filled symbols (under_types (type_variables a) unfilled)) t)
+      → StandsForTerm m (close_term (type_variables a) [] t) (place (length (type_variables a)) 0 0 0)
+      (term_tree symbols (filled symbols (under_types (type_variables a) unfilled)) t)
   definition-stands before a t h meant =
       let vs = type_variables a in
       let scope = filled symbols (under_types vs unfilled) in
@@ -147,11 +150,14 @@ module _ (m : List Declaration) (symbols : SymbolMap) where
     pub symbol-given : (name : List ℕ) (c : Content) (x : Symbol) → IsIn (symbols_of run.made) x → IsIn (contents_of x) c → name ≡ symbol_name x
         → ContentMeant m symbols (renumbered_content number c)
         → (made_of name c).body ≡ None → IsGiven m run (made_of name c)
-    symbol-given name c (Symbol.input_constant n) i (inl e) w meant none = subst (IsGiven m run) (sym (λ t. made_of (w t) (e t))) (IsGiven.input_constant n (among (symbols_of run.made) _ i))
+    symbol-given name c (Symbol.input_constant n) i (inl e) w meant none =
+        subst (IsGiven m run) (sym (λ t. made_of (w t) (e t))) (IsGiven.input_constant n (among (symbols_of run.made) _ i))
     symbol-given name c (Symbol.input_constant n) i (inr k) w meant none = absurd k
-    symbol-given name c (Symbol.input_operator n j) i (inl e) w meant none = subst (IsGiven m run) (sym (λ t. made_of (w t) (e t))) (IsGiven.input_operator n j (among (symbols_of run.made) _ i))
+    symbol-given name c (Symbol.input_operator n j) i (inl e) w meant none =
+        subst (IsGiven m run) (sym (λ t. made_of (w t) (e t))) (IsGiven.input_operator n j (among (symbols_of run.made) _ i))
     symbol-given name c (Symbol.input_operator n j) i (inr k) w meant none = absurd k
-    symbol-given name c (Symbol.defined (Definition.constant n u)) i (inl e) w meant none = let f : Some _ ≡ None = sym (ap (λ b. (made_of name b).body) e) ∙ none in absurd (cc)
+    symbol-given name c (Symbol.defined (Definition.constant n u)) i (inl e) w meant none = let f : Some _ ≡ None =
+        sym (ap (λ b. (made_of name b).body) e) ∙ none in absurd (cc)
     symbol-given name c (Symbol.defined (Definition.constant n u)) i (inr k) w meant none = absurd k
     symbol-given name c (Symbol.defined (Definition.type_operator names a f)) i k w meant none = absurd k
 
@@ -187,7 +193,8 @@ module _ (m : List Declaration) (symbols : SymbolMap) where
           B = body;
           type_stands = constant_type-is a both.0;
           term_stands = definition-stands front a u asked both.1;
-          is = (λ t. made_of (w t) (e t)) ∙ ap (λ ds. record { name = constant_name n; form = Def; ty = generic_tree symbols a; body = Some (abstractions ds body) }) (types-are vs);
+          is = (λ t. made_of (w t) (e t)) ∙ ap
+              (λ ds. record { name = constant_name n; form = Def; ty = generic_tree symbols a; body = Some (abstractions ds body) }) (types-are vs);
         })
     symbol-defined name c (Symbol.defined (Definition.constant n u)) front h i (inr k) w meant def = absurd k
     symbol-defined name c (Symbol.defined (Definition.type_operator names a f)) front h i k w meant def = absurd k
@@ -196,8 +203,10 @@ module _ (m : List Declaration) (symbols : SymbolMap) where
     part-of : (names : TypeNames) (a : HolType) (f : Term) (j : ℕ) (one : Sequent)
         → IsIn (symbols_of run.made) (Symbol.defined (Definition.type_operator names a f)) → IsTypeDefinition names a f one
         → IsPartPremise m symbols names a (number j) one
-        → TypeMeant m symbols a → Enc m (closed_form one) (sequent_tree symbols one) → AllByRecursion (TermMeant m symbols) (terms_of one) → (vs : List Name) → IsDistinct name_eq vs
-        → ((n : Name) → IsIn names.variables n → IsIn vs n) → IsPartOf m run names a f vs (part_arguments_of symbols (filled symbols (under_types vs unfilled)) a (number j, one))
+        → TypeMeant m symbols a → Enc m (closed_form one) (sequent_tree symbols one) → AllByRecursion (TermMeant m symbols) (terms_of one) → (vs : List Name)
+        → IsDistinct name_eq vs
+        → ((n : Name) → IsIn names.variables n → IsIn vs n)
+        → IsPartOf m run names a f vs (part_arguments_of symbols (filled symbols (under_types vs unfilled)) a (number j, one))
     part-of names a f j one i d p meant enc terms vs distinct has =
         let scope = filled symbols (under_types vs unfilled) in
         let F = predicate one.conclusion in
@@ -217,18 +226,22 @@ module _ (m : List Declaration) (symbols : SymbolMap) where
           symbol = number j;
           parameters = map scope.types (type_variables_of one) ++ map scope.terms (free_variables_of one) ++ map scope.proofs one.hypotheses;
           A = sequent_tree symbols one;
-          type_stands = type_stands m symbols vs (place (length vs) 0 0 0) (under_types vs unfilled) (distinct-placed vs distinct) a meant (All-weaker (IsIn names.variables) (IsIn vs) has (variable_places a) (type-listed names a f one d predicate_type));
+          type_stands = type_stands m symbols vs (place (length vs) 0 0 0) (under_types vs unfilled) (distinct-placed vs distinct) a meant
+              (All-weaker (IsIn names.variables) (IsIn vs) has (variable_places a) (type-listed names a f one d predicate_type));
           predicate_stands = term_stands m symbols vs [] (place (length vs) 0 0 0) scope
               (record { types = distinct-placed vs distinct; terms = λ v i. absurd i; bounds = λ k l. refl })
-              f of_predicate (All-weaker (IsIn names.variables) (IsIn vs) has (type_variable_places f) places) (closed-none (free_places f) d.closed) (loose-typed [] f (function a bool) predicate_type);
+              f of_predicate (All-weaker (IsIn names.variables) (IsIn vs) has (type_variable_places f) places) (closed-none (free_places f) d.closed)
+              (loose-typed [] f (function a bool) predicate_type);
           theorem = p.premise.declared;
           says = enc;
-          are = λ t. type_tree symbols scope.types a ∷ term_tree symbols scope (same t) ∷ term_tree symbols scope (witness one.conclusion) ∷ premise_tree scope (number j, one) ∷ [];
+          are = λ t. type_tree symbols scope.types a ∷ term_tree symbols scope (same t) ∷ term_tree symbols scope (witness one.conclusion) ∷ premise_tree scope
+              (number j, one) ∷ [];
         }
 
     pub part-defined : (name : List ℕ) (c : Content) (names : TypeNames) (a : HolType) (f : Term) (j : ℕ) (one : Sequent)
         → IsIn (symbols_of run.made) (Symbol.defined (Definition.type_operator names a f)) → IsIn (type_contents names a f (j, one)) c
-        → name ≡ type_definition_name c → IsTypeDefinition names a f one → IsPartPremise m symbols names a (number j) one → ContentMeant m symbols (renumbered_content number c)
+        → name ≡ type_definition_name c → IsTypeDefinition names a f one → IsPartPremise m symbols names a (number j) one
+        → ContentMeant m symbols (renumbered_content number c)
         → Enc m (closed_form one) (sequent_tree symbols one) → AllByRecursion (TermMeant m symbols) (terms_of one) → IsDefined m run (made_of name c)
     part-defined name c names a f j one i (inl e) w d p meant enc terms =
         let v : name ≡ operator_name names.operator = w ∙ ap type_definition_name e in
@@ -236,7 +249,14 @@ module _ (m : List Declaration) (symbols : SymbolMap) where
         let own : TypeMeant m symbols a = meant-at c (type_operator names a f j one) e meant in
         let K = part_arguments_of symbols (filled symbols (under_types vs unfilled)) a (number j, one) in
         subst (IsDefined m run)
-        (sym ((λ t. made_of (v t) (e t)) ∙ ap (λ ds. record { name = operator_name names.operator; form = Def; ty = products (replicate (length vs) types) types; body = Some (abstractions ds (applied (Sym sub_symbol) K)) }) (types-are vs)))
+        (sym ((λ t. made_of (v t) (e t)) ∙ ap
+        (λ ds. record {
+          name = operator_name names.operator;
+          form = Def;
+          ty = products (replicate (length vs) types) types;
+          body =
+              Some (abstractions ds (applied (Sym sub_symbol) K));
+        }) (types-are vs)))
         (IsDefined.type_operator names a f K (part-of names a f j one i d p own enc terms vs (listed-distinct names f d.variables) (λ n k. k)))
     part-defined name c names a f j one i (inr (inl e)) w d p meant enc terms =
         let v : name ≡ constant_name names.abstraction = w ∙ ap type_definition_name e in
@@ -245,8 +265,16 @@ module _ (m : List Declaration) (symbols : SymbolMap) where
         let own = meant-at c (type_abstraction names a f j one) e meant in
         let K = part_arguments_of symbols (filled symbols (under_types vs unfilled)) a (number j, one) in
         subst (IsDefined m run)
-        (sym ((λ t. made_of (v t) (e t)) ∙ ap (λ ds. record { name = constant_name names.abstraction; form = Def; ty = generic_tree symbols b; body = Some (abstractions ds (applied (Sym sub_abs_symbol) K)) }) (types-are vs)))
-        (IsDefined.abstraction names a f (generic_tree symbols b) K (constant_type-is b own.1) (part-of names a f j one i d p own.0 enc terms vs (own-distinct b) (abstraction-own names a)))
+        (sym ((λ t. made_of (v t) (e t)) ∙ ap
+        (λ ds. record {
+          name = constant_name names.abstraction;
+          form = Def;
+          ty = generic_tree symbols b;
+          body =
+              Some (abstractions ds (applied (Sym sub_abs_symbol) K));
+        }) (types-are vs)))
+        (IsDefined.abstraction names a f (generic_tree symbols b) K (constant_type-is b own.1)
+        (part-of names a f j one i d p own.0 enc terms vs (own-distinct b) (abstraction-own names a)))
     part-defined name c names a f j one i (inr (inr (inl e))) w d p meant enc terms =
         let v : name ≡ constant_name names.representation = w ∙ ap type_definition_name e in
         let b = representation_type names a in
@@ -254,8 +282,16 @@ module _ (m : List Declaration) (symbols : SymbolMap) where
         let own = meant-at c (type_representation names a f j one) e meant in
         let K = part_arguments_of symbols (filled symbols (under_types vs unfilled)) a (number j, one) in
         subst (IsDefined m run)
-        (sym ((λ t. made_of (v t) (e t)) ∙ ap (λ ds. record { name = constant_name names.representation; form = Def; ty = generic_tree symbols b; body = Some (abstractions ds (applied (Sym sub_rep_symbol) K)) }) (types-are vs)))
-        (IsDefined.representation names a f (generic_tree symbols b) K (constant_type-is b own.1) (part-of names a f j one i d p own.0 enc terms vs (own-distinct b) (representation-own names a)))
+        (sym ((λ t. made_of (v t) (e t)) ∙ ap
+        (λ ds. record {
+          name = constant_name names.representation;
+          form = Def;
+          ty = generic_tree symbols b;
+          body =
+              Some (abstractions ds (applied (Sym sub_rep_symbol) K));
+        }) (types-are vs)))
+        (IsDefined.representation names a f (generic_tree symbols b) K (constant_type-is b own.1)
+        (part-of names a f j one i d p own.0 enc terms vs (own-distinct b) (representation-own names a)))
     part-defined name c names a f j one i (inr (inr (inr k))) w d p meant enc terms = absurd k
 
     -- the declaration of a symbol is no theorem
@@ -289,7 +325,8 @@ module _ (m : List Declaration) (symbols : SymbolMap) where
     -- the declaration of a step without a proof
     pub step-given : (rows : HaveRows run) (name : List ℕ) (c : Content) (i : ℕ) (x : Step) (kind : StepKind) (js : List ℕ) (ss : List Sequent) (g : Parameters)
         → slice_get (steps_of run.made) i ≡ Some x
-        → c ≡ content_by (has_row x.kind) kind js ss g x.sequent → IsStepName run i x.kind name → Enc m (closed_form (sequent_at run.made i)) (made_of name c).ty → (made_of name c).body ≡ None → IsGiven m run (made_of name c)
+        → c ≡ content_by (has_row x.kind) kind js ss g x.sequent → IsStepName run i x.kind name
+        → Enc m (closed_form (sequent_at run.made i)) (made_of name c).ty → (made_of name c).body ≡ None → IsGiven m run (made_of name c)
     step-given rows name c i x kind js ss g at e w enc none = go (has_row x.kind) refl w
       where
         is_symbol : has_row x.kind ≡ false → made_of name c ≡ symbol name (made_of name c).ty
@@ -300,7 +337,8 @@ module _ (m : List Declaration) (symbols : SymbolMap) where
         go false row (IsStepName.an_export one v) = absurd (both_ways (has_row x.kind) row (rows i x one at))
         go false row (IsStepName.a_theorem out theorem v) = absurd (both_ways (has_row x.kind) row theorem)
         go false row (IsStepName.an_assumption out one k v) =
-            subst (IsGiven m run) (sym (is_symbol row ∙ ap (λ l. symbol l (made_of name c).ty) v)) (IsGiven.assumption (position_or_len (nat_eq i) run.assumptions) i (made_of name c).ty (at-place i run.assumptions one) enc)
+            subst (IsGiven m run) (sym (is_symbol row ∙ ap (λ l. symbol l (made_of name c).ty) v))
+            (IsGiven.assumption (position_or_len (nat_eq i) run.assumptions) i (made_of name c).ty (at-place i run.assumptions one) enc)
         go false row (IsStepName.a_law out k v) = absurd (both_ways (has_row x.kind) row (law-row x.kind k))
 
 module _ (run : Accepted) (named : HasNames run) (sound : IsSoundRun run) (rows : HaveRows run) (order : AreMadeInOrder [] (items_of (name_in run) run.made))
@@ -309,11 +347,13 @@ module _ (run : Accepted) (named : HasNames run) (sound : IsSoundRun run) (rows 
       → ContentMeant (image run) (symbols run named sound) (renumbered_content (number run named sound) z.content)
   content-of z i k =
       (All-at (BothMeant run named sound) (stays run named sound) (renumbered (number run named sound) z) (stays-meant run named sound order origins)
-      (IsIn-map (renumbered (number run named sound)) (kept (keep run named sound) (items run named sound)) z (IsIn-kept (keep run named sound) (items run named sound) z i k))).1
+      (IsIn-map (renumbered (number run named sound)) (kept (keep run named sound) (items run named sound)) z
+      (IsIn-kept (keep run named sound) (items run named sound) z i k))).1
 
   named-step : (j : ℕ) (x : Step) → slice_get (steps_of run.made) j ≡ Some x → IsStepName run j x.kind (step_name run j x.kind)
   named-step j x at =
-      step_name-is run j x.kind (λ idle. ap (is_one_of j) sound.assumptions ∙ subst (λ k. is_one_of k (assumed_from 0 (steps_of run.made)) ≡ true) (zero-plus j) (is-assumed 0 (steps_of run.made) j x at idle))
+      step_name-is run j x.kind (λ idle. ap (is_one_of j) sound.assumptions
+      ∙ subst (λ k. is_one_of k (assumed_from 0 (steps_of run.made)) ≡ true) (zero-plus j) (is-assumed 0 (steps_of run.made) j x at idle))
 
   -- What has no body was given
   pub item-given : (z : Item) → IsIn (items run named sound) z → keep run named sound z.symbol ≡ true → (declared run named sound z).body ≡ None
@@ -321,8 +361,10 @@ module _ (run : Accepted) (named : HasNames run) (sound : IsSoundRun run) (rows 
   item-given z i k none = go (All-at (Origin run run.made Always) (items run named sound) z origins i)
     where
       go : Origin run run.made Always z → IsGiven (image run) run (declared run named sound z)
-      go (Origin.of_symbol x one j e) = symbol-given (image run) (symbols run named sound) run (number run named sound) z.name z.content x one j e (content-of z i k) none
-      go (Origin.of_definition names c f one among_symbols j e) = absurd (part-body (image run) (symbols run named sound) run (number run named sound) z.name z.content names c f one j none)
+      go (Origin.of_symbol x one j e) = symbol-given (image run) (symbols run named sound) run (number run named sound) z.name z.content x one j e
+          (content-of z i k) none
+      go (Origin.of_definition names c f one among_symbols j e) =
+          absurd (part-body (image run) (symbols run named sound) run (number run named sound) z.name z.content names c f one j none)
       go (Origin.of_step j x kind js ss g p at e w) =
           step-given (image run) (symbols run named sound) run (number run named sound) rows z.name z.content j x kind js ss g at e
           (subst (IsStepName run j x.kind) (sym w) (named-step j x at))
@@ -332,7 +374,8 @@ module _ (run : Accepted) (named : HasNames run) (sound : IsSoundRun run) (rows 
           none
 
   asked : (z : Item) → IsIn (items run named sound) z → Asked (keep run named sound) (items run named sound) z
-  asked z i = content-asked (keep run named sound) [] (items run named sound) z (made-numbered (roots run named sound) [] (items run named sound) (tt {0}) order) i
+  asked z i = content-asked (keep run named sound) [] (items run named sound) z
+      (made-numbered (roots run named sound) [] (items run named sound) (tt {0}) order) i
 
   -- the premise of a type definition
   record PremiseOf (names : TypeNames) (c : HolType) (f : Term) (one : ℕ × Sequent) : Type 0 where
@@ -349,35 +392,47 @@ module _ (run : Accepted) (named : HasNames run) (sound : IsSoundRun run) (rows 
       → Holds (image run) (symbols run named sound) (number run named sound z.symbol) (renumbered_content (number run named sound) z.content)
   held-at z i k =
       All-at (HoldsItem (image run) (symbols run named sound)) (stays run named sound) (renumbered (number run named sound) z) stays-hold
-      (IsIn-map (renumbered (number run named sound)) (kept (keep run named sound) (items run named sound)) z (IsIn-kept (keep run named sound) (items run named sound) z i k))
+      (IsIn-map (renumbered (number run named sound)) (kept (keep run named sound) (items run named sound)) z
+      (IsIn-kept (keep run named sound) (items run named sound) z i k))
 
   premise-told : (z : Item) (i : IsIn (items run named sound) z) → keep run named sound z.symbol ≡ true
       → (names : TypeNames) (c : HolType) (f : Term) (one : ℕ × Sequent) → IsPart (asked z i).front names c f one.0 one.1
-      → IsIn (needs z.content) (number_key one.0) → IsPartPremise (image run) (symbols run named sound) names c (number run named sound one.0) one.1 → PremiseOf names c f one
+      → IsIn (needs z.content) (number_key one.0) → IsPartPremise (image run) (symbols run named sound) names c (number run named sound one.0) one.1
+      → PremiseOf names c f one
   premise-told z i k names c f one part needed p =
       let x = part.among.0.0 in
       let says_one : says x.content ≡ Some one.1 = part.among.0.3 in
       let inside = (asked z i).inside x part.among.0.1 in
-      let keeps : keep run named sound x.symbol ≡ true = (asked z i).kept k x part.among.0.1 (subst (IsIn (needs z.content)) (sym (says-gives_of x.symbol x.content one.1 says_one ∙ ap number_key part.among.0.2)) needed) in
+      let keeps : keep run named sound x.symbol ≡ true =
+      (asked z i).kept k x part.among.0.1
+      (subst (IsIn (needs z.content)) (sym (says-gives_of x.symbol x.content one.1 says_one ∙ ap number_key part.among.0.2)) needed) in
       let renamed = says-renumbered (number run named sound) x.content ∙ says_one in
       record {
         defines = part.defines;
         premise = p;
-        stands = subst (Enc (image run) (closed_form one.1)) (content-type run named sound x.name (renumbered_content (number run named sound) x.content) one.1 renamed) (item-stands run named sound order origins x inside keeps one.1 says_one);
+        stands = subst (Enc (image run) (closed_form one.1))
+            (content-type run named sound x.name (renumbered_content (number run named sound) x.content) one.1 renamed)
+            (item-stands run named sound order origins x inside keeps one.1 says_one);
         meant = content-terms run named sound (renumbered_content (number run named sound) x.content) one.1 renamed (content-of x inside keeps);
       }
 
   premise-of : (z : Item) → IsIn (items run named sound) z → keep run named sound z.symbol ≡ true
       → (names : TypeNames) (c : HolType) (f : Term) (one : ℕ × Sequent) → IsIn (type_contents names c f one) z.content → PremiseOf names c f one
   premise-of z i k names c f one (inl e) =
-      premise-told z i k names c f one (subst (IsContent (asked z i).front) e (asked z i).content) (subst (λ d. IsIn (needs d) (number_key one.0)) (sym e) (inl refl))
-      (subst (λ d. Holds (image run) (symbols run named sound) (number run named sound z.symbol) (renumbered_content (number run named sound) d)) e (held-at z i k)).is
+      premise-told z i k names c f one (subst (IsContent (asked z i).front) e (asked z i).content)
+      (subst (λ d. IsIn (needs d) (number_key one.0)) (sym e) (inl refl))
+      (subst (λ d. Holds (image run) (symbols run named sound) (number run named sound z.symbol) (renumbered_content (number run named sound) d)) e
+      (held-at z i k)).is
   premise-of z i k names c f one (inr (inl e)) =
-      premise-told z i k names c f one (subst (IsContent (asked z i).front) e (asked z i).content).0 (subst (λ d. IsIn (needs d) (number_key one.0)) (sym e) (inl refl))
-      (subst (λ d. Holds (image run) (symbols run named sound) (number run named sound z.symbol) (renumbered_content (number run named sound) d)) e (held-at z i k)).0
+      premise-told z i k names c f one (subst (IsContent (asked z i).front) e (asked z i).content).0
+      (subst (λ d. IsIn (needs d) (number_key one.0)) (sym e) (inl refl))
+      (subst (λ d. Holds (image run) (symbols run named sound) (number run named sound z.symbol) (renumbered_content (number run named sound) d)) e
+      (held-at z i k)).0
   premise-of z i k names c f one (inr (inr (inl e))) =
-      premise-told z i k names c f one (subst (IsContent (asked z i).front) e (asked z i).content).0 (subst (λ d. IsIn (needs d) (number_key one.0)) (sym e) (inl refl))
-      (subst (λ d. Holds (image run) (symbols run named sound) (number run named sound z.symbol) (renumbered_content (number run named sound) d)) e (held-at z i k)).0
+      premise-told z i k names c f one (subst (IsContent (asked z i).front) e (asked z i).content).0
+      (subst (λ d. IsIn (needs d) (number_key one.0)) (sym e) (inl refl))
+      (subst (λ d. Holds (image run) (symbols run named sound) (number run named sound z.symbol) (renumbered_content (number run named sound) d)) e
+      (held-at z i k)).0
   premise-of z i k names c f one (inr (inr (inr n))) = absurd n
 
   -- What is defined the run defined
@@ -387,10 +442,12 @@ module _ (run : Accepted) (named : HasNames run) (sound : IsSoundRun run) (rows 
     where
       go : Origin run run.made Always z → IsDefined (image run) run (declared run named sound z)
       go (Origin.of_symbol x one j e) =
-          symbol-defined (image run) (symbols run named sound) run (number run named sound) z.name z.content x (asked z i).front (asked z i).content one j e (content-of z i k) def
+          symbol-defined (image run) (symbols run named sound) run (number run named sound) z.name z.content x (asked z i).front (asked z i).content one j e
+          (content-of z i k) def
       go (Origin.of_definition names c f one among_symbols j e) =
           let p = premise-of z i k names c f one j in
-          part-defined (image run) (symbols run named sound) run (number run named sound) z.name z.content names c f one.0 one.1 among_symbols j e p.defines p.premise (content-of z i k) p.stands p.meant
+          part-defined (image run) (symbols run named sound) run (number run named sound) z.name z.content names c f one.0 one.1 among_symbols j e p.defines
+          p.premise (content-of z i k) p.stands p.meant
       go (Origin.of_step j x kind js ss g p at e w) =
           absurd (no_definition (symbols run named sound) (number run named sound) z.name (has_row x.kind) kind js ss g x.sequent
           (ap (λ c. (declaration_of (symbols run named sound) z.name (renumbered_content (number run named sound) c)).form) (sym e) ∙ def))
@@ -398,13 +455,16 @@ module _ (run : Accepted) (named : HasNames run) (sound : IsSoundRun run) (rows 
   -- What is proved has the name of a theorem
   pub item-theorem : (z : Item) → IsIn (items run named sound) z → (declared run named sound z).form ≡ Thm → IsTheoremName (declared run named sound z).name
   item-theorem z i thm =
-      subst IsTheoremName (sym (declaration-name (symbols run named sound) z.name (renumbered_content (number run named sound) z.content))) (go (All-at (Origin run run.made Always) (items run named sound) z origins i))
+      subst IsTheoremName (sym (declaration-name (symbols run named sound) z.name (renumbered_content (number run named sound) z.content)))
+      (go (All-at (Origin run run.made Always) (items run named sound) z origins i))
     where
       step-theorem : (b : Bool) (kind : StepKind) → has_row kind ≡ b → (j : ℕ) (own : StepKind) (js : List ℕ) (ss : List Sequent) (g : Parameters) (s : Sequent)
           → z.content ≡ content_by (has_row kind) own js ss g s → IsStepName run j kind z.name → IsTheoremName z.name
-      step-theorem true kind row j own js ss g s e (IsStepName.an_export one v) = IsTheoremName.export (record { number = position_or_len (nat_eq j) run.exports; is = v })
+      step-theorem true kind row j own js ss g s e (IsStepName.an_export one v) =
+          IsTheoremName.export (record { number = position_or_len (nat_eq j) run.exports; is = v })
       step-theorem true kind row j own js ss g s e (IsStepName.a_theorem out theorem v) = IsTheoremName.step j v
-      step-theorem true kind row j own js ss g s e (IsStepName.an_assumption out one k v) = let f : has_row kind ≡ false = ap has_row k in absurd (both_ways (has_row kind) f row)
+      step-theorem true kind row j own js ss g s e (IsStepName.an_assumption out one k v) = let f : has_row kind ≡ false =
+          ap has_row k in absurd (both_ways (has_row kind) f row)
       step-theorem true kind row j own js ss g s e (IsStepName.a_law out k v) = IsTheoremName.law j v
       step-theorem false kind row j own js ss g s e n =
           absurd (no_theorem (symbols run named sound) (number run named sound) z.name (has_row kind) row own js ss g s
@@ -412,6 +472,7 @@ module _ (run : Accepted) (named : HasNames run) (sound : IsSoundRun run) (rows 
 
       go : Origin run run.made Always z → IsTheoremName z.name
       go (Origin.of_symbol x one j e) = absurd (symbol-no_theorem (image run) (symbols run named sound) run (number run named sound) z.name z.content x j thm)
-      go (Origin.of_definition names c f one among_symbols j e) = absurd (part-no_theorem (image run) (symbols run named sound) run (number run named sound) z.name z.content names c f one j thm)
+      go (Origin.of_definition names c f one among_symbols j e) =
+          absurd (part-no_theorem (image run) (symbols run named sound) run (number run named sound) z.name z.content names c f one j thm)
       go (Origin.of_step j x kind js ss g p at e w) =
           step-theorem (has_row x.kind) x.kind refl j kind js ss g x.sequent e (subst (IsStepName run j x.kind) (sym w) (named-step j x at))

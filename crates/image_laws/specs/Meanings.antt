@@ -49,7 +49,10 @@ module _ (m : List Declaration) (symbols : SymbolMap) where
       (TypeMeant-type_under binders b f (function p.0 a) h.0 p.1.0).1.1.0
   TypeMeant-type_under binders b (term.Term.lam t c) a h e =
       let p = abstraction_type-is t (type_under (t ∷ binders) c) a e in
-      subst (TypeMeant m symbols) (sym p.1.1) (means_operator.MeansOperator.arrow refl, (h.0, (TypeMeant-type_under (t ∷ binders) (under t b h.0) c p.0 h.1 p.1.0, tt {0})))
+      subst (TypeMeant m symbols) (sym p.1.1) (
+        means_operator.MeansOperator.arrow refl,
+        (h.0, (TypeMeant-type_under (t ∷ binders) (under t b h.0) c p.0 h.1 p.1.0, tt {0})),
+      )
     where
       under : (t : HolType) → ((k : ℕ) (a : HolType) → slice_get binders k ≡ Some a → TypeMeant m symbols a) → TypeMeant m symbols t → (k : ℕ) (a : HolType)
           → slice_get (t ∷ binders) k ≡ Some a → TypeMeant m symbols a
@@ -67,16 +70,19 @@ module _ (m : List Declaration) (symbols : SymbolMap) where
 
       third : (b : Bool) → name_eq n ind_name ≡ b → (name_eq n ind_name ≡ true → n ≡ ind_name) → name_eq n bool_name ≡ false → name_eq n arrow_name ≡ false
           → MeansOperator m (operator_symbol symbols n k) n k
-      third true e is f g = at ind_symbol 0 (rw (g, f, e) refl) (rw (g, f, e) refl) (subst (λ l. MeansOperator m ind_symbol l 0) (sym (is e)) (means_operator.MeansOperator.individuals refl))
+      third true e is f g = at ind_symbol 0 (rw (g, f, e) refl) (rw (g, f, e) refl)
+          (subst (λ l. MeansOperator m ind_symbol l 0) (sym (is e)) (means_operator.MeansOperator.individuals refl))
       third false e is f g = let a : primitive_arity n ≡ None = rw (g, f, e) refl in absurd (cc)
 
       second : (b : Bool) → name_eq n bool_name ≡ b → (name_eq n bool_name ≡ true → n ≡ bool_name) → name_eq n arrow_name ≡ false
           → MeansOperator m (operator_symbol symbols n k) n k
-      second true f is g = at bool_symbol 0 (rw (g, f) refl) (rw (g, f) refl) (subst (λ l. MeansOperator m bool_symbol l 0) (sym (is f)) (means_operator.MeansOperator.truth_values refl))
+      second true f is g = at bool_symbol 0 (rw (g, f) refl) (rw (g, f) refl)
+          (subst (λ l. MeansOperator m bool_symbol l 0) (sym (is f)) (means_operator.MeansOperator.truth_values refl))
       second false f is g = third (name_eq n ind_name) refl (name_eq-Decides n ind_name).0 f g
 
       first : (b : Bool) → name_eq n arrow_name ≡ b → (name_eq n arrow_name ≡ true → n ≡ arrow_name) → MeansOperator m (operator_symbol symbols n k) n k
-      first true g is = at arr_symbol 2 (rw g refl) (rw g refl) (subst (λ l. MeansOperator m arr_symbol l 2) (sym (is g)) (means_operator.MeansOperator.arrow refl))
+      first true g is = at arr_symbol 2 (rw g refl) (rw g refl)
+          (subst (λ l. MeansOperator m arr_symbol l 2) (sym (is g)) (means_operator.MeansOperator.arrow refl))
       first false g is = second (name_eq n bool_name) refl (name_eq-Decides n bool_name).0 g
 
   -- a constant's symbol means it at this generic type
@@ -97,14 +103,19 @@ module _ (m : List Declaration) (symbols : SymbolMap) where
           → MeansConstant m s n (length (type_variables t)) (close_type (type_variables t) t) → GenericMeant n g
       at s t a e d =
           let same : t ≡ g = same_Some _ _ (sym a ∙ h) in
-          record { means = subst (MeantAt n) same (subst (λ r. MeansConstant m r n (length (type_variables t)) (close_type (type_variables t) t)) (sym e) d); is = own }
+          record {
+            means = subst (MeantAt n) same (subst (λ r. MeansConstant m r n (length (type_variables t)) (close_type (type_variables t) t)) (sym e) d);
+            is = own;
+          }
 
       second : (b : Bool) → name_eq n select_name ≡ b → (name_eq n select_name ≡ true → n ≡ select_name) → name_eq n equality_name ≡ false → GenericMeant n g
-      second true e is f = at select_symbol (select_type generic) (rw (f, e) refl) (rw (f, e) refl) (subst (λ l. MeansConstant m select_symbol l 1 means_constant.choice_type) (sym (is e)) (means_constant.MeansConstant.choice refl))
+      second true e is f = at select_symbol (select_type generic) (rw (f, e) refl) (rw (f, e) refl)
+          (subst (λ l. MeansConstant m select_symbol l 1 means_constant.choice_type) (sym (is e)) (means_constant.MeansConstant.choice refl))
       second false e is f = let a : primitive_type n ≡ None = rw (f, e) refl in absurd (cc)
 
       first : (b : Bool) → name_eq n equality_name ≡ b → (name_eq n equality_name ≡ true → n ≡ equality_name) → GenericMeant n g
-      first true e is = at eq_symbol (equality_type generic) (rw e refl) (rw e refl) (subst (λ l. MeansConstant m eq_symbol l 1 means_constant.equality_type) (sym (is e)) (means_constant.MeansConstant.equality refl))
+      first true e is = at eq_symbol (equality_type generic) (rw e refl) (rw e refl)
+          (subst (λ l. MeansConstant m eq_symbol l 1 means_constant.equality_type) (sym (is e)) (means_constant.MeansConstant.equality refl))
       first false e is = second (name_eq n select_name) refl (name_eq-Decides n select_name).0 e
 
   -- what an item's symbol means
@@ -112,7 +123,8 @@ module _ (m : List Declaration) (symbols : SymbolMap) where
   ItemMeant (operator n k) = MeansOperator m (operator_symbol symbols n k) n k
   ItemMeant (constant n a) = GenericMeant n a
   ItemMeant (defined_constant n a t) = GenericMeant n a
-  ItemMeant (type_operator names c u j one) = MeansOperator m (operator_symbol symbols names.operator (length names.variables)) names.operator (length names.variables)
+  ItemMeant (type_operator names c u j one) = MeansOperator m (operator_symbol symbols names.operator (length names.variables)) names.operator
+      (length names.variables)
   ItemMeant (type_abstraction names c u j one) = GenericMeant names.abstraction (abstraction_type names c)
   ItemMeant (type_representation names c u j one) = GenericMeant names.representation (representation_type names c)
   ItemMeant (unproved s) = Unit {0}
@@ -156,9 +168,11 @@ module _ (m : List Declaration) (symbols : SymbolMap) where
     taken-meant n t (items.ConstantTaken.declared a h i) ty = constant-meant n t a (meant-of (constant n a) h) i ty
     taken-meant n t (items.ConstantTaken.defined a u h i) ty = constant-meant n t a (meant-of (defined_constant n a u) h) i ty
     taken-meant n t (items.ConstantTaken.abstraction names c u j one h e i) ty =
-        constant-meant n t (abstraction_type names c) (subst (λ (l : Name). GenericMeant l (abstraction_type names c)) (sym e) (meant-of (type_abstraction names c u j one) h)) i ty
+        constant-meant n t (abstraction_type names c)
+        (subst (λ (l : Name). GenericMeant l (abstraction_type names c)) (sym e) (meant-of (type_abstraction names c u j one) h)) i ty
     taken-meant n t (items.ConstantTaken.representation names c u j one h e i) ty =
-        constant-meant n t (representation_type names c) (subst (λ (l : Name). GenericMeant l (representation_type names c)) (sym e) (meant-of (type_representation names c u j one) h)) i ty
+        constant-meant n t (representation_type names c)
+        (subst (λ (l : Name). GenericMeant l (representation_type names c)) (sym e) (meant-of (type_representation names c u j one) h)) i ty
 
     pub term-meant : (t : Term) → TermTaken before t → TermMeant m symbols t
     term-meant (term.Term.free n t) h = type-meant t h
@@ -168,7 +182,8 @@ module _ (m : List Declaration) (symbols : SymbolMap) where
     term-meant (term.Term.lam t b) h = (type-meant t h.0, term-meant b h.1)
 
     terms-meant : (s : Sequent) → items.SequentTaken before s → AllByRecursion (TermMeant m symbols) (terms_of s)
-    terms-meant s h = All-append (TermMeant m symbols) s.hypotheses (s.conclusion ∷ []) (All-weaker (TermTaken before) (TermMeant m symbols) term-meant s.hypotheses h.hypotheses) (term-meant s.conclusion h.conclusion, tt {0})
+    terms-meant s h = All-append (TermMeant m symbols) s.hypotheses (s.conclusion ∷ [])
+        (All-weaker (TermTaken before) (TermMeant m symbols) term-meant s.hypotheses h.hypotheses) (term-meant s.conclusion h.conclusion, tt {0})
 
     pub content-meant : (c : Content) → IsContent before c → ContentMeant c
     content-meant (operator n k) h = tt
@@ -196,7 +211,8 @@ module _ (m : List Declaration) (symbols : SymbolMap) where
         → constant_symbol symbols n ≡ i → generic_type symbols n ≡ a → TypeMeant m symbols a → GenericMeant n a
     named-constant n a c is other w d e t g meant = record {
       means = subst (MeantAt n) g
-          (constant-means m symbols n (ap (symbol_type m) t ∙ ty c d ∙ ap Some (e ∙ ap (generic_tree symbols) (sym g))) is other (ap (symbol_name m) t ∙ text c d ∙ w) (subst (TypeMeant m symbols) (sym g) meant));
+          (constant-means m symbols n (ap (symbol_type m) t ∙ ty c d ∙ ap Some (e ∙ ap (generic_tree symbols) (sym g))) is other
+          (ap (symbol_name m) t ∙ text c d ∙ w) (subst (TypeMeant m symbols) (sym g) meant));
       is = g;
     }
 
@@ -233,10 +249,12 @@ module _ (m : List Declaration) (symbols : SymbolMap) where
     symbol-meant before (type_operator names c u j one) (IsSymbolName.a_constant o is e w) new tells meant d = absurd (cc)
     symbol-meant before (type_abstraction names c u j one) (IsSymbolName.a_constant o is e w) new tells meant d =
         let same : o ≡ names.abstraction = sym (same_Some _ _ e) in
-        named-constant names.abstraction (abstraction_type names c) (type_abstraction names c u j one) (subst IsName same is) new.0 (w ∙ ap (λ k. codes "c_" ++ mangled k) same) d refl tells.0 tells.1 meant.1
+        named-constant names.abstraction (abstraction_type names c) (type_abstraction names c u j one) (subst IsName same is) new.0
+        (w ∙ ap (λ k. codes "c_" ++ mangled k) same) d refl tells.0 tells.1 meant.1
     symbol-meant before (type_representation names c u j one) (IsSymbolName.a_constant o is e w) new tells meant d =
         let same : o ≡ names.representation = sym (same_Some _ _ e) in
-        named-constant names.representation (representation_type names c) (type_representation names c u j one) (subst IsName same is) new.0 (w ∙ ap (λ k. codes "c_" ++ mangled k) same) d refl tells.0 tells.1 meant.1
+        named-constant names.representation (representation_type names c) (type_representation names c u j one) (subst IsName same is) new.0
+        (w ∙ ap (λ k. codes "c_" ++ mangled k) same) d refl tells.0 tells.1 meant.1
     symbol-meant before (unproved s) (IsSymbolName.a_constant o is e w) new tells meant d = absurd (cc)
     symbol-meant before (step kind js qs g s) (IsSymbolName.a_constant o is e w) new tells meant d = absurd (cc)
     symbol-meant before (constant n a) (IsSymbolName.a_constant o is e w) new tells meant d =

@@ -73,7 +73,8 @@ is-assumed k (y ∷ xs) zero x at idle =
     subst (λ j. is_one_of j (assumed_from k (y ∷ xs)) ≡ true) z
     (ap (λ b. is_one_of k (cond b (assumed_from (k + 1) xs) (k ∷ assumed_from (k + 1) xs))) other ∙ self-one k (assumed_from (k + 1) xs))
 is-assumed k (y ∷ xs) (suc i) x at idle =
-    let z : k + 1 + i ≡ k + suc i = omega arith in go (infers y.kind) (subst (λ j. is_one_of j (assumed_from (k + 1) xs) ≡ true) z (is-assumed (k + 1) xs i x at idle))
+    let z : k + 1 + i ≡ k + suc i = omega arith in go (infers y.kind)
+    (subst (λ j. is_one_of j (assumed_from (k + 1) xs) ≡ true) z (is-assumed (k + 1) xs i x at idle))
   where
     go : (b : Bool) → is_one_of (k + suc i) (assumed_from (k + 1) xs) ≡ true
         → is_one_of (k + suc i) (cond b (assumed_from (k + 1) xs) (k ∷ assumed_from (k + 1) xs)) ≡ true
@@ -162,7 +163,11 @@ numeral-low n = first_digit-low (numeral n) (numeral-digits n)
 
 -- the second byte of a step's name is a digit; of the first only `E` begins the name of an export
 pub step_name-low : (run : Accepted) (i : ℕ) (k : StepKind) (name : List ℕ) → IsStepName run i k name → (first_byte name ≤ 84) × (second_byte name ≤ 57)
-step_name-low run i k name (IsStepName.an_export e n) = let p = ap first_byte n in let q = ap second_byte n in let r = numeral-low (position_or_len (nat_eq i) run.exports) in (omega (arith, p), omega (arith, q, r))
-step_name-low run i k name (IsStepName.an_assumption d e y n) = let p = ap first_byte n in let q = ap second_byte n in let r = numeral-low (position_or_len (nat_eq i) run.assumptions) in (omega (arith, p), omega (arith, q, r))
-step_name-low run i k name (IsStepName.a_law e y n) = let p = ap first_byte n in let q = ap second_byte n in let r = numeral-low i in (omega (arith, p), omega (arith, q, r))
-step_name-low run i k name (IsStepName.a_theorem e y n) = let p = ap first_byte n in let q = ap second_byte n in let r = numeral-low i in (omega (arith, p), omega (arith, q, r))
+step_name-low run i k name (IsStepName.an_export e n) = let p = ap first_byte n in let q = ap second_byte n in let r =
+    numeral-low (position_or_len (nat_eq i) run.exports) in (omega (arith, p), omega (arith, q, r))
+step_name-low run i k name (IsStepName.an_assumption d e y n) = let p = ap first_byte n in let q = ap second_byte n in let r =
+    numeral-low (position_or_len (nat_eq i) run.assumptions) in (omega (arith, p), omega (arith, q, r))
+step_name-low run i k name (IsStepName.a_law e y n) = let p = ap first_byte n in let q = ap second_byte n in let r =
+    numeral-low i in (omega (arith, p), omega (arith, q, r))
+step_name-low run i k name (IsStepName.a_theorem e y n) = let p = ap first_byte n in let q = ap second_byte n in let r =
+    numeral-low i in (omega (arith, p), omega (arith, q, r))

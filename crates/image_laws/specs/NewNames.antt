@@ -63,10 +63,13 @@ symbol_name-is symbols (Symbol.defined (Definition.type_operator names a f)) amo
 
 pub definition_name-is : (symbols : List Symbol) (names : TypeNames) (a : HolType) (f : Term) (one : ℕ × Sequent)
     → IsIn symbols (Symbol.defined (Definition.type_operator names a f))
-    → SymbolHasName (Symbol.defined (Definition.type_operator names a f)) → (c : Content) → IsIn (type_contents names a f one) c → IsSymbolName symbols c (type_definition_name c)
+    → SymbolHasName (Symbol.defined (Definition.type_operator names a f)) → (c : Content) → IsIn (type_contents names a f one) c
+    → IsSymbolName symbols c (type_definition_name c)
 definition_name-is symbols names a f one among h c (inl e) = IsSymbolName.an_operator names a f one.0 one.1 h.0 among e (ap type_definition_name e)
-definition_name-is symbols names a f one among h c (inr (inl e)) = IsSymbolName.a_constant names.abstraction h.1 (ap constant_named e) (ap type_definition_name e)
-definition_name-is symbols names a f one among h c (inr (inr (inl e))) = IsSymbolName.a_constant names.representation h.2 (ap constant_named e) (ap type_definition_name e)
+definition_name-is symbols names a f one among h c (inr (inl e)) =
+    IsSymbolName.a_constant names.abstraction h.1 (ap constant_named e) (ap type_definition_name e)
+definition_name-is symbols names a f one among h c (inr (inr (inl e))) =
+    IsSymbolName.a_constant names.representation h.2 (ap constant_named e) (ap type_definition_name e)
 definition_name-is symbols names a f one among h c (inr (inr (inr k))) = absurd k
 
 -- An operator is defined once: all type definitions of its name have one arity.
@@ -98,7 +101,8 @@ first-last : (n : Name) (k : ℕ) (ss : List Symbol) (x : Symbol) → Takes ss x
 first-last n k ss (Symbol.input_constant m) t e = absurd (cc)
 first-last n k ss (Symbol.input_operator m j) t e = absurd (cc)
 first-last n k ss (Symbol.defined (Definition.constant m u)) t e = absurd (cc)
-first-last n k ss (Symbol.defined (Definition.type_operator names a f)) (taking.Takes.type_operator new typed closed variables) e = go (name_eq n names.operator) refl (name_eq-Decides n names.operator).0 e
+first-last n k ss (Symbol.defined (Definition.type_operator names a f)) (taking.Takes.type_operator new typed closed variables) e =
+    go (name_eq n names.operator) refl (name_eq-Decides n names.operator).0 e
   where
     x : Symbol
     x = Symbol.defined (Definition.type_operator names a f)
@@ -109,7 +113,8 @@ first-last n k ss (Symbol.defined (Definition.type_operator names a f)) (taking.
     go true is f e =
         let free : first_defined_arity n ss ≡ None =
         subst (λ (m : Name). first_defined_arity m ss ≡ None) (sym (f is))
-        (second-none (primitive_arity names.operator) (first_defined_arity names.operator ss) (or_parts (is_some (operator_arity ss names.operator)) _ new.operator).0) in
+        (second-none (primitive_arity names.operator) (first_defined_arity names.operator ss)
+        (or_parts (is_some (operator_arity ss names.operator)) _ new.operator).0) in
         first-new n ss (x ∷ []) free ∙ ap (λ b. option_or (cond b (Some (length names.variables)) None) None) is ∙ e
 
 pub arity-known : (xs : List Made) → IsProof xs → (x : Symbol) → IsIn (symbols_of xs) x → (n : Name) (k : ℕ) → defined_arity n x ≡ Some k
@@ -226,12 +231,14 @@ symbols-apart made p before y c name new i (IsSymbolName.an_input n is e w) (IsS
     one-constant m n c y.content before y new i refl (ap constant_named e) (ap constant_named f) (mangled-injective n m is js (two_fronts 105 95 _ _ name w v))
 symbols-apart made p before y c name new i (IsSymbolName.an_input n is e w) (IsSymbolName.an_input_operator m k js f v) = other_front 105 116 _ _ name refl w v
 symbols-apart made p before y c name new i (IsSymbolName.an_input n is e w) (IsSymbolName.a_constant m js f v) = other_front 105 99 _ _ name refl w v
-symbols-apart made p before y c name new i (IsSymbolName.an_input n is e w) (IsSymbolName.an_operator names a g x s js among f v) = other_front 105 111 _ _ name refl w v
+symbols-apart made p before y c name new i (IsSymbolName.an_input n is e w) (IsSymbolName.an_operator names a g x s js among f v) =
+    other_front 105 111 _ _ name refl w v
 symbols-apart made p before y c name new i (IsSymbolName.a_constant n is e w) (IsSymbolName.a_constant m js f v) =
     one-constant m n c y.content before y new i refl e f (mangled-injective n m is js (two_fronts 99 95 _ _ name w v))
 symbols-apart made p before y c name new i (IsSymbolName.a_constant n is e w) (IsSymbolName.an_input_operator m k js f v) = other_front 99 116 _ _ name refl w v
 symbols-apart made p before y c name new i (IsSymbolName.a_constant n is e w) (IsSymbolName.an_input m js f v) = other_front 99 105 _ _ name refl w v
-symbols-apart made p before y c name new i (IsSymbolName.a_constant n is e w) (IsSymbolName.an_operator names a g x s js among f v) = other_front 99 111 _ _ name refl w v
+symbols-apart made p before y c name new i (IsSymbolName.a_constant n is e w) (IsSymbolName.an_operator names a g x s js among f v) =
+    other_front 99 111 _ _ name refl w v
 symbols-apart made p before y c name new i (IsSymbolName.an_input_operator n k is e w) (IsSymbolName.an_input_operator m j js f v) =
     let both = after_digits (numeral k) (numeral j) (mangled n) (mangled m) (numeral-digits k) (numeral-digits j) (one_byte 116 _ _ name w v) in
     let same : n ≡ m = mangled-injective n m is js both.1 in
@@ -239,21 +246,28 @@ symbols-apart made p before y c name new i (IsSymbolName.an_input_operator n k i
     one-operator m j c before y new i (e ∙ (λ t. operator (same t) (count t))) f
 symbols-apart made p before y c name new i (IsSymbolName.an_input_operator n k is e w) (IsSymbolName.an_input m js f v) = other_front 116 105 _ _ name refl w v
 symbols-apart made p before y c name new i (IsSymbolName.an_input_operator n k is e w) (IsSymbolName.a_constant m js f v) = other_front 116 99 _ _ name refl w v
-symbols-apart made p before y c name new i (IsSymbolName.an_input_operator n k is e w) (IsSymbolName.an_operator names a g x s js among f v) = other_front 116 111 _ _ name refl w v
+symbols-apart made p before y c name new i (IsSymbolName.an_input_operator n k is e w) (IsSymbolName.an_operator names a g x s js among f v) =
+    other_front 116 111 _ _ name refl w v
 symbols-apart made p before y c name new i (IsSymbolName.an_operator names a f x s is among e w) (IsSymbolName.an_operator others b g z t js there k v) =
     let same : names.operator ≡ others.operator = mangled-injective names.operator others.operator is js (two_fronts 111 95 _ _ name w v) in
-    let first = arity-known made p (Symbol.defined (Definition.type_operator names a f)) among names.operator (length names.variables) (defined_arity-own names a f names.operator refl) in
-    let second = arity-known made p (Symbol.defined (Definition.type_operator others b g)) there names.operator (length others.variables) (defined_arity-own others b g names.operator same) in
+    let first = arity-known made p (Symbol.defined (Definition.type_operator names a f)) among names.operator (length names.variables)
+    (defined_arity-own names a f names.operator refl) in
+    let second = arity-known made p (Symbol.defined (Definition.type_operator others b g)) there names.operator (length others.variables)
+    (defined_arity-own others b g names.operator same) in
     let count : length names.variables ≡ length others.variables = same_Some _ _ (sym first ∙ second) in
     one-defined names others a b f g x z s t c before y same count new i e k
-symbols-apart made p before y c name new i (IsSymbolName.an_operator names a f x s is among e w) (IsSymbolName.an_input m js k v) = other_front 111 105 _ _ name refl w v
-symbols-apart made p before y c name new i (IsSymbolName.an_operator names a f x s is among e w) (IsSymbolName.a_constant m js k v) = other_front 111 99 _ _ name refl w v
-symbols-apart made p before y c name new i (IsSymbolName.an_operator names a f x s is among e w) (IsSymbolName.an_input_operator m j js k v) = other_front 111 116 _ _ name refl w v
+symbols-apart made p before y c name new i (IsSymbolName.an_operator names a f x s is among e w) (IsSymbolName.an_input m js k v) =
+    other_front 111 105 _ _ name refl w v
+symbols-apart made p before y c name new i (IsSymbolName.an_operator names a f x s is among e w) (IsSymbolName.a_constant m js k v) =
+    other_front 111 99 _ _ name refl w v
+symbols-apart made p before y c name new i (IsSymbolName.an_operator names a f x s is among e w) (IsSymbolName.an_input_operator m j js k v) =
+    other_front 111 116 _ _ name refl w v
 
 pub symbol_name-high : (symbols : List Symbol) (c : Content) (name : List ℕ) → IsSymbolName symbols c name → (97 ≤ first_byte name) × (second_byte name ≤ 95)
 symbol_name-high symbols c name (IsSymbolName.an_input n is e w) = let p = ap first_byte w in let q = ap second_byte w in (omega (arith, p), omega (arith, q))
 symbol_name-high symbols c name (IsSymbolName.a_constant n is e w) = let p = ap first_byte w in let q = ap second_byte w in (omega (arith, p), omega (arith, q))
-symbol_name-high symbols c name (IsSymbolName.an_operator names a f x s is among e w) = let p = ap first_byte w in let q = ap second_byte w in (omega (arith, p), omega (arith, q))
+symbol_name-high symbols c name (IsSymbolName.an_operator names a f x s is among e w) = let p = ap first_byte w in let q =
+    ap second_byte w in (omega (arith, p), omega (arith, q))
 symbol_name-high symbols c name (IsSymbolName.an_input_operator n k is e w) =
     let p = ap first_byte w in
     let q = ap second_byte w in

@@ -47,16 +47,22 @@ module _ (run : Accepted) (made : List Made) where
       → ((c : Content) → IsIn cs c → IsIn (contents_of x) c)
       → HaveOrigins run made ps (numbered (name_in run n (Made.symbol x)) i cs)
   symbol-origins x among n i ps [] f = tt
-  symbol-origins x among n i ps (c ∷ cs) f =
-      (Origin.of_symbol x among (f c (inl refl)) refl, symbol-origins x among n (i + 1) (ps ++ record { symbol = i; name = symbol_name x; content = c } ∷ []) cs (λ d k. f d (inr k)))
+  symbol-origins x among n i ps (c ∷ cs) f = (
+    Origin.of_symbol x among (f c (inl refl)) refl,
+    symbol-origins x among n (i + 1) (ps ++ record { symbol = i; name = symbol_name x; content = c } ∷ []) cs (λ d k. f d (inr k)),
+  )
 
   -- the contents of a type definition
   definition-origins : (names : TypeNames) (c : HolType) (f : Term) (k : ℕ) (one : ℕ × Sequent)
       → IsIn (symbols_of made) (Symbol.defined (Definition.type_operator names c f)) → (n i : ℕ) (ps : List Item) (cs : List Content)
-      → ((d : Content) → IsIn cs d → IsIn (type_contents names c f one) d) → HaveOrigins run made ps (numbered (name_in run n (Made.type_definition names c f k)) i cs)
+      → ((d : Content) → IsIn cs d → IsIn (type_contents names c f one) d)
+      → HaveOrigins run made ps (numbered (name_in run n (Made.type_definition names c f k)) i cs)
   definition-origins names c f k one among n i ps [] g = tt
-  definition-origins names c f k one among n i ps (d ∷ cs) g =
-      (Origin.of_definition names c f one among (g d (inl refl)) refl, definition-origins names c f k one among n (i + 1) (ps ++ record { symbol = i; name = type_definition_name d; content = d } ∷ []) cs (λ e l. g e (inr l)))
+  definition-origins names c f k one among n i ps (d ∷ cs) g = (
+    Origin.of_definition names c f one among (g d (inl refl)) refl,
+    definition-origins names c f k one among n (i + 1) (ps ++ record { symbol = i; name = type_definition_name d; content = d } ∷ []) cs
+        (λ e l. g e (inr l)),
+  )
 
   origins-after : (before xs : List Made) (ps : List Item) → made ≡ before ++ xs → length (said_by ps) ≡ length (steps_of before) → HaveOrigins run made [] ps
       → HaveOrigins run made [] (items_after (name_in run) ps xs)
@@ -65,7 +71,9 @@ module _ (run : Accepted) (made : List Made) where
       let n = length (said_by ps) in
       let new = numbered (name_in run n (Made.symbol x)) (length ps) (contents_of x) in
       let among : IsIn (symbols_of made) x =
-      subst (λ m. IsIn (symbols_of m) x) (sym whole) (subst (λ l. IsIn l x) (sym (symbols_of-append before (Made.symbol x ∷ xs))) (IsIn-right (symbols_of before) (symbols_of (Made.symbol x ∷ xs)) x (inl refl))) in
+      subst (λ m. IsIn (symbols_of m) x) (sym whole)
+      (subst (λ l. IsIn l x) (sym (symbols_of-append before (Made.symbol x ∷ xs)))
+      (IsIn-right (symbols_of before) (symbols_of (Made.symbol x ∷ xs)) x (inl refl))) in
       let none = symbol-said (name_in run n (Made.symbol x)) (length ps) x in
       let longer : length (said_by (ps ++ new)) ≡ length (steps_of (before ++ Made.symbol x ∷ [])) =
       length-said_by ps new ∙ ap (λ l. n + length l) none ∙ ap (λ k. k + 0) long
@@ -79,7 +87,8 @@ module _ (run : Accepted) (made : List Made) where
       let one = premise_at ps k in
       let new = numbered (name_in run n m) (length ps) (type_contents names c f one) in
       let among : IsIn (symbols_of made) x =
-      subst (λ m. IsIn (symbols_of m) x) (sym whole) (subst (λ l. IsIn l x) (sym (symbols_of-append before (m ∷ xs))) (IsIn-right (symbols_of before) (symbols_of (m ∷ xs)) x (inl refl))) in
+      subst (λ m. IsIn (symbols_of m) x) (sym whole)
+      (subst (λ l. IsIn l x) (sym (symbols_of-append before (m ∷ xs))) (IsIn-right (symbols_of before) (symbols_of (m ∷ xs)) x (inl refl))) in
       let none : said_by new ≡ [] = refl in
       let longer : length (said_by (ps ++ new)) ≡ length (steps_of (before ++ m ∷ [])) =
       length-said_by ps new ∙ ap (λ l. n + length l) none ∙ ap (λ k. k + 0) long
@@ -90,7 +99,8 @@ module _ (run : Accepted) (made : List Made) where
       let n = length (said_by ps) in
       let new = numbered (name_in run n (Made.step x)) (length ps) (contents ps (Made.step x)) in
       let at : slice_get (steps_of made) n ≡ Some x =
-      ap (λ m. slice_get (steps_of m) n) whole ∙ ap (λ l. slice_get l n) (steps_of-append before (Made.step x ∷ xs)) ∙ ap (slice_get (steps_of before ++ x ∷ steps_of xs)) long
+      ap (λ m. slice_get (steps_of m) n) whole ∙ ap (λ l. slice_get l n) (steps_of-append before (Made.step x ∷ xs))
+      ∙ ap (slice_get (steps_of before ++ x ∷ steps_of xs)) long
       ∙ slice_get-seam (steps_of before) (steps_of xs) x in
       let z : Item = record { symbol = length ps; name = step_name run n x.kind; content = step_content ps x } in
       let y = needed (sequents_at ps x.premises) x in
@@ -99,7 +109,8 @@ module _ (run : Accepted) (made : List Made) where
       let content : step_content ps x ≡ content_by (has_row x.kind) y.kind js ss y.parameters x.sequent =
       λ i. content_by (needed-row (sequents_at ps x.premises) x i) y.kind js ss y.parameters (needed-sequent (sequents_at ps x.premises) x i) in
       let longer : length (said_by (ps ++ new)) ≡ length (steps_of (before ++ Made.step x ∷ [])) =
-      length-said_by ps new ∙ ap (λ k. n + k) (length-said_by_one z x.sequent (ap says content ∙ says-step (has_row x.kind) y.kind js ss y.parameters x.sequent)) ∙ ap (λ k. k + 1) long
+      length-said_by ps new ∙ ap (λ k. n + k)
+      (length-said_by_one z x.sequent (ap says content ∙ says-step (has_row x.kind) y.kind js ss y.parameters x.sequent)) ∙ ap (λ k. k + 1) long
       ∙ sym (ap length (steps_of-append before (Made.step x ∷ [])) ∙ length-append (steps_of before) (x ∷ [])) in
       origins-after (before ++ Made.step x ∷ []) xs (ps ++ new) (whole ∙ sym (append_assoc before (Made.step x ∷ []) xs)) longer
       (origins-append [] ps new h (Origin.of_step n x y.kind js ss y.parameters refl at content refl, tt {0}))

@@ -56,7 +56,8 @@ module _ (j : ℕ) where
   any-at (y ∷ ys) x (inr i) e = or_right (occurs j y) (list_any (occurs j) ys) (any-at ys x i e)
 
   premise-occurs : (scope : Scope) (a : ℕ) (q : Sequent) → j ≡ a → occurs j (premise_tree scope (a, q)) ≡ true
-  premise-occurs scope a q e = head-occurs j (Sym a) (map scope.types (type_variables_of q) ++ map scope.terms (free_variables_of q) ++ map scope.proofs q.hypotheses) ((unsigned_Decides j a).1 e)
+  premise-occurs scope a q e = head-occurs j (Sym a)
+      (map scope.types (type_variables_of q) ++ map scope.terms (free_variables_of q) ++ map scope.proofs q.hypotheses) ((unsigned_Decides j a).1 e)
 
   within : (f : ℕ) (xs : List Tree) (x : Tree) → IsIn xs x → occurs j x ≡ true → occurs j (applied (Sym f) xs) ≡ true
   within f xs x i e = argument-occurs j (Sym f) xs (any-at xs x i e)
@@ -75,9 +76,12 @@ module _ (j : ℕ) where
         → occurs j (prove_hyp_tree symbols scope one.conclusion (a, one) (b, two)) ≡ true
     hypothesis-occurs a b one two i e =
         let inner = set_proof one.conclusion (premise_tree scope (a, one)) scope in
-        let own : inner.proofs one.conclusion ≡ premise_tree scope (a, one) = ap (λ t. cond t (premise_tree scope (a, one)) (scope.proofs one.conclusion)) ((term_eq-Decides one.conclusion one.conclusion).1 refl) in
-        within b (map inner.types (type_variables_of two) ++ map inner.terms (free_variables_of two) ++ map inner.proofs two.hypotheses) (inner.proofs one.conclusion)
-        (IsIn-right (map inner.types (type_variables_of two) ++ map inner.terms (free_variables_of two)) (map inner.proofs two.hypotheses) (inner.proofs one.conclusion) (mapped inner.proofs two.hypotheses one.conclusion i))
+        let own : inner.proofs one.conclusion ≡ premise_tree scope (a, one) =
+        ap (λ t. cond t (premise_tree scope (a, one)) (scope.proofs one.conclusion)) ((term_eq-Decides one.conclusion one.conclusion).1 refl) in
+        within b (map inner.types (type_variables_of two) ++ map inner.terms (free_variables_of two) ++ map inner.proofs two.hypotheses)
+        (inner.proofs one.conclusion)
+        (IsIn-right (map inner.types (type_variables_of two) ++ map inner.terms (free_variables_of two)) (map inner.proofs two.hypotheses)
+        (inner.proofs one.conclusion) (mapped inner.proofs two.hypotheses one.conclusion i))
         (ap (occurs j) own ∙ premise-occurs scope a one e)
 
     abbrev Uses : StepKind → List Sequent → Parameters → List ℕ → Type 0
@@ -88,7 +92,8 @@ module _ (j : ℕ) where
 
     -- a part uses the theorem that it is made from, and so does a law
     pub part-used : (inner : Scope) (s : ℕ) (c : HolType) (a : ℕ) (one : Sequent) → j ≡ a → occurs j (part_tree symbols inner s c (a, one)) ≡ true
-    part-used inner s c a one e = within s (part_arguments_of symbols inner c (a, one)) (premise_tree inner (a, one)) (inr (inr (inr (inl refl)))) (premise-occurs inner a one e)
+    part-used inner s c a one e = within s (part_arguments_of symbols inner c (a, one)) (premise_tree inner (a, one)) (inr (inr (inr (inl refl))))
+        (premise-occurs inner a one e)
 
     law-used : (b d : HolType) (t u : Term) (s : ℕ) (c : HolType) (a : ℕ) (one : Sequent) → IsIn (a ∷ []) j
         → occurs j (law_tree symbols scope b d t u s c (a, one)) ≡ true
@@ -96,14 +101,18 @@ module _ (j : ℕ) where
     law-used b d t u s c a one (inl same) =
         let D = term_of (type_tree symbols scope.types b) in
         let part = part_tree symbols (lifted scope) s c (a, one) in
-        within fun_ext_symbol (type_tree symbols scope.types b ∷ type_tree symbols scope.types d ∷ term_tree symbols scope (lam b t) ∷ term_tree symbols scope (lam b u) ∷ Lam D (App part (Var 0)) ∷ [])
-        (Lam D (App part (Var 0))) (inr (inr (inr (inr (inl refl))))) (under_lam D (App part (Var 0)) (ap (λ x. x || occurs j (Var 0)) (part-used (lifted scope) s c a one same)))
+        within fun_ext_symbol
+        (type_tree symbols scope.types b ∷ type_tree symbols scope.types d ∷ term_tree symbols scope (lam b t) ∷ term_tree symbols scope (lam b u) ∷ Lam D
+        (App part (Var 0)) ∷ [])
+        (Lam D (App part (Var 0))) (inr (inr (inr (inr (inl refl)))))
+        (under_lam D (App part (Var 0)) (ap (λ x. x || occurs j (Var 0)) (part-used (lifted scope) s c a one same)))
 
     -- and so do the laws in version 5
     first-used : (names : TypeNames) (c : HolType) (a : ℕ) (one : Sequent) → IsIn (a ∷ []) j
         → occurs j (first_law_free_tree symbols scope names c (a, one)) ≡ true
     first-used names c a one (inr none) = absurd none
-    first-used names c a one (inl same) = ap (λ b. b || occurs j (term_tree symbols scope (new_variable names))) (part-used (filled symbols scope.types) sub_abs_rep_symbol c a one same)
+    first-used names c a one (inl same) = ap (λ b. b || occurs j (term_tree symbols scope (new_variable names)))
+        (part-used (filled symbols scope.types) sub_abs_rep_symbol c a one same)
 
     second-used : (names : TypeNames) (c : HolType) (a : ℕ) (one : Sequent) → IsIn (a ∷ []) j
         → occurs j (second_law_free_tree symbols scope names c (a, one)) ≡ true
@@ -112,7 +121,8 @@ module _ (j : ℕ) where
         let x = term_tree symbols scope (old_variable c) in
         let last = App (part_tree symbols (filled symbols scope.types) sub_rep_abs_symbol c (a, one)) x in
         within sym_symbol
-        (type_tree symbols scope.types bool ∷ term_tree symbols scope (equation c (represented names c (abstracted names c (old_variable c))) (old_variable c)) ∷ term_tree symbols scope (app (predicate one.conclusion) (old_variable c)) ∷ last ∷ [])
+        (type_tree symbols scope.types bool ∷ term_tree symbols scope (equation c (represented names c (abstracted names c (old_variable c))) (old_variable c))
+        ∷ term_tree symbols scope (app (predicate one.conclusion) (old_variable c)) ∷ last ∷ [])
         last (inr (inr (inr (inl refl)))) (ap (λ b. b || occurs j x) (part-used (filled symbols scope.types) sub_rep_abs_symbol c a one same))
 
     -- The proof of a step uses its premises
@@ -125,11 +135,16 @@ module _ (j : ℕ) where
     premises-used before kind js premises given s (rule.recorded is) among used = none before kind given js among
     premises-used before kind js premises given s (rule.first_law {names = names} {one = one} d e) among used =
         let w = one-premise before js one among in
-        subst (Uses kind premises given) (sym w.1) (law-used (new_type names) (new_type names) (abstracted names (type_or (witness one.conclusion)) (represented names (type_or (witness one.conclusion)) (bound 0))) (bound 0) sub_abs_rep_symbol (type_or (witness one.conclusion)) w.0 one)
+        subst (Uses kind premises given) (sym w.1)
+        (law-used (new_type names) (new_type names)
+        (abstracted names (type_or (witness one.conclusion)) (represented names (type_or (witness one.conclusion)) (bound 0))) (bound 0) sub_abs_rep_symbol
+        (type_or (witness one.conclusion)) w.0 one)
     premises-used before kind js premises given s (rule.second_law {names = names} {one = one} d e) among used =
         let w = one-premise before js one among in
         let c = type_or (witness one.conclusion) in
-        subst (Uses kind premises given) (sym w.1) (law-used c bool (equation c (represented names c (abstracted names c (bound 0))) (bound 0)) (app (predicate one.conclusion) (bound 0)) sub_rep_abs_symbol c w.0 one)
+        subst (Uses kind premises given) (sym w.1)
+        (law-used c bool (equation c (represented names c (abstracted names c (bound 0))) (bound 0)) (app (predicate one.conclusion) (bound 0))
+        sub_rep_abs_symbol c w.0 one)
     premises-used before kind js premises given s (rule.first_law_free {names = names} {one = one} d e) among used =
         let w = one-premise before js one among in
         subst (Uses kind premises given) (sym w.1) (first-used names (type_or (witness one.conclusion)) w.0 one)
@@ -138,7 +153,8 @@ module _ (j : ℕ) where
         subst (Uses kind premises given) (sym w.1) (second-used names (type_or (witness one.conclusion)) w.0 one)
     premises-used before kind js premises given s (rule.eq_mp {one = one} {two = two} e p i) among used =
         let w = two-premises before js one two among in
-        let xs : List Tree = term_tree symbols scope (left_side one.conclusion) ∷ term_tree symbols scope (right_side one.conclusion) ∷ premise_tree scope (w.0, one) ∷ premise_tree scope (w.1, two) ∷ [] in
+        let xs : List Tree = term_tree symbols scope (left_side one.conclusion) ∷ term_tree symbols scope (right_side one.conclusion) ∷ premise_tree scope
+        (w.0, one) ∷ premise_tree scope (w.1, two) ∷ [] in
         subst (Uses kind premises given) (sym w.2) (λ k. elim k [
           | inl same ↦ within eq_mp_symbol xs (premise_tree scope (w.0, one)) (inr (inr (inl refl))) (premise-occurs scope w.0 one same)
           | inr (inl same) ↦ within eq_mp_symbol xs (premise_tree scope (w.1, two)) (inr (inr (inr (inl refl)))) (premise-occurs scope w.1 two same)
@@ -146,39 +162,58 @@ module _ (j : ℕ) where
         ])
     premises-used before kind js premises given s (rule.abs_thm {v = v} {one = one} e p i) among used =
         let w = one-premise before js one among in
-        let xs : List Tree = type_tree symbols scope.types (v.1) ∷ type_tree symbols scope.types (equated_type one.conclusion) ∷ Lam (term_of (type_tree symbols scope.types (v.1))) (term_tree symbols (under_term v scope) (left_side one.conclusion)) ∷ Lam (term_of (type_tree symbols scope.types (v.1))) (term_tree symbols (under_term v scope) (right_side one.conclusion)) ∷ Lam (term_of (type_tree symbols scope.types (v.1))) (premise_tree (under_term v scope) (w.0, one)) ∷ [] in
+        let xs : List Tree = type_tree symbols scope.types (v.1) ∷ type_tree symbols scope.types (equated_type one.conclusion) ∷ Lam
+        (term_of (type_tree symbols scope.types (v.1))) (term_tree symbols (under_term v scope) (left_side one.conclusion)) ∷ Lam
+        (term_of (type_tree symbols scope.types (v.1))) (term_tree symbols (under_term v scope) (right_side one.conclusion)) ∷ Lam
+        (term_of (type_tree symbols scope.types (v.1))) (premise_tree (under_term v scope) (w.0, one)) ∷ [] in
         subst (Uses kind premises given) (sym w.1) (λ k. elim k [
-          | inl same ↦ within fun_ext_symbol xs _ (inr (inr (inr (inr (inl refl))))) (under_lam (term_of (type_tree symbols scope.types v.1)) (premise_tree (under_term v scope) (w.0, one)) (premise-occurs (under_term v scope) w.0 one same))
+          | inl same ↦ within fun_ext_symbol xs _ (inr (inr (inr (inr (inl refl)))))
+              (under_lam (term_of (type_tree symbols scope.types v.1)) (premise_tree (under_term v scope) (w.0, one))
+              (premise-occurs (under_term v scope) w.0 one same))
           | inr no_more ↦ absurd no_more
         ])
     premises-used before kind js premises given s (rule.app_thm {one = one} {two = two} e p i) among used =
         let w = two-premises before js one two among in
-        let xs : List Tree = type_tree symbols scope.types (argument_type (equated_type one.conclusion)) ∷ type_tree symbols scope.types (result_type (equated_type one.conclusion)) ∷ term_tree symbols scope (left_side one.conclusion) ∷ term_tree symbols scope (right_side one.conclusion) ∷ term_tree symbols scope (left_side two.conclusion) ∷ term_tree symbols scope (right_side two.conclusion) ∷ premise_tree scope (w.0, one) ∷ premise_tree scope (w.1, two) ∷ [] in
+        let xs : List Tree = type_tree symbols scope.types (argument_type (equated_type one.conclusion)) ∷ type_tree symbols scope.types
+        (result_type (equated_type one.conclusion)) ∷ term_tree symbols scope (left_side one.conclusion) ∷ term_tree symbols scope
+        (right_side one.conclusion) ∷ term_tree symbols scope (left_side two.conclusion) ∷ term_tree symbols scope (right_side two.conclusion) ∷
+        premise_tree scope (w.0, one) ∷ premise_tree scope (w.1, two) ∷ [] in
         subst (Uses kind premises given) (sym w.2) (λ k. elim k [
-          | inl same ↦ within app_thm_symbol xs (premise_tree scope (w.0, one)) (inr (inr (inr (inr (inr (inr (inl refl))))))) (premise-occurs scope w.0 one same)
-          | inr (inl same) ↦ within app_thm_symbol xs (premise_tree scope (w.1, two)) (inr (inr (inr (inr (inr (inr (inr (inl refl)))))))) (premise-occurs scope w.1 two same)
+          | inl same ↦ within app_thm_symbol xs (premise_tree scope (w.0, one)) (inr (inr (inr (inr (inr (inr (inl refl)))))))
+              (premise-occurs scope w.0 one same)
+          | inr (inl same) ↦ within app_thm_symbol xs (premise_tree scope (w.1, two)) (inr (inr (inr (inr (inr (inr (inr (inl refl))))))))
+              (premise-occurs scope w.1 two same)
           | inr (inr no_more) ↦ absurd no_more
         ])
     premises-used before kind js premises given s (rule.deduct_antisym {one = one} {two = two} e) among used =
         let w = two-premises before js one two among in
-        let xs : List Tree = term_tree symbols scope (one.conclusion) ∷ term_tree symbols scope (two.conclusion) ∷ Lam (proof_of (term_tree symbols scope (one.conclusion))) (premise_tree (under_proof one.conclusion scope) (w.1, two)) ∷ Lam (proof_of (term_tree symbols scope (two.conclusion))) (premise_tree (under_proof two.conclusion scope) (w.0, one)) ∷ [] in
+        let xs : List Tree = term_tree symbols scope (one.conclusion) ∷ term_tree symbols scope (two.conclusion) ∷ Lam
+        (proof_of (term_tree symbols scope (one.conclusion))) (premise_tree (under_proof one.conclusion scope) (w.1, two)) ∷ Lam
+        (proof_of (term_tree symbols scope (two.conclusion))) (premise_tree (under_proof two.conclusion scope) (w.0, one)) ∷ [] in
         let p = one.conclusion in
         let q = two.conclusion in
         subst (Uses kind premises given) (sym w.2) (λ k. elim k [
-          | inl same ↦ within prop_ext_symbol xs _ (inr (inr (inr (inl refl)))) (under_lam (proof_of (term_tree symbols scope q)) (premise_tree (under_proof q scope) (w.0, one)) (premise-occurs (under_proof q scope) w.0 one same))
-          | inr (inl same) ↦ within prop_ext_symbol xs _ (inr (inr (inl refl))) (under_lam (proof_of (term_tree symbols scope p)) (premise_tree (under_proof p scope) (w.1, two)) (premise-occurs (under_proof p scope) w.1 two same))
+          | inl same ↦ within prop_ext_symbol xs _ (inr (inr (inr (inl refl))))
+              (under_lam (proof_of (term_tree symbols scope q)) (premise_tree (under_proof q scope) (w.0, one))
+              (premise-occurs (under_proof q scope) w.0 one same))
+          | inr (inl same) ↦ within prop_ext_symbol xs _ (inr (inr (inl refl)))
+              (under_lam (proof_of (term_tree symbols scope p)) (premise_tree (under_proof p scope) (w.1, two))
+              (premise-occurs (under_proof p scope) w.1 two same))
           | inr (inr no_more) ↦ absurd no_more
         ])
     premises-used before kind js premises given s (rule.sym {one = one} e p) among used =
         let w = one-premise before js one among in
-        let xs : List Tree = type_tree symbols scope.types (equated_type one.conclusion) ∷ term_tree symbols scope (left_side one.conclusion) ∷ term_tree symbols scope (right_side one.conclusion) ∷ premise_tree scope (w.0, one) ∷ [] in
+        let xs : List Tree = type_tree symbols scope.types (equated_type one.conclusion) ∷ term_tree symbols scope (left_side one.conclusion) ∷ term_tree
+        symbols scope (right_side one.conclusion) ∷ premise_tree scope (w.0, one) ∷ [] in
         subst (Uses kind premises given) (sym w.1) (λ k. elim k [
           | inl same ↦ within sym_symbol xs (premise_tree scope (w.0, one)) (inr (inr (inr (inl refl)))) (premise-occurs scope w.0 one same)
           | inr no_more ↦ absurd no_more
         ])
     premises-used before kind js premises given s (rule.trans {one = one} {two = two} e p i) among used =
         let w = two-premises before js one two among in
-        let xs : List Tree = type_tree symbols scope.types (equated_type one.conclusion) ∷ term_tree symbols scope (left_side one.conclusion) ∷ term_tree symbols scope (right_side one.conclusion) ∷ term_tree symbols scope (right_side two.conclusion) ∷ premise_tree scope (w.0, one) ∷ premise_tree scope (w.1, two) ∷ [] in
+        let xs : List Tree = type_tree symbols scope.types (equated_type one.conclusion) ∷ term_tree symbols scope (left_side one.conclusion) ∷ term_tree
+        symbols scope (right_side one.conclusion) ∷ term_tree symbols scope (right_side two.conclusion) ∷ premise_tree scope (w.0, one) ∷ premise_tree scope
+        (w.1, two) ∷ [] in
         subst (Uses kind premises given) (sym w.2) (λ k. elim k [
           | inl same ↦ within trans_symbol xs (premise_tree scope (w.0, one)) (inr (inr (inr (inr (inl refl))))) (premise-occurs scope w.0 one same)
           | inr (inl same) ↦ within trans_symbol xs (premise_tree scope (w.1, two)) (inr (inr (inr (inr (inr (inl refl)))))) (premise-occurs scope w.1 two same)

@@ -78,7 +78,8 @@ module _ (roots : List Key) (items : List Item) where
         elim (source xs k.0 (subst (λ l. IsIn (wanted_from roots l) k.0) (sym rest) k.1)) [
           | Source.from_root i ↦ IsReachedItem.root k.0 i k.2
           | Source.from_item middle2 after2 u split want i ↦
-              let whole2 : items ≡ (before ++ x ∷ middle2) ++ u ∷ after2 = whole ∙ ap (λ l. before ++ x ∷ l) split ∙ sym (append_assoc before (x ∷ middle2) (u ∷ after2)) in
+              let whole2 : items ≡ (before ++ x ∷ middle2) ++ u ∷ after2 =
+              whole ∙ ap (λ l. before ++ x ∷ l) split ∙ sym (append_assoc before (x ∷ middle2) (u ∷ after2)) in
               IsReachedItem.needed u k.0
               (wanted-reached (before ++ x ∷ []) xs (whole ∙ sym (append_assoc before (x ∷ []) xs)) middle2 after2 u split want)
               (subst (λ l. IsIn l u) (sym whole2) (IsIn-right (before ++ x ∷ middle2) (u ∷ after2) u (inl refl)))

@@ -62,12 +62,19 @@ content-says x c h = ap says h.is ∙ says-step (has_row x.kind) h.kind h.premis
 pub item_name-is : (run : Accepted) → HasNames run → run.assumptions ≡ assumed_from 0 (steps_of run.made) → (P : ℕ → Type 0) (z : Item)
     → Origin run run.made P z → IsItemName run P z
 item_name-is run named assumed P z (Origin.of_symbol x among i e) =
-    IsItemName.by_symbol (subst (IsSymbolName (symbols_of run.made) z.content) (sym e) (symbol_name-is (symbols_of run.made) x among (All-at SymbolHasName (symbols_of run.made) x named.symbols among) z.content i))
+    IsItemName.by_symbol
+    (subst (IsSymbolName (symbols_of run.made) z.content) (sym e)
+    (symbol_name-is (symbols_of run.made) x among (All-at SymbolHasName (symbols_of run.made) x named.symbols among) z.content i))
 item_name-is run named assumed P z (Origin.of_definition names c f one among i e) =
-    IsItemName.by_symbol (subst (IsSymbolName (symbols_of run.made) z.content) (sym e) (definition_name-is (symbols_of run.made) names c f one among (All-at SymbolHasName (symbols_of run.made) (Symbol.defined (Definition.type_operator names c f)) named.symbols among) z.content i))
+    IsItemName.by_symbol
+    (subst (IsSymbolName (symbols_of run.made) z.content) (sym e)
+    (definition_name-is (symbols_of run.made) names c f one among
+    (All-at SymbolHasName (symbols_of run.made) (Symbol.defined (Definition.type_operator names c f)) named.symbols among) z.content i))
 item_name-is run named assumed P z (Origin.of_step i x kind js ss g p at e f) =
     IsItemName.by_step i x p at (record { kind = kind; premises = js; sequents = ss; parameters = g; is = e })
-    (subst (IsStepName run i x.kind) (sym f) (step_name-is run i x.kind (λ idle. ap (is_one_of i) assumed ∙ subst (λ k. is_one_of k (assumed_from 0 (steps_of run.made)) ≡ true) (zero-plus i) (is-assumed 0 (steps_of run.made) i x at idle))))
+    (subst (IsStepName run i x.kind) (sym f)
+    (step_name-is run i x.kind (λ idle. ap (is_one_of i) assumed
+    ∙ subst (λ k. is_one_of k (assumed_from 0 (steps_of run.made)) ≡ true) (zero-plus i) (is-assumed 0 (steps_of run.made) i x at idle))))
 
 -- each item has another name than those before it
 abbrev AreApart : List Item → List Item → Type 0
@@ -89,12 +96,14 @@ module _ (run : Accepted) where
 
   still-passed : (before : List Item) (y z : Item) → Passed before y → Passed (before ++ z ∷ []) y
   still-passed before y z (IsItemName.by_symbol h) = IsItemName.by_symbol h
-  still-passed before y z (IsItemName.by_step i x l at told h) = let n = length-said_by before (z ∷ []) in IsItemName.by_step i x (omega (arith, l, n)) at told h
+  still-passed before y z (IsItemName.by_step i x l at told h) = let n =
+      length-said_by before (z ∷ []) in IsItemName.by_step i x (omega (arith, l, n)) at told h
 
   now-passed : (before : List Item) (z : Item) → Next before z → Passed (before ++ z ∷ []) z
   now-passed before z (IsItemName.by_symbol h) = IsItemName.by_symbol h
   now-passed before z (IsItemName.by_step i x e at told h) =
-      let n = length-said_by before (z ∷ []) in let one = length-said_by_one z x.sequent (content-says x z.content told) in IsItemName.by_step i x (omega (arith, e, n, one)) at told h
+      let n = length-said_by before (z ∷ []) in let one =
+      length-said_by_one z x.sequent (content-says x z.content told) in IsItemName.by_step i x (omega (arith, e, n, one)) at told h
 
   high-low : (a : ℕ) → 97 ≤ a → a ≤ 84 → ⊥
   high-low a h l = omega (arith, h, l)
@@ -104,9 +113,11 @@ module _ (run : Accepted) where
     item-apart before y z new i (IsItemName.by_symbol h) (IsItemName.by_symbol k) e =
         symbols-apart run.made proof before y z.content z.name new i (subst (IsSymbolName (symbols_of run.made) y.content) e h) k
     item-apart before y z new i (IsItemName.by_symbol h) (IsItemName.by_step j x p at told k) e =
-        high-low (first_byte z.name) (symbol_name-high (symbols_of run.made) y.content z.name (subst (IsSymbolName (symbols_of run.made) y.content) e h)).0 (step_name-low run j x.kind z.name k).0
+        high-low (first_byte z.name) (symbol_name-high (symbols_of run.made) y.content z.name (subst (IsSymbolName (symbols_of run.made) y.content) e h)).0
+        (step_name-low run j x.kind z.name k).0
     item-apart before y z new i (IsItemName.by_step j x p at told k) (IsItemName.by_symbol h) e =
-        high-low (first_byte z.name) (symbol_name-high (symbols_of run.made) z.content z.name h).0 (step_name-low run j x.kind z.name (subst (IsStepName run j x.kind) e k)).0
+        high-low (first_byte z.name) (symbol_name-high (symbols_of run.made) z.content z.name h).0
+        (step_name-low run j x.kind z.name (subst (IsStepName run j x.kind) e k)).0
     item-apart before y z new i (IsItemName.by_step j x p at told k) (IsItemName.by_step l w q there told_other r) e =
         let same = same-step run j l x.kind w.kind z.name (subst (IsStepName run j x.kind) e k) r in
         omega (arith, p, q, same)
@@ -116,7 +127,8 @@ module _ (run : Accepted) where
     items-apart before (z ∷ zs) h o k = (
       All-each (λ (y : Item). y.name ≡ z.name → ⊥) before (λ y i. item-apart before y z o.1 i (All-at (Passed before) before y h i) k.0),
       items-apart (before ++ z ∷ []) zs
-          (All-append (Passed (before ++ z ∷ [])) before (z ∷ []) (All-weaker (Passed before) (Passed (before ++ z ∷ [])) (λ y p. still-passed before y z p) before h) (now-passed before z k.0, tt {0}))
+          (All-append (Passed (before ++ z ∷ [])) before (z ∷ [])
+          (All-weaker (Passed before) (Passed (before ++ z ∷ [])) (λ y p. still-passed before y z p) before h) (now-passed before z k.0, tt {0}))
           o.3 k.1,
     )
 
@@ -127,7 +139,8 @@ AreDistinct (z ∷ zs) = AllByRecursion (λ (y : Item). z.name ≡ y.name → �
 
 later-apart : (before zs : List Item) (z : Item) → IsIn before z → AreApart before zs → AllByRecursion (λ (y : Item). z.name ≡ y.name → ⊥) zs
 later-apart before [] z i h = tt
-later-apart before (y ∷ zs) z i h = (All-at (λ (x : Item). x.name ≡ y.name → ⊥) before z h.0 i, later-apart (before ++ y ∷ []) zs z (IsIn-left before (y ∷ []) z i) h.1)
+later-apart before (y ∷ zs) z i h =
+    (All-at (λ (x : Item). x.name ≡ y.name → ⊥) before z h.0 i, later-apart (before ++ y ∷ []) zs z (IsIn-left before (y ∷ []) z i) h.1)
 
 apart-distinct : (before zs : List Item) → AreApart before zs → AreDistinct zs
 apart-distinct before [] h = tt
@@ -173,14 +186,16 @@ module _ (symbols : SymbolMap) (number : ℕ → ℕ) where
   pub declared-name : (x : Item) → (declared x).name ≡ x.name
   declared-name x = declaration-name symbols x.name (renumbered_content number x.content)
 
-  pub All-declared : (P : List ℕ → Type 0) (xs : List Item) → AllByRecursion (λ (x : Item). P x.name) xs → AllByRecursion (λ (d : Declaration). P d.name) (map (declaration symbols) (map (renumbered number) xs))
+  pub All-declared : (P : List ℕ → Type 0) (xs : List Item) → AllByRecursion (λ (x : Item). P x.name) xs
+      → AllByRecursion (λ (d : Declaration). P d.name) (map (declaration symbols) (map (renumbered number) xs))
   All-declared P [] h = tt
   All-declared P (x ∷ xs) h = (subst P (sym (declared-name x)) h.0, All-declared P xs h.1)
 
   declared-other : (xs : List Item) → AreDistinct xs → HaveOtherNames (map (declaration symbols) (map (renumbered number) xs))
   declared-other [] h = tt
   declared-other (x ∷ xs) h = (
-    subst (λ n. AllByRecursion (λ (e : Declaration). n ≡ e.name → ⊥) (map (declaration symbols) (map (renumbered number) xs))) (sym (declared-name x)) (All-declared (λ n. x.name ≡ n → ⊥) xs h.0),
+    subst (λ n. AllByRecursion (λ (e : Declaration). n ≡ e.name → ⊥) (map (declaration symbols) (map (renumbered number) xs))) (sym (declared-name x))
+        (All-declared (λ n. x.name ≡ n → ⊥) xs h.0),
     declared-other xs h.1,
   )
 
@@ -197,26 +212,31 @@ none-named (b ∷ bs) name h = go (bytes_eq b.name name) (bytes_eq-Decides b.nam
     go true f k = absurd (h.0 (f refl))
     go false f k = k
 
-new-names : (before ds : List Declaration) → AllByRecursion (λ (d : Declaration). AllByRecursion (λ (b : Declaration). b.name ≡ d.name → ⊥) before) ds → HaveOtherNames ds → HaveNewNames before ds
+new-names : (before ds : List Declaration) → AllByRecursion (λ (d : Declaration). AllByRecursion (λ (b : Declaration). b.name ≡ d.name → ⊥) before) ds
+    → HaveOtherNames ds → HaveNewNames before ds
 new-names before [] h k = tt
 new-names before (d ∷ ds) h k = (
   none-named before d.name h.0,
   new-names (before ++ d ∷ []) ds
       (All-each (λ (e : Declaration). AllByRecursion (λ (b : Declaration). b.name ≡ e.name → ⊥) (before ++ d ∷ [])) ds
-      (λ e i. All-append (λ (b : Declaration). b.name ≡ e.name → ⊥) before (d ∷ []) (All-at (λ (e : Declaration). AllByRecursion (λ (b : Declaration). b.name ≡ e.name → ⊥) before) ds e h.1 i)
+      (λ e i. All-append (λ (b : Declaration). b.name ≡ e.name → ⊥) before (d ∷ [])
+      (All-at (λ (e : Declaration). AllByRecursion (λ (b : Declaration). b.name ≡ e.name → ⊥) before) ds e h.1 i)
       (All-at (λ (e : Declaration). d.name ≡ e.name → ⊥) ds e k.0 i, tt {0})))
       k.1,
 )
 
 names-append : (before ds es : List Declaration) → HaveNewNames before ds → HaveNewNames (before ++ ds) es → HaveNewNames before (ds ++ es)
 names-append before [] es h k = subst (λ b. HaveNewNames b es) (append-nil before) k
-names-append before (d ∷ ds) es h k = (h.0, names-append (before ++ d ∷ []) ds es h.1 (subst (λ b. HaveNewNames b es) (sym (append_assoc before (d ∷ []) ds)) k))
+names-append before (d ∷ ds) es h k =
+    (h.0, names-append (before ++ d ∷ []) ds es h.1 (subst (λ b. HaveNewNames b es) (sym (append_assoc before (d ∷ []) ds)) k))
 
 pub reserved-high : AllByRecursion (λ (b : Declaration). 97 ≤ second_byte b.name) (signature ++ lemmas)
-reserved-high = list_all-All (λ (b : Declaration). nat_le 97 (second_byte b.name)) (λ b. 97 ≤ second_byte b.name) (λ b e. at_most 97 (second_byte b.name) e) (signature ++ lemmas) refl
+reserved-high = list_all-All (λ (b : Declaration). nat_le 97 (second_byte b.name)) (λ b. 97 ≤ second_byte b.name) (λ b e. at_most 97 (second_byte b.name) e)
+    (signature ++ lemmas) refl
 
 reserved-other : (name : List ℕ) → second_byte name ≤ 95 → AllByRecursion (λ (b : Declaration). b.name ≡ name → ⊥) (signature ++ lemmas)
-reserved-other name l = All-weaker (λ (b : Declaration). 97 ≤ second_byte b.name) (λ b. b.name ≡ name → ⊥) (λ b h e. let s = ap second_byte e in omega (arith, h, l, s)) (signature ++ lemmas) reserved-high
+reserved-other name l = All-weaker (λ (b : Declaration). 97 ≤ second_byte b.name) (λ b. b.name ≡ name → ⊥)
+    (λ b h e. let s = ap second_byte e in omega (arith, h, l, s)) (signature ++ lemmas) reserved-high
 
 -- shaped declarations with new names are a module's
 shaped-module : (m ds : List Declaration) → IsSound m → AreShaped m ds → HaveNewNames (signature ++ m) ds → order.AreDeclared (signature ++ m) ds
@@ -225,7 +245,8 @@ shaped-module m (d ∷ ds) sound h k =
     let o = shaped-over m d sound h.0 in (
       record { new_name = k.0; ty = o.0; body = o.1 },
       subst (λ b. order.AreDeclared b ds) (sym (append_assoc signature m (d ∷ [])))
-          (shaped-module (m ++ d ∷ []) ds (IsSound-after m d sound (shaped-IsTypedAfter m sound d h.0)) h.1 (subst (λ b. HaveNewNames b ds) (append_assoc signature m (d ∷ [])) k.1)),
+          (shaped-module (m ++ d ∷ []) ds (IsSound-after m d sound (shaped-IsTypedAfter m sound d h.0)) h.1
+          (subst (λ b. HaveNewNames b ds) (append_assoc signature m (d ∷ [])) k.1)),
     )
 
 module _ (run : Accepted) (named : HasNames run) (sound : IsSoundRun run) where
@@ -252,7 +273,8 @@ module _ (run : Accepted) (named : HasNames run) (sound : IsSoundRun run) where
       let distinct = apart-distinct [] items (items-apart run sound.proof [] items (tt {0}) carried.in_order names) in
       let other : HaveOtherNames ds = declared-other symbols (symbol_of keep) (kept keep items) (kept-distinct keep items distinct) in
       let low : AllByRecursion (λ (d : Declaration). second_byte d.name ≤ 95) ds =
-      All-declared symbols (symbol_of keep) (λ n. second_byte n ≤ 95) (kept keep items) (All-kept keep (λ (z : Item). second_byte z.name ≤ 95) items (items-low [] items names)) in
+      All-declared symbols (symbol_of keep) (λ n. second_byte n ≤ 95) (kept keep items)
+      (All-kept keep (λ (z : Item). second_byte z.name ≤ 95) items (items-low [] items names)) in
       shaped-module [] (lemmas ++ ds) (WellTyped-IsSound [] (tt {0})) carried.shaped
       (names-append signature lemmas ds (refl, (refl, tt {0}))
       (new-names (signature ++ lemmas) ds (All-weaker (λ (d : Declaration). second_byte d.name ≤ 95) _ (λ d l. reserved-other d.name l) ds low) other))

@@ -47,9 +47,11 @@ use Rattle.lp_binding_laws.specs.LookUps.{slice_get-seam}
 within-all : (m : List Made) → IsOver m → AllByRecursion SequentWithin (sequents_of m)
 within-all m made.Each.empty = tt
 within-all m (made.Each.more {made = before} (Made.symbol x) p h is) =
-    subst (AllByRecursion SequentWithin) (sym (ap sequents_of is ∙ sequents_of-append before (Made.symbol x ∷ []) ∙ append-nil (sequents_of before))) (within-all before p)
+    subst (AllByRecursion SequentWithin) (sym (ap sequents_of is ∙ sequents_of-append before (Made.symbol x ∷ []) ∙ append-nil (sequents_of before)))
+    (within-all before p)
 within-all m (made.Each.more {made = before} (Made.type_definition names c f i) p h is) =
-    subst (AllByRecursion SequentWithin) (sym (ap sequents_of is ∙ sequents_of-append before (Made.type_definition names c f i ∷ []) ∙ append-nil (sequents_of before))) (within-all before p)
+    subst (AllByRecursion SequentWithin)
+    (sym (ap sequents_of is ∙ sequents_of-append before (Made.type_definition names c f i ∷ []) ∙ append-nil (sequents_of before))) (within-all before p)
 within-all m (made.Each.more {made = before} (Made.step x) p h is) =
     subst (AllByRecursion SequentWithin) (sym (ap sequents_of is ∙ sequents_of-append before (Made.step x ∷ [])))
     (All-append SequentWithin (sequents_of before) (x.sequent ∷ []) (within-all before p) (h.within, tt {0}))
@@ -78,7 +80,8 @@ module _ (number : ℕ → ℕ) where
   name-renumbered ss c name (IsSymbolName.an_input n is e w) = IsSymbolName.an_input n is (ap (renumbered_content number) e) w
   name-renumbered ss c name (IsSymbolName.an_input_operator n k is e w) = IsSymbolName.an_input_operator n k is (ap (renumbered_content number) e) w
   name-renumbered ss c name (IsSymbolName.a_constant n is e w) = IsSymbolName.a_constant n is (constant_named-renumbered c ∙ e) w
-  name-renumbered ss c name (IsSymbolName.an_operator names a f j one is among e w) = IsSymbolName.an_operator names a f (number j) one is among (ap (renumbered_content number) e) w
+  name-renumbered ss c name (IsSymbolName.an_operator names a f j one is among e w) =
+      IsSymbolName.an_operator names a f (number j) one is among (ap (renumbered_content number) e) w
 
   kind-renumbered : (run : Accepted) (z : Item) → IsKind run z → IsKind run (renumbered number z)
   kind-renumbered run z (IsKind.naming h) = IsKind.naming (name-renumbered (symbols_of run.made) z.content z.name h)
@@ -167,7 +170,8 @@ module _ (run : Accepted) (named : HasNames run) (sound : IsSoundRun run) where
       → AllByRecursion BothMeant before → AllByRecursion BothMeant stays
   all-meant before [] whole h k kinds meant = subst (AllByRecursion BothMeant) (sym (whole ∙ append-nil before)) meant
   all-meant before (z ∷ zs) whole h k kinds meant =
-      all-meant (before ++ z ∷ []) zs (whole ∙ sym (append_assoc before (z ∷ []) zs)) h.3 k.3 kinds.1 (All-append BothMeant before (z ∷ []) meant ((one kinds.0, made_from), tt {0}))
+      all-meant (before ++ z ∷ []) zs (whole ∙ sym (append_assoc before (z ∷ []) zs)) h.3 k.3 kinds.1
+      (All-append BothMeant before (z ∷ []) meant ((one kinds.0, made_from), tt {0}))
     where
       made_from : ContentMeant m symbols z.content
       made_from = content-meant m symbols before (All-weaker BothMeant (λ (y : Item). ItemMeant m symbols y.content) (λ y b. b.0) before meant) z.content h.2
@@ -206,19 +210,23 @@ module _ (run : Accepted) (named : HasNames run) (sound : IsSoundRun run) where
 
   has-instances : (s : Sequent) → AllByRecursion (TermMeant m symbols) (terms_of s) → HasInstances symbols s
   has-instances s h = record {
-    hypotheses = All-weaker (TermMeant m symbols) (AreInstances symbols) meant-instances s.hypotheses (All-left (TermMeant m symbols) s.hypotheses (s.conclusion ∷ []) h);
+    hypotheses = All-weaker (TermMeant m symbols) (AreInstances symbols) meant-instances s.hypotheses
+        (All-left (TermMeant m symbols) s.hypotheses (s.conclusion ∷ []) h);
     conclusion = meant-instances s.conclusion (All-right (TermMeant m symbols) s.hypotheses (s.conclusion ∷ []) h).0;
   }
 
   module _ (order : AreMadeInOrder [] items) (origins : AllByRecursion (Origin run run.made Always) items) where
     pub kinds : AllByRecursion (IsKind run) items
-    kinds = All-weaker (Origin run run.made Always) (IsKind run) (λ z o. kind-of run Always z (item_name-is run named sound.assumptions Always z o)) items origins
+    kinds = All-weaker (Origin run run.made Always) (IsKind run) (λ z o. kind-of run Always z (item_name-is run named sound.assumptions Always z o)) items
+        origins
 
     pub stays-made : AreMade [] stays
     stays-made = image-made keep [] items refl (made-numbered roots [] items (tt {0}) order)
 
     kept-kinds : (xs : List Item) → AllByRecursion (IsKind run) xs → AllByRecursion (IsKind run) (map (renumbered number) (kept keep xs))
-    kept-kinds xs h = All-mapped (IsKind run) (renumbered number) (kept keep xs) (All-each (λ z. IsKind run (renumbered number z)) (kept keep xs) (λ z i. kind-renumbered number run z (All-at (IsKind run) xs z h (IsIn-kept_of keep xs z i).0)))
+    kept-kinds xs h = All-mapped (IsKind run) (renumbered number) (kept keep xs)
+        (All-each (λ z. IsKind run (renumbered number z)) (kept keep xs)
+        (λ z i. kind-renumbered number run z (All-at (IsKind run) xs z h (IsIn-kept_of keep xs z i).0)))
 
     -- each symbol of the module means what it stands for
     pub stays-meant : AllByRecursion BothMeant stays
@@ -255,7 +263,8 @@ module _ (run : Accepted) (named : HasNames run) (sound : IsSoundRun run) where
     pub item-stands : (z : Item) → IsIn items z → keep z.symbol ≡ true → (s : Sequent) → says z.content ≡ Some s → Enc m (closed_form s) (declared z).ty
     item-stands z i k s e =
         let there : IsIn stays (renumbered number z) = IsIn-map (renumbered number) (kept keep items) z (IsIn-kept keep items z i k) in
-        stand (renumbered number z) (All-at BothMeant stays (renumbered number z) stays-meant there) (kind-renumbered number run z (All-at (IsKind run) items z kinds i)) s (says-renumbered number z.content ∙ e)
+        stand (renumbered number z) (All-at BothMeant stays (renumbered number z) stays-meant there)
+        (kind-renumbered number run z (All-at (IsKind run) items z kinds i)) s (says-renumbered number z.content ∙ e)
 
     -- what holds of the two lemmas and of the declaration of each kept item holds of each declaration
     each-stays : (P : ℕ → Declaration → Type 0) (before xs : List Item) → AreMade before xs
@@ -264,7 +273,8 @@ module _ (run : Accepted) (named : HasNames run) (sound : IsSoundRun run) where
     each-stays P before [] h f i d e = absurd (cc)
     each-stays P before (z ∷ zs) h f zero d e =
         let n : length before + 0 ≡ length before = omega arith in
-        subst (P (length lemmas + (length before + 0))) (same_Some _ _ e) (subst (λ k. P (length lemmas + k) (declaration symbols z)) (sym n) (f z (inl refl) (length lemmas + length before) (sym h.0)))
+        subst (P (length lemmas + (length before + 0))) (same_Some _ _ e)
+        (subst (λ k. P (length lemmas + k) (declaration symbols z)) (sym n) (f z (inl refl) (length lemmas + length before) (sym h.0)))
     each-stays P before (z ∷ zs) h f (suc i) d e =
         let l = length-append before (z ∷ []) in
         let n : length (before ++ z ∷ []) + i ≡ length before + suc i = omega (arith, l) in

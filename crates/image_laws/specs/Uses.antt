@@ -80,8 +80,11 @@ module _ (symbols : SymbolMap) (k : Key) where
     pub type-uses : (t : HolType) → IsIn (type_keys t) k → (scope : TypeScope) → occurs s (type_tree symbols scope t) ≡ true
     type-uses (type.HolType.variable n) i scope = absurd i
     type-uses (type.HolType.operator n ts) (inl e) scope =
-        head-occurs s (Sym (operator_symbol symbols n (count ts))) (type_trees symbols scope ts) (ap (λ (j : Key). nat_eq (symbol_of_key symbols j) (operator_symbol symbols n (count ts))) e ∙ eq-eqb (operator_symbol symbols n (count ts)) (operator_symbol symbols n (count ts)) refl)
-    type-uses (type.HolType.operator n ts) (inr i) scope = argument-occurs s (Sym (operator_symbol symbols n (count ts))) (type_trees symbols scope ts) (types-use ts i scope)
+        head-occurs s (Sym (operator_symbol symbols n (count ts))) (type_trees symbols scope ts)
+        (ap (λ (j : Key). nat_eq (symbol_of_key symbols j) (operator_symbol symbols n (count ts))) e
+        ∙ eq-eqb (operator_symbol symbols n (count ts)) (operator_symbol symbols n (count ts)) refl)
+    type-uses (type.HolType.operator n ts) (inr i) scope =
+        argument-occurs s (Sym (operator_symbol symbols n (count ts))) (type_trees symbols scope ts) (types-use ts i scope)
 
     types-use : (ts : HolTypes) → IsIn (types_keys ts) k → (scope : TypeScope) → list_any (occurs s) (type_trees symbols scope ts) ≡ true
     types-use type.HolTypes.none i scope = absurd i
@@ -123,8 +126,10 @@ module _ (symbols : SymbolMap) (k : Key) where
       → list_any (occurs s) (map (type_tree symbols scope) (map f vs)) ≡ true
   mapped-use f [] n i h scope = absurd i
   mapped-use f (v ∷ vs) n (inl e) h scope =
-      or_left (occurs s (type_tree symbols scope (f v))) (list_any (occurs s) (map (type_tree symbols scope) (map f vs))) (type-uses (f v) (subst (λ m. IsIn (type_keys (f m)) k) e h) scope)
-  mapped-use f (v ∷ vs) n (inr i) h scope = or_right (occurs s (type_tree symbols scope (f v))) (list_any (occurs s) (map (type_tree symbols scope) (map f vs))) (mapped-use f vs n i h scope)
+      or_left (occurs s (type_tree symbols scope (f v))) (list_any (occurs s) (map (type_tree symbols scope) (map f vs)))
+      (type-uses (f v) (subst (λ m. IsIn (type_keys (f m)) k) e h) scope)
+  mapped-use f (v ∷ vs) n (inr i) h scope = or_right (occurs s (type_tree symbols scope (f v))) (list_any (occurs s) (map (type_tree symbols scope) (map f vs)))
+      (mapped-use f vs n i h scope)
 
   -- a term uses what it mentions in each scope, or mentions it in the type of a free variable, or uses a constant whose generic type mentions it
   pub data TermUses (t : Term) : Type 0 where
@@ -139,32 +144,45 @@ module _ (symbols : SymbolMap) (k : Key) where
       let w = Instance-filled_in g t h in
       let own : type_arguments g t ≡ map w.0 (type_variables g) = ap (type_arguments g) (sym w.1) ∙ type_arguments-filled_in w.0 g in
       elim (filled-keys w.0 g (subst (λ u. IsIn (type_keys u) k) (sym w.1) i)) [
-        | inl j ↦ TermUses.by_constant n (λ scope. head-occurs (constant_symbol symbols n) (Sym (constant_symbol symbols n)) (map (type_tree symbols scope.types) (type_arguments g t)) (eq-eqb (constant_symbol symbols n) (constant_symbol symbols n) refl)) j
+        | inl j ↦ TermUses.by_constant n
+            (λ scope. head-occurs (constant_symbol symbols n) (Sym (constant_symbol symbols n)) (map (type_tree symbols scope.types) (type_arguments g t))
+            (eq-eqb (constant_symbol symbols n) (constant_symbol symbols n) refl)) j
         | inr v ↦ TermUses.itself (λ scope. argument-occurs s (Sym (constant_symbol symbols n)) (map (type_tree symbols scope.types) (type_arguments g t))
-            (ap (λ ts. list_any (occurs s) (map (type_tree symbols scope.types) ts)) own ∙ mapped-use w.0 (type_variables g) v.0 (IsIn-distinct name_eq name_eq-Decides (variable_places g) v.0 v.1) v.2 scope.types))
+            (ap (λ ts. list_any (occurs s) (map (type_tree symbols scope.types) ts)) own
+            ∙ mapped-use w.0 (type_variables g) v.0 (IsIn-distinct name_eq name_eq-Decides (variable_places g) v.0 v.1) v.2 scope.types))
       ]
 
   in-function : (f x : Term) → TermUses f → TermUses (term.Term.app f x)
-  in-function f x (TermUses.itself h) = TermUses.itself (λ scope. or_left (occurs s (term_tree symbols scope f)) (occurs s (term_tree symbols scope x)) (h scope))
+  in-function f x (TermUses.itself h) = TermUses.itself
+      (λ scope. or_left (occurs s (term_tree symbols scope f)) (occurs s (term_tree symbols scope x)) (h scope))
   in-function f x (TermUses.by_variable v i h) = TermUses.by_variable v (IsIn-left (free_places f) (free_places x) v i) h
-  in-function f x (TermUses.by_constant n h i) = TermUses.by_constant n (λ scope. or_left (occurs (constant_symbol symbols n) (term_tree symbols scope f)) (occurs (constant_symbol symbols n) (term_tree symbols scope x)) (h scope)) i
+  in-function f x (TermUses.by_constant n h i) = TermUses.by_constant n
+      (λ scope. or_left (occurs (constant_symbol symbols n) (term_tree symbols scope f)) (occurs (constant_symbol symbols n) (term_tree symbols scope x))
+      (h scope)) i
 
   in-argument : (f x : Term) → TermUses x → TermUses (term.Term.app f x)
-  in-argument f x (TermUses.itself h) = TermUses.itself (λ scope. or_right (occurs s (term_tree symbols scope f)) (occurs s (term_tree symbols scope x)) (h scope))
+  in-argument f x (TermUses.itself h) = TermUses.itself
+      (λ scope. or_right (occurs s (term_tree symbols scope f)) (occurs s (term_tree symbols scope x)) (h scope))
   in-argument f x (TermUses.by_variable v i h) = TermUses.by_variable v (IsIn-right (free_places f) (free_places x) v i) h
-  in-argument f x (TermUses.by_constant n h i) = TermUses.by_constant n (λ scope. or_right (occurs (constant_symbol symbols n) (term_tree symbols scope f)) (occurs (constant_symbol symbols n) (term_tree symbols scope x)) (h scope)) i
+  in-argument f x (TermUses.by_constant n h i) = TermUses.by_constant n
+      (λ scope. or_right (occurs (constant_symbol symbols n) (term_tree symbols scope f)) (occurs (constant_symbol symbols n) (term_tree symbols scope x))
+      (h scope)) i
 
   in-body : (t : HolType) (b : Term) → TermUses b → TermUses (term.Term.lam t b)
-  in-body t b (TermUses.itself h) = TermUses.itself (λ scope. or_right (occurs s (term_of (type_tree symbols scope.types t))) (occurs s (term_tree symbols (inside scope) b)) (h (inside scope)))
+  in-body t b (TermUses.itself h) = TermUses.itself
+      (λ scope. or_right (occurs s (term_of (type_tree symbols scope.types t))) (occurs s (term_tree symbols (inside scope) b)) (h (inside scope)))
   in-body t b (TermUses.by_variable v i h) = TermUses.by_variable v i h
   in-body t b (TermUses.by_constant n h i) =
-      TermUses.by_constant n (λ scope. or_right (occurs (constant_symbol symbols n) (term_of (type_tree symbols scope.types t))) (occurs (constant_symbol symbols n) (term_tree symbols (inside scope) b)) (h (inside scope))) i
+      TermUses.by_constant n
+      (λ scope. or_right (occurs (constant_symbol symbols n) (term_of (type_tree symbols scope.types t)))
+      (occurs (constant_symbol symbols n) (term_tree symbols (inside scope) b)) (h (inside scope))) i
 
   pub term-uses : (t : Term) → AreInstances symbols t → IsIn (term_keys t) k → TermUses t
   term-uses (term.Term.free n t) h i = TermUses.by_variable (n, t) (inl refl) i
   term-uses (term.Term.bound j) h i = absurd i
   term-uses (term.Term.constant n t) h (inl e) =
-      TermUses.itself (λ scope. head-occurs s (Sym (constant_symbol symbols n)) (map (type_tree symbols scope.types) (type_arguments (generic_type symbols n) t))
+      TermUses.itself
+      (λ scope. head-occurs s (Sym (constant_symbol symbols n)) (map (type_tree symbols scope.types) (type_arguments (generic_type symbols n) t))
       (ap (λ (j : Key). nat_eq (symbol_of_key symbols j) (constant_symbol symbols n)) e ∙ eq-eqb (constant_symbol symbols n) (constant_symbol symbols n) refl))
   term-uses (term.Term.constant n t) h (inr i) = constant-uses n t h i
   term-uses (term.Term.app f x) h i = elim (IsIn-either (term_keys f) (term_keys x) k i) [
@@ -190,7 +208,8 @@ module _ (symbols : SymbolMap) (k : Key) where
       or_left (occurs s (term_of (type_tree symbols scope.types w.1))) (list_any (occurs s) (term_domains symbols vs (under_term w scope)))
       (or_right (nat_eq s 4) (occurs s (type_tree symbols scope.types w.1)) (type-uses w.1 (subst (λ (u : Variable). IsIn (type_keys u.1) k) e h) scope.types))
   variable-domain (w ∷ vs) v (inr i) h scope =
-      or_right (occurs s (term_of (type_tree symbols scope.types w.1))) (list_any (occurs s) (term_domains symbols vs (under_term w scope))) (variable-domain vs v i h (under_term w scope))
+      or_right (occurs s (term_of (type_tree symbols scope.types w.1))) (list_any (occurs s) (term_domains symbols vs (under_term w scope)))
+      (variable-domain vs v i h (under_term w scope))
 
   formula-domain : (r : ℕ) (hs : List Term) (h : Term) → IsIn hs h → ((scope : Scope) → occurs r (term_tree symbols scope h) ≡ true) → (scope : Scope)
       → list_any (occurs r) (proof_domains symbols hs scope) ≡ true
@@ -199,7 +218,8 @@ module _ (symbols : SymbolMap) (k : Key) where
       or_left (occurs r (proof_of (term_tree symbols scope g))) (list_any (occurs r) (proof_domains symbols hs (under_proof g scope)))
       (or_right (nat_eq r 7) (occurs r (term_tree symbols scope g)) (ap (λ u. occurs r (term_tree symbols scope u)) (sym e) ∙ f scope))
   formula-domain r (g ∷ hs) h (inr i) f scope =
-      or_right (occurs r (proof_of (term_tree symbols scope g))) (list_any (occurs r) (proof_domains symbols hs (under_proof g scope))) (formula-domain r hs h i f (under_proof g scope))
+      or_right (occurs r (proof_of (term_tree symbols scope g))) (list_any (occurs r) (proof_domains symbols hs (under_proof g scope)))
+      (formula-domain r hs h i f (under_proof g scope))
 
   module _ (q : Sequent) (instances : HasInstances symbols q) where
     -- a term of the sequent, wherever it stands
@@ -207,22 +227,27 @@ module _ (symbols : SymbolMap) (k : Key) where
         → occurs r (sequent_tree symbols q) ≡ true
     formula-occurs r t i f = elim (IsIn-either q.hypotheses (q.conclusion ∷ []) t i) [
       | inl j ↦ domain-occurs r (domains_of symbols q) (conclusion_tree symbols q)
-          (any-right r (map (λ n. types) (type_variables_of q) ++ term_domains symbols (free_variables_of q) (scope_of_types symbols q)) (proof_domains symbols q.hypotheses (scope_of_terms symbols q))
+          (any-right r (map (λ n. types) (type_variables_of q) ++ term_domains symbols (free_variables_of q) (scope_of_types symbols q))
+          (proof_domains symbols q.hypotheses (scope_of_terms symbols q))
           (formula-domain r q.hypotheses t j f (scope_of_terms symbols q)))
       | inr (inl e) ↦ end-occurs r (domains_of symbols q) (conclusion_tree symbols q)
-          (or_right (nat_eq r 7) (occurs r (term_tree symbols (scope_of symbols q) q.conclusion)) (ap (λ u. occurs r (term_tree symbols (scope_of symbols q) u)) (sym e) ∙ f (scope_of symbols q)))
+          (or_right (nat_eq r 7) (occurs r (term_tree symbols (scope_of symbols q) q.conclusion))
+          (ap (λ u. occurs r (term_tree symbols (scope_of symbols q) u)) (sym e) ∙ f (scope_of symbols q)))
       | inr (inr none) ↦ absurd none
     ]
 
     variable-occurs : (v : Variable) → IsIn (free_variables_of q) v → IsIn (type_keys v.1) k → occurs s (sequent_tree symbols q) ≡ true
     variable-occurs v i h = domain-occurs s (domains_of symbols q) (conclusion_tree symbols q)
-        (any-left s (map (λ n. types) (type_variables_of q) ++ term_domains symbols (free_variables_of q) (scope_of_types symbols q)) (proof_domains symbols q.hypotheses (scope_of_terms symbols q))
-        (any-right s (map (λ n. types) (type_variables_of q)) (term_domains symbols (free_variables_of q) (scope_of_types symbols q)) (variable-domain (free_variables_of q) v i h (scope_of_types symbols q))))
+        (any-left s (map (λ n. types) (type_variables_of q) ++ term_domains symbols (free_variables_of q) (scope_of_types symbols q))
+        (proof_domains symbols q.hypotheses (scope_of_terms symbols q))
+        (any-right s (map (λ n. types) (type_variables_of q)) (term_domains symbols (free_variables_of q) (scope_of_types symbols q))
+        (variable-domain (free_variables_of q) v i h (scope_of_types symbols q))))
 
     formula-uses : (t : Term) → IsIn (terms_of q) t → TermUses t → TreeUses (sequent_tree symbols q)
     formula-uses t i (TermUses.itself f) = TreeUses.it (formula-occurs s t i f)
     formula-uses t i (TermUses.by_variable v j h) =
-        TreeUses.it (variable-occurs v (IsIn-distinct variable_eq variable_eq-Decides (flat_map free_places (terms_of q)) v (IsIn-flat_map free_places (terms_of q) t v i j)) h)
+        TreeUses.it (variable-occurs v
+        (IsIn-distinct variable_eq variable_eq-Decides (flat_map free_places (terms_of q)) v (IsIn-flat_map free_places (terms_of q) t v i j)) h)
     formula-uses t i (TermUses.by_constant n f h) = TreeUses.constant_of n (formula-occurs (constant_symbol symbols n) t i f) h
 
     -- The tree of a sequent uses what the sequent mentions
@@ -230,6 +255,7 @@ module _ (symbols : SymbolMap) (k : Key) where
     sequent-uses i = elim (IsIn-either (flat_map term_keys q.hypotheses) (term_keys q.conclusion) k i) [
       | inl j ↦
           let w = flat_map-part term_keys q.hypotheses k j in
-          formula-uses w.0 (IsIn-left q.hypotheses (q.conclusion ∷ []) w.0 w.1) (term-uses w.0 (All-at (AreInstances symbols) q.hypotheses w.0 instances.hypotheses w.1) w.2)
+          formula-uses w.0 (IsIn-left q.hypotheses (q.conclusion ∷ []) w.0 w.1)
+          (term-uses w.0 (All-at (AreInstances symbols) q.hypotheses w.0 instances.hypotheses w.1) w.2)
       | inr j ↦ formula-uses q.conclusion (IsIn-right q.hypotheses (q.conclusion ∷ []) q.conclusion (inl refl)) (term-uses q.conclusion instances.conclusion j)
     ]

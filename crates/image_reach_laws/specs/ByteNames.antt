@@ -45,7 +45,8 @@ name_of-name line name h e =
 -- a line without the blanks at its ends
 reverse-bytes : (bytes : List ℕ) → AreBytes bytes → AreBytes (reverse bytes)
 reverse-bytes [] h = tt
-reverse-bytes (b ∷ bytes) h = subst AreBytes (sym (reverse-append (b ∷ []) bytes)) (All-append _ (reverse bytes) (b ∷ []) (reverse-bytes bytes h.1) (h.0, tt {0}))
+reverse-bytes (b ∷ bytes) h = subst AreBytes (sym (reverse-append (b ∷ []) bytes))
+    (All-append _ (reverse bytes) (b ∷ []) (reverse-bytes bytes h.1) (h.0, tt {0}))
 
 drop_blanks-bytes : (bytes : List ℕ) → AreBytes bytes → AreBytes (drop_blanks bytes)
 drop_blanks-bytes [] h = tt
@@ -83,7 +84,8 @@ item_content-named line h = by_number (number_of line)
     by_word None = tt
     by_word (Some w) = tt
 
-    by_name : (o : Option Name) → name_of line ≡ o → IsNamedContent (unwrap_or (option_or (option_map (λ name. command (item.Name name)) o) (as_word line)) (faulty kind.BadLine))
+    by_name : (o : Option Name) → name_of line ≡ o
+        → IsNamedContent (unwrap_or (option_or (option_map (λ name. command (item.Name name)) o) (as_word line)) (faulty kind.BadLine))
     by_name None e = by_word (word_of line)
     by_name (Some n) e = name_of-name line n h e
 
@@ -117,7 +119,8 @@ line-bytes {line = line} {more = more} l h =
 opens-named : (n o : ℕ) (text : List ℕ) (commands : List Command) (m p : ℕ) (rest : List ℕ) → Opens n o text commands m p rest → AreBytes text
     → AreNamedCommands commands × AreBytes rest
 opens-named n o text commands m p rest (open_line l) h = (tt {0}, h)
-opens-named n o text commands m p rest (skips {line = line} {more = more} l r) h = opens-named (n + 1) (o + length line + 1) more commands m p rest r (line-bytes l h).1
+opens-named n o text commands m p rest (skips {line = line} {more = more} l r) h =
+    opens-named (n + 1) (o + length line + 1) more commands m p rest r (line-bytes l h).1
 opens-named n o text commands m p rest (gives {line = line} {more = more} {i = i} {commands = cs} l r) h =
     let b = line-bytes l h in
     let later = opens-named (n + 1) (o + length line + 1) more cs m p rest r b.1 in

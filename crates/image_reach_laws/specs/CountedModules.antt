@@ -194,7 +194,8 @@ module _ (xs : List Item) (made : AreMade [] xs) (j : ℕ) (e : Declaration) (cl
       let scope = under_types names unfilled in
       let fine = filled-applies symbols s apart n scope (under_types-lack symbols s apart names unfilled (unfilled-lack symbols s apart)) in
       subst (IsAppliedTo s n 0) (same_Some _ _ b)
-      (abstracted-applied s n (map (λ m. types) names) (part_tree symbols (filled symbols scope) r c (i, one)) (lacking-all s n (map (λ m. types) names) (types-lack symbols s apart n names))
+      (abstracted-applied s n (map (λ m. types) names) (part_tree symbols (filled symbols scope) r c (i, one))
+      (lacking-all s n (map (λ m. types) names) (types-lack symbols s apart n names))
       (part-right symbols s n counted (filled symbols scope) fine 0 r l c (i, one) (premises-fit before among (i ∷ []) (one ∷ []) h).0))
 
   content-applied : (before : List Item) → ((x : Item) → IsIn before x → IsIn xs x) → (name : List ℕ) (c : Content) → IsContent before c → (t : Tree)
@@ -209,22 +210,28 @@ module _ (xs : List Item) (made : AreMade [] xs) (j : ℕ) (e : Declaration) (cl
       (abstracted-applied s n (map (λ m. types) (type_variables a)) (term_tree symbols (filled symbols scope) u)
       (lacking-all s n (map (λ m. types) (type_variables a)) (types-lack symbols s apart n (type_variables a)))
       (lacking-applied s n 0 (term_tree symbols (filled symbols scope) u) (term_tree-lacks symbols s apart n (filled symbols scope) fine u)))
-  content-applied before among name (type_operator names c f i one) h t b = part-applied before among names.variables sub_symbol (omega arith) c i one h.among t b
-  content-applied before among name (type_abstraction names c f i one) h t b = part-applied before among (type_variables (abstraction_type names c)) sub_abs_symbol (omega arith) c i one h.0.among t b
-  content-applied before among name (type_representation names c f i one) h t b = part-applied before among (type_variables (representation_type names c)) sub_rep_symbol (omega arith) c i one h.0.among t b
+  content-applied before among name (type_operator names c f i one) h t b =
+      part-applied before among names.variables sub_symbol (omega arith) c i one h.among t b
+  content-applied before among name (type_abstraction names c f i one) h t b =
+      part-applied before among (type_variables (abstraction_type names c)) sub_abs_symbol (omega arith) c i one h.0.among t b
+  content-applied before among name (type_representation names c f i one) h t b =
+      part-applied before among (type_variables (representation_type names c)) sub_rep_symbol (omega arith) c i one h.0.among t b
   content-applied before among name (unproved q) h t b = absurd (cc)
   content-applied before among name (step kind js qs g q) h t b =
       subst (IsAppliedTo s n 0) (same_Some _ _ b)
-      (abstracted-applied s n (domains_of symbols q) (proof_tree symbols (scope_of symbols q) kind js qs g) (lacking-all s n (domains_of symbols q) (domains_of-lack symbols s apart n q))
+      (abstracted-applied s n (domains_of symbols q) (proof_tree symbols (scope_of symbols q) kind js qs g)
+      (lacking-all s n (domains_of symbols q) (domains_of-lack symbols s apart n q))
       (proof-right symbols s n counted (scope_of symbols q) (scope_of-applies symbols s apart n q) kind js qs g (premises-fit before among js qs h.0.among)))
 
   -- Each body applies it to so many arguments
   pub body-applied : (i : ℕ) (d : Declaration) (t : Tree) → slice_get m i ≡ Some d → d.body ≡ Some t → IsAppliedTo s n 0 t
   body-applied i d t there b = elim (declared-of xs i d there) [
     | IsOf.first_lemma is ↦
-        subst (IsAppliedTo s n 0) (same_Some _ _ (ap (λ (d : Declaration). d.body) is ∙ b)) (lacking-applied s n 0 sym_body (small-lacks s sym_body (let l = sym_body-small in omega (arith, l))))
+        subst (IsAppliedTo s n 0) (same_Some _ _ (ap (λ (d : Declaration). d.body) is ∙ b))
+        (lacking-applied s n 0 sym_body (small-lacks s sym_body (let l = sym_body-small in omega (arith, l))))
     | IsOf.second_lemma is ↦
-        subst (IsAppliedTo s n 0) (same_Some _ _ (ap (λ (d : Declaration). d.body) is ∙ b)) (lacking-applied s n 0 trans_body (small-lacks s trans_body (let l = trans_body-small in omega (arith, l))))
+        subst (IsAppliedTo s n 0) (same_Some _ _ (ap (λ (d : Declaration). d.body) is ∙ b))
+        (lacking-applied s n 0 trans_body (small-lacks s trans_body (let l = trans_body-small in omega (arith, l))))
     | IsOf.an_item z k is ↦
         let asked = item-asked xs made z k in
         content-applied asked.before asked.among z.name z.content asked.content t (ap (λ (d : Declaration). d.body) is ∙ b)
@@ -234,8 +241,10 @@ module _ (xs : List Item) (made : AreMade [] xs) (j : ℕ) (e : Declaration) (cl
 -- (for the type of what is used is the product over these, in their order: type variables, free variables, hypotheses)
 abbrev pub FilledAndMerged : Type 0
 FilledAndMerged =
-    (articles : List (List ℕ)) (run : Accepted) → Run articles (accepted run) → (j : ℕ) (e : Declaration) (closed : ClosedSequent) → slice_get (image run) j ≡ Some e → Enc (image run) closed e.ty
-    → (i : ℕ) (d : Declaration) (body : Tree) → slice_get (image run) i ≡ Some d → d.body ≡ Some body → IsAppliedTo (length signature + j) (closed_parameter_count closed) 0 body
+    (articles : List (List ℕ)) (run : Accepted) → Run articles (accepted run) → (j : ℕ) (e : Declaration) (closed : ClosedSequent) → slice_get (image run) j
+    ≡ Some e → Enc (image run) closed e.ty
+    → (i : ℕ) (d : Declaration) (body : Tree) → slice_get (image run) i ≡ Some d → d.body ≡ Some body
+    → IsAppliedTo (length signature + j) (closed_parameter_count closed) 0 body
 
 pub filled_and_merged : FilledAndMerged
 filled_and_merged articles run r j e closed at stands i d body there b =

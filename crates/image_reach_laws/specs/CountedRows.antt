@@ -89,8 +89,10 @@ module _ (symbols : SymbolMap) (s n : ℕ) (counted : IsCounted symbols s n) whe
   pub part-right : (scope : Scope) → Applies scope → (k r : ℕ) → r < length signature → (c : HolType) (one : Premise) → Fits s n one
       → IsAppliedTo s n k (part_tree symbols scope r c one)
   part-right scope h k r l c one fits =
-      applied-applied s n k (Sym r) (part_arguments_of symbols scope c one) (other-right r _ l)
-      (ty-right scope h c, (tm-right scope h (predicate one.1.conclusion), (tm-right scope h (witness one.1.conclusion), (premise-right scope h one fits, tt {0}))))
+      applied-applied s n k (Sym r) (part_arguments_of symbols scope c one) (other-right r _ l) (
+        ty-right scope h c,
+        (tm-right scope h (predicate one.1.conclusion), (tm-right scope h (witness one.1.conclusion), (premise-right scope h one fits, tt {0}))),
+      )
 
   module _ (scope : Scope) (h : Applies scope) where
     ty-of : (a : HolType) → Right (type_tree symbols scope.types a)
@@ -101,12 +103,14 @@ module _ (symbols : SymbolMap) (s n : ℕ) (counted : IsCounted symbols s n) whe
 
     eq_mp-right : (p q : Term) (one two : Premise) → Fits s n one → Fits s n two → Right (eq_mp_tree symbols scope p q one two)
     eq_mp-right p q one two f g =
-        applied-applied s n 0 (Sym eq_mp_symbol) (term_tree symbols scope p ∷ term_tree symbols scope q ∷ premise_tree scope one ∷ premise_tree scope two ∷ []) (other-right 12 _ (omega arith))
+        applied-applied s n 0 (Sym eq_mp_symbol) (term_tree symbols scope p ∷ term_tree symbols scope q ∷ premise_tree scope one ∷ premise_tree scope two ∷ [])
+        (other-right 12 _ (omega arith))
         (tm-of p, (tm-of q, (premise-right scope h one f, (premise-right scope h two g, tt {0}))))
 
     domain-right : (v : Variable) → Right (term_of (type_tree symbols scope.types v.1))
     domain-right v =
-        lacking-applied s n 0 (term_of (type_tree symbols scope.types v.1)) (term_of-lacks symbols s counted.apart (type_tree symbols scope.types v.1) (type_tree-lacks symbols s counted.apart scope.types h.types v.1))
+        lacking-applied s n 0 (term_of (type_tree symbols scope.types v.1))
+        (term_of-lacks symbols s counted.apart (type_tree symbols scope.types v.1) (type_tree-lacks symbols s counted.apart scope.types h.types v.1))
 
     under : (v : Variable) → Applies (under_term v scope)
     under v = under_term-applies symbols s counted.apart n v scope h
@@ -124,13 +128,15 @@ module _ (symbols : SymbolMap) (s n : ℕ) (counted : IsCounted symbols s n) whe
     app_thm-right : (a b : HolType) (f g x y : Term) (one two : Premise) → Fits s n one → Fits s n two → Right (app_thm_tree symbols scope a b f g x y one two)
     app_thm-right a b f g x y one two k l =
         applied-applied s n 0 (Sym app_thm_symbol)
-        (type_tree symbols scope.types a ∷ type_tree symbols scope.types b ∷ term_tree symbols scope f ∷ term_tree symbols scope g ∷ term_tree symbols scope x ∷ term_tree symbols scope y
+        (type_tree symbols scope.types a ∷ type_tree symbols scope.types b ∷ term_tree symbols scope f ∷ term_tree symbols scope g ∷ term_tree symbols scope x ∷
+        term_tree symbols scope y
         ∷ premise_tree scope one ∷ premise_tree scope two ∷ []) (other-right 10 _ (omega arith))
         (ty-of a, (ty-of b, (tm-of f, (tm-of g, (tm-of x, (tm-of y, (premise-right scope h one k, (premise-right scope h two l, tt {0}))))))))
 
     formula-right : (p : Term) → Right (proof_of (term_tree symbols scope p))
     formula-right p =
-        lacking-applied s n 0 (proof_of (term_tree symbols scope p)) (proof_of-lacks symbols s counted.apart (term_tree symbols scope p) (term_tree-lacks symbols s counted.apart n scope h p))
+        lacking-applied s n 0 (proof_of (term_tree symbols scope p))
+        (proof_of-lacks symbols s counted.apart (term_tree symbols scope p) (term_tree-lacks symbols s counted.apart n scope h p))
 
     given : (p : Term) → Applies (under_proof p scope)
     given p = under_proof-applies symbols s counted.apart n p scope h
@@ -139,23 +145,34 @@ module _ (symbols : SymbolMap) (s n : ℕ) (counted : IsCounted symbols s n) whe
     prop_ext-right p q one two f g =
         applied-applied s n 0 (Sym prop_ext_symbol)
         (term_tree symbols scope p ∷ term_tree symbols scope q ∷ Lam (proof_of (term_tree symbols scope p)) (premise_tree (under_proof p scope) two)
-        ∷ Lam (proof_of (term_tree symbols scope q)) (premise_tree (under_proof q scope) one) ∷ []) (other-right 11 _ (omega arith))
-        (tm-of p, (tm-of q, ((formula-right p, premise-right (under_proof p scope) (given p) two g), ((formula-right q, premise-right (under_proof q scope) (given q) one f), tt {0}))))
+        ∷ Lam (proof_of (term_tree symbols scope q)) (premise_tree (under_proof q scope) one) ∷ []) (other-right 11 _ (omega arith)) (
+          tm-of p,
+          (
+            tm-of q,
+            (
+              (formula-right p, premise-right (under_proof p scope) (given p) two g),
+              ((formula-right q, premise-right (under_proof q scope) (given q) one f), tt {0}),
+            ),
+          ),
+        )
 
     sym-right : (a : HolType) (x y : Term) (one : Premise) → Fits s n one → Right (sym_tree symbols scope a x y one)
     sym-right a x y one f =
-        applied-applied s n 0 (Sym sym_symbol) (type_tree symbols scope.types a ∷ term_tree symbols scope x ∷ term_tree symbols scope y ∷ premise_tree scope one ∷ []) (λ e. counted.symmetry e)
+        applied-applied s n 0 (Sym sym_symbol)
+        (type_tree symbols scope.types a ∷ term_tree symbols scope x ∷ term_tree symbols scope y ∷ premise_tree scope one ∷ []) (λ e. counted.symmetry e)
         (ty-of a, (tm-of x, (tm-of y, (premise-right scope h one f, tt {0}))))
 
     trans-right : (a : HolType) (x y z : Term) (one two : Premise) → Fits s n one → Fits s n two → Right (trans_tree symbols scope a x y z one two)
     trans-right a x y z one two f g =
         applied-applied s n 0 (Sym trans_symbol)
-        (type_tree symbols scope.types a ∷ term_tree symbols scope x ∷ term_tree symbols scope y ∷ term_tree symbols scope z ∷ premise_tree scope one ∷ premise_tree scope two ∷ [])
+        (type_tree symbols scope.types a ∷ term_tree symbols scope x ∷ term_tree symbols scope y ∷ term_tree symbols scope z ∷ premise_tree scope one ∷
+        premise_tree scope two ∷ [])
         (λ e. counted.transitivity e) (ty-of a, (tm-of x, (tm-of y, (tm-of z, (premise-right scope h one f, (premise-right scope h two g, tt {0}))))))
 
     prove_hyp-right : (p : Term) (one two : Premise) → Fits s n one → Fits s n two → Right (prove_hyp_tree symbols scope p one two)
     prove_hyp-right p one two f g =
-        premise-right (set_proof p (premise_tree scope one) scope) (set_proof-applies symbols s counted.apart n p (premise_tree scope one) scope (premise-right scope h one f) h) two g
+        premise-right (set_proof p (premise_tree scope one) scope)
+        (set_proof-applies symbols s counted.apart n p (premise_tree scope one) scope (premise-right scope h one f) h) two g
 
     self-right : (t : Term) → Right (self_proof symbols scope t)
     self-right (term.Term.app (term.Term.app (term.Term.constant m (type.HolType.operator f (type.HolTypes.more a ts))) x) t) = refl-right scope h a t
@@ -171,7 +188,8 @@ module _ (symbols : SymbolMap) (s n : ℕ) (counted : IsCounted symbols s n) whe
     law-right a b t u r l c one fits =
         let A = type_tree symbols scope.types a in
         applied-applied s n 0 (Sym fun_ext_symbol)
-        (A ∷ type_tree symbols scope.types b ∷ term_tree symbols scope (term.Term.lam a t) ∷ term_tree symbols scope (term.Term.lam a u) ∷ Lam (term_of A) (App (part_tree symbols (lifted scope) r c one) (Var 0)) ∷ []) (other-right 9 _ (omega arith)) (
+        (A ∷ type_tree symbols scope.types b ∷ term_tree symbols scope (term.Term.lam a t) ∷ term_tree symbols scope (term.Term.lam a u) ∷ Lam (term_of A)
+        (App (part_tree symbols (lifted scope) r c one) (Var 0)) ∷ []) (other-right 9 _ (omega arith)) (
           ty-of a,
           (
             ty-of b,
@@ -179,7 +197,13 @@ module _ (symbols : SymbolMap) (s n : ℕ) (counted : IsCounted symbols s n) whe
               tm-of (term.Term.lam a t),
               (
                 tm-of (term.Term.lam a u),
-                ((lacking-applied s n 0 (term_of A) (term_of-lacks symbols s counted.apart A (type_tree-lacks symbols s counted.apart scope.types h.types a)), (part-right (lifted scope) (lifted-applies symbols s counted.apart n scope h) 1 r l c one fits, tt {0})), tt {0}),
+                (
+                  (
+                    lacking-applied s n 0 (term_of A) (term_of-lacks symbols s counted.apart A (type_tree-lacks symbols s counted.apart scope.types h.types a)),
+                    (part-right (lifted scope) (lifted-applies symbols s counted.apart n scope h) 1 r l c one fits, tt {0}),
+                  ),
+                  tt {0},
+                ),
               ),
             ),
           ),
@@ -187,15 +211,35 @@ module _ (symbols : SymbolMap) (s n : ℕ) (counted : IsCounted symbols s n) whe
 
     -- the laws in version 5
     first-right : (names : TypeNames) (c : HolType) (one : Premise) → Fits s n one → Right (first_law_free_tree symbols scope names c one)
-    first-right names c one fits = (part-right (filled symbols scope.types) (filled-applies symbols s counted.apart n scope.types h.types) 1 16 (omega arith) c one fits, tm-of (new_variable names))
+    first-right names c one fits = (
+      part-right (filled symbols scope.types) (filled-applies symbols s counted.apart n scope.types h.types) 1 16 (omega arith) c one fits,
+      tm-of (new_variable names),
+    )
 
     second-right : (names : TypeNames) (c : HolType) (one : Premise) → Fits s n one → Right (second_law_free_tree symbols scope names c one)
     second-right names c one fits =
         let r = old_variable c in
         let x = term.equation c (represented names c (abstracted names c r)) r in
         let y = term.Term.app (predicate one.1.conclusion) r in
-        applied-applied s n 0 (Sym sym_symbol) (type_tree symbols scope.types bool ∷ term_tree symbols scope x ∷ term_tree symbols scope y ∷ App (part_tree symbols (filled symbols scope.types) sub_rep_abs_symbol c one) (term_tree symbols scope r) ∷ []) (λ e. counted.symmetry e)
-        (ty-of bool, (tm-of x, (tm-of y, ((part-right (filled symbols scope.types) (filled-applies symbols s counted.apart n scope.types h.types) 1 17 (omega arith) c one fits, tm-of r), tt {0}))))
+        applied-applied s n 0 (Sym sym_symbol)
+        (type_tree symbols scope.types bool ∷ term_tree symbols scope x ∷ term_tree symbols scope y ∷ App
+        (part_tree symbols (filled symbols scope.types) sub_rep_abs_symbol c one) (term_tree symbols scope r) ∷ []) (λ e. counted.symmetry e) (
+          ty-of bool,
+          (
+            tm-of x,
+            (
+              tm-of y,
+              (
+                (
+                  part-right (filled symbols scope.types) (filled-applies symbols s counted.apart n scope.types h.types) 1 17 (omega arith) c
+                      one fits,
+                  tm-of r,
+                ),
+                tt {0},
+              ),
+            ),
+          ),
+        )
 
     -- one premise, and two
     one-right : (row : Premise → Tree) → ((one : Premise) → Fits s n one → Right (row one)) → (js : List ℕ) (qs : List Sequent) → AllFit s n js qs
@@ -221,19 +265,27 @@ module _ (symbols : SymbolMap) (s n : ℕ) (counted : IsCounted symbols s n) whe
         (λ one. fun_ext-right v (equated_type one.1.conclusion) (left_side one.1.conclusion) (right_side one.1.conclusion) one) js qs fit
     proof-right kinds.AbsThm js qs g fit = one-right (λ one. Sym 0) (λ one f. no_row) js qs fit
     proof-right kinds.AppThm js qs g fit =
-        two-right (λ one two. app_thm_tree symbols scope (argument_type (equated_type one.1.conclusion)) (result_type (equated_type one.1.conclusion)) (left_side one.1.conclusion) (right_side one.1.conclusion) (left_side two.1.conclusion) (right_side two.1.conclusion) one two)
-        (λ one two. app_thm-right (argument_type (equated_type one.1.conclusion)) (result_type (equated_type one.1.conclusion)) (left_side one.1.conclusion) (right_side one.1.conclusion) (left_side two.1.conclusion) (right_side two.1.conclusion) one two) js qs fit
-    proof-right kinds.DeductAntisym js qs g fit = two-right (λ one two. prop_ext_tree symbols scope one.1.conclusion two.1.conclusion one two) (λ one two. prop_ext-right one.1.conclusion two.1.conclusion one two) js qs fit
+        two-right (λ one two. app_thm_tree symbols scope (argument_type (equated_type one.1.conclusion)) (result_type (equated_type one.1.conclusion))
+        (left_side one.1.conclusion) (right_side one.1.conclusion) (left_side two.1.conclusion) (right_side two.1.conclusion) one two)
+        (λ one two. app_thm-right (argument_type (equated_type one.1.conclusion)) (result_type (equated_type one.1.conclusion)) (left_side one.1.conclusion)
+        (right_side one.1.conclusion) (left_side two.1.conclusion) (right_side two.1.conclusion) one two) js qs fit
+    proof-right kinds.DeductAntisym js qs g fit = two-right (λ one two. prop_ext_tree symbols scope one.1.conclusion two.1.conclusion one two)
+        (λ one two. prop_ext-right one.1.conclusion two.1.conclusion one two) js qs fit
     proof-right kinds.BetaConv js qs (Parameters.term t) fit = refl-right scope h (type_or t) (contracted t)
     proof-right kinds.BetaConv js qs g fit = no_row
-    proof-right kinds.Sym js qs g fit = one-right (λ one. sym_tree symbols scope (equated_type one.1.conclusion) (left_side one.1.conclusion) (right_side one.1.conclusion) one)
+    proof-right kinds.Sym js qs g fit = one-right
+        (λ one. sym_tree symbols scope (equated_type one.1.conclusion) (left_side one.1.conclusion) (right_side one.1.conclusion) one)
         (λ one. sym-right (equated_type one.1.conclusion) (left_side one.1.conclusion) (right_side one.1.conclusion) one) js qs fit
     proof-right kinds.Trans js qs g fit =
-        two-right (λ one two. trans_tree symbols scope (equated_type one.1.conclusion) (left_side one.1.conclusion) (right_side one.1.conclusion) (right_side two.1.conclusion) one two)
-        (λ one two. trans-right (equated_type one.1.conclusion) (left_side one.1.conclusion) (right_side one.1.conclusion) (right_side two.1.conclusion) one two) js qs fit
-    proof-right kinds.ProveHyp js qs g fit = two-right (λ one two. prove_hyp_tree symbols scope one.1.conclusion one two) (λ one two. prove_hyp-right one.1.conclusion one two) js qs fit
+        two-right (λ one two. trans_tree symbols scope (equated_type one.1.conclusion) (left_side one.1.conclusion) (right_side one.1.conclusion)
+        (right_side two.1.conclusion) one two)
+        (λ one two. trans-right (equated_type one.1.conclusion) (left_side one.1.conclusion) (right_side one.1.conclusion) (right_side two.1.conclusion) one
+        two) js qs fit
+    proof-right kinds.ProveHyp js qs g fit = two-right (λ one two. prove_hyp_tree symbols scope one.1.conclusion one two)
+        (λ one two. prove_hyp-right one.1.conclusion one two) js qs fit
     proof-right kinds.Subst js qs (Parameters.substitution pairs terms) fit =
-        one-right (λ one. premise_tree (images symbols pairs terms scope) one) (λ one. premise-right (images symbols pairs terms scope) (images-applies symbols s counted.apart n pairs terms scope h) one) js qs fit
+        one-right (λ one. premise_tree (images symbols pairs terms scope) one)
+        (λ one. premise-right (images symbols pairs terms scope) (images-applies symbols s counted.apart n pairs terms scope h) one) js qs fit
     proof-right kinds.Subst js qs g fit = one-right (λ one. Sym 0) (λ one f. no_row) js qs fit
     proof-right kinds.Restate js qs g fit = one-right (premise_tree scope) (λ one. premise-right scope h one) js qs fit
     proof-right kinds.DefineConst js qs (Parameters.constant m t) fit = refl-right scope h (type_or t) t
@@ -246,14 +298,18 @@ module _ (symbols : SymbolMap) (s n : ℕ) (counted : IsCounted symbols s n) whe
     proof-right kinds.FirstLaw js qs (Parameters.type_operator names Six) fit =
         one-right (λ one. first_law_tree symbols scope names (type_or (witness one.1.conclusion)) one)
         (λ one. let c = type_or (witness one.1.conclusion) in
-        law-right (new_type names) (new_type names) (abstracted names c (represented names c (term.Term.bound 0))) (term.Term.bound 0) 16 (omega arith) c one) js qs fit
+        law-right (new_type names) (new_type names) (abstracted names c (represented names c (term.Term.bound 0))) (term.Term.bound 0) 16 (omega arith) c one)
+        js qs fit
     proof-right kinds.FirstLaw js qs (Parameters.type_operator names Five) fit =
-        one-right (λ one. first_law_free_tree symbols scope names (type_or (witness one.1.conclusion)) one) (λ one. first-right names (type_or (witness one.1.conclusion)) one) js qs fit
+        one-right (λ one. first_law_free_tree symbols scope names (type_or (witness one.1.conclusion)) one)
+        (λ one. first-right names (type_or (witness one.1.conclusion)) one) js qs fit
     proof-right kinds.FirstLaw js qs g fit = one-right (λ one. Sym 0) (λ one f. no_row) js qs fit
     proof-right kinds.SecondLaw js qs (Parameters.type_operator names Six) fit =
         one-right (λ one. second_law_tree symbols scope names (type_or (witness one.1.conclusion)) one)
         (λ one. let c = type_or (witness one.1.conclusion) in
-        law-right c bool (term.equation c (represented names c (abstracted names c (term.Term.bound 0))) (term.Term.bound 0)) (term.Term.app (predicate one.1.conclusion) (term.Term.bound 0)) 17 (omega arith) c one) js qs fit
+        law-right c bool (term.equation c (represented names c (abstracted names c (term.Term.bound 0))) (term.Term.bound 0))
+        (term.Term.app (predicate one.1.conclusion) (term.Term.bound 0)) 17 (omega arith) c one) js qs fit
     proof-right kinds.SecondLaw js qs (Parameters.type_operator names Five) fit =
-        one-right (λ one. second_law_free_tree symbols scope names (type_or (witness one.1.conclusion)) one) (λ one. second-right names (type_or (witness one.1.conclusion)) one) js qs fit
+        one-right (λ one. second_law_free_tree symbols scope names (type_or (witness one.1.conclusion)) one)
+        (λ one. second-right names (type_or (witness one.1.conclusion)) one) js qs fit
     proof-right kinds.SecondLaw js qs g fit = one-right (λ one. Sym 0) (λ one f. no_row) js qs fit

@@ -80,7 +80,8 @@ module _ (symbols : SymbolMap) (k : Key) where
   generic-uses a i =
       let r = symbol_of_key symbols k in
       let scope = under_types (type_variables a) unfilled in
-      end-occurs r (map (λ n. types) (type_variables a)) (term_of (type_tree symbols scope a)) (or_right (nat_eq r 4) (occurs r (type_tree symbols scope a)) (type-uses symbols k a i scope))
+      end-occurs r (map (λ n. types) (type_variables a)) (term_of (type_tree symbols scope a))
+      (or_right (nat_eq r 4) (occurs r (type_tree symbols scope a)) (type-uses symbols k a i scope))
 
   in-type : (d : Declaration) → TreeUses symbols k d.ty → KeyUses symbols k d
   in-type d (TreeUses.it e) = KeyUses.it (type-use d (symbol_of_key symbols k) e)
@@ -97,7 +98,8 @@ module _ (symbols : SymbolMap) (k : Key) where
       within : (r : ℕ) → occurs r (term_tree symbols scope t) ≡ true → uses (declaration_of symbols name (defined_constant n a t)) r ≡ true
       within r e =
           let body = abstractions (map (λ n. types) (type_variables a)) (term_tree symbols scope t) in
-          body-use (declaration_of symbols name (defined_constant n a t)) r body refl (under-abstractions r (map (λ n. types) (type_variables a)) (term_tree symbols scope t) e)
+          body-use (declaration_of symbols name (defined_constant n a t)) r body refl
+          (under-abstractions r (map (λ n. types) (type_variables a)) (term_tree symbols scope t) e)
 
       go : TermUses symbols k t → KeyUses symbols k (declaration_of symbols name (defined_constant n a t))
       go (TermUses.itself f) = KeyUses.it (within (symbol_of_key symbols k) (f scope))
@@ -111,12 +113,14 @@ module _ (xs : List Item) (made : AreMade [] xs) (before : List Item) (among : (
   -- the image of a free variable of the premise stands in the proof
   image-use : (pairs : ConstantPairs) (one : Sequent) (scope : Scope) (v : Variable) → IsIn (free_variables_of one) v → (js : List ℕ)
       → ArePremisesAmong before js (one ∷ []) → (r : ℕ)
-      → occurs r (term_tree symbols scope (term_image (constants_put pairs) v)) ≡ true → occurs r (proof_tree symbols scope kinds.DefineConstList js (one ∷ []) (Parameters.constants pairs)) ≡ true
+      → occurs r (term_tree symbols scope (term_image (constants_put pairs) v)) ≡ true
+      → occurs r (proof_tree symbols scope kinds.DefineConstList js (one ∷ []) (Parameters.constants pairs)) ≡ true
   image-use pairs one scope v i [] h r e = absurd h
   image-use pairs one scope v i (a ∷ b ∷ js) h r e = absurd h.1
   image-use pairs one scope v i (a ∷ []) h r e =
       let c = constants_scope symbols scope (constants_put pairs) in
-      let own : c.terms v ≡ term_tree symbols scope (term_image (constants_put pairs) v) = (λ t. term_tree symbols scope (term_image (constants_put pairs) (v.0, substitute-nothing v.1 t))) in
+      let own : c.terms v ≡ term_tree symbols scope (term_image (constants_put pairs) v) =
+      (λ t. term_tree symbols scope (term_image (constants_put pairs) (v.0, substitute-nothing v.1 t))) in
       argument-occurs r (Sym a) (map c.types (type_variables_of one) ++ map c.terms (free_variables_of one) ++ map c.proofs one.hypotheses)
       (any-at r (map c.types (type_variables_of one) ++ map c.terms (free_variables_of one) ++ map c.proofs one.hypotheses) (c.terms v)
       (IsIn-left (map c.types (type_variables_of one) ++ map c.terms (free_variables_of one)) (map c.proofs one.hypotheses) (c.terms v)
@@ -125,7 +129,8 @@ module _ (xs : List Item) (made : AreMade [] xs) (before : List Item) (among : (
 
   constant-use : (scope : Scope) (n : Name) (t : HolType) → occurs (constant_symbol symbols n) (term_tree symbols scope (term.Term.constant n t)) ≡ true
   constant-use scope n t =
-      head-occurs (constant_symbol symbols n) (Sym (constant_symbol symbols n)) (map (type_tree symbols scope.types) (type_arguments (generic_type symbols n) t))
+      head-occurs (constant_symbol symbols n) (Sym (constant_symbol symbols n))
+      (map (type_tree symbols scope.types) (type_arguments (generic_type symbols n) t))
       ((unsigned_Decides (constant_symbol symbols n) (constant_symbol symbols n)).1 refl)
 
   -- a proof uses a constant, whose key this is or whose generic type mentions it
@@ -138,7 +143,8 @@ module _ (xs : List Item) (made : AreMade [] xs) (before : List Item) (among : (
   same_name m n t e = cc
 
   list-uses : (js : List ℕ) (pairs : ConstantPairs) (one : Sequent) → ArePremisesAmong before js (one ∷ []) → is_definition_list pairs one ≡ true
-      → AllByRecursion (λ v. (t : Term) × IsDefinedBy before (constants_put pairs) v t) (free_variables_of one) → IsIn (given_keys (Parameters.constants pairs)) k
+      → AllByRecursion (λ v. (t : Term) × IsDefinedBy before (constants_put pairs) v t) (free_variables_of one)
+      → IsIn (given_keys (Parameters.constants pairs)) k
       → ConstantUsed kinds.DefineConstList js (one ∷ []) (Parameters.constants pairs)
   list-uses js pairs one given_from good defines i =
       let w = flat_map-part (λ (p : Variable × Term). term_keys p.1) (constants_put pairs) k i in
@@ -184,7 +190,8 @@ module _ (xs : List Item) (made : AreMade [] xs) (before : List Item) (among : (
       IsIn-left (e ++ term_keys x) (term_keys y) k (IsIn-right e (term_keys x) k i)
 
   first-keys : (names : TypeNames) (c : HolType) → IsIn (given_keys (Parameters.type_operator names Six)) k → IsIn (sequent_keys (first_law names c)) k
-  first-keys names c i = left-side (function (new_type names) (new_type names)) (term.Term.lam (new_type names) inside) (term.Term.lam (new_type names) (term.Term.bound 0)) (go i)
+  first-keys names c i = left-side (function (new_type names) (new_type names)) (term.Term.lam (new_type names) inside)
+      (term.Term.lam (new_type names) (term.Term.bound 0)) (go i)
     where
       inside : Term
       inside = abstracted names c (represented names c (term.Term.bound 0))
@@ -192,7 +199,8 @@ module _ (xs : List Item) (made : AreMade [] xs) (before : List Item) (among : (
       go : IsIn (given_keys (Parameters.type_operator names Six)) k → IsIn (type_keys (new_type names) ++ term_keys inside) k
       go (inl e) = IsIn-left (type_keys (new_type names)) (term_keys inside) k (operator-in names e)
       go (inr (inl e)) = IsIn-right (type_keys (new_type names)) (term_keys inside) k (abstracted-in names c (represented names c (term.Term.bound 0)) e)
-      go (inr (inr (inl e))) = IsIn-right (type_keys (new_type names)) (term_keys inside) k (within-abstracted names c (represented names c (term.Term.bound 0)) (represented-in names c (term.Term.bound 0) e))
+      go (inr (inr (inl e))) = IsIn-right (type_keys (new_type names)) (term_keys inside) k
+          (within-abstracted names c (represented names c (term.Term.bound 0)) (represented-in names c (term.Term.bound 0) e))
       go (inr (inr (inr n))) = absurd n
 
   second-keys : (names : TypeNames) (c : HolType) (f : Term) → IsIn (given_keys (Parameters.type_operator names Six)) k
@@ -205,7 +213,9 @@ module _ (xs : List Item) (made : AreMade [] xs) (before : List Item) (among : (
       undone = represented names c (abstracted names c (term.Term.bound 0))
 
       go : IsIn (given_keys (Parameters.type_operator names Six)) k → IsIn (term_keys undone) k
-      go (inl e) = inr (inr (IsIn-left (type_keys (new_type names) ++ (type_keys c ++ [])) (term_keys (abstracted names c (term.Term.bound 0))) k (IsIn-left (type_keys (new_type names)) (type_keys c ++ []) k (operator-in names e))))
+      go (inl e) = inr
+          (inr (IsIn-left (type_keys (new_type names) ++ (type_keys c ++ [])) (term_keys (abstracted names c (term.Term.bound 0))) k
+          (IsIn-left (type_keys (new_type names)) (type_keys c ++ []) k (operator-in names e))))
       go (inr (inl e)) = within-represented names c (abstracted names c (term.Term.bound 0)) (abstracted-in names c (term.Term.bound 0) e)
       go (inr (inr (inl e))) = represented-in names c (abstracted names c (term.Term.bound 0)) e
       go (inr (inr (inr n))) = absurd n
@@ -225,7 +235,9 @@ module _ (xs : List Item) (made : AreMade [] xs) (before : List Item) (among : (
       inside = abstracted names c (represented names c (new_variable names))
 
       go : IsIn (given_keys (Parameters.type_operator names Five)) k → IsIn (term_keys inside) k
-      go (inl e) = inr (inr (IsIn-left (type_keys c ++ (type_keys (new_type names) ++ [])) (term_keys (represented names c v)) k (IsIn-right (type_keys c) (type_keys (new_type names) ++ []) k (IsIn-left (type_keys (new_type names)) [] k (operator-in names e)))))
+      go (inl e) = inr
+          (inr (IsIn-left (type_keys c ++ (type_keys (new_type names) ++ [])) (term_keys (represented names c v)) k
+          (IsIn-right (type_keys c) (type_keys (new_type names) ++ []) k (IsIn-left (type_keys (new_type names)) [] k (operator-in names e)))))
       go (inr (inl e)) = abstracted-in names c (represented names c v) e
       go (inr (inr (inl e))) = within-abstracted names c (represented names c v) (represented-in names c v e)
       go (inr (inr (inr n))) = absurd n
@@ -241,7 +253,9 @@ module _ (xs : List Item) (made : AreMade [] xs) (before : List Item) (among : (
       undone = represented names c (abstracted names c (old_variable c))
 
       go : IsIn (given_keys (Parameters.type_operator names Five)) k → IsIn (term_keys undone) k
-      go (inl e) = inr (inr (IsIn-left (type_keys (new_type names) ++ (type_keys c ++ [])) (term_keys (abstracted names c v)) k (IsIn-left (type_keys (new_type names)) (type_keys c ++ []) k (operator-in names e))))
+      go (inl e) = inr
+          (inr (IsIn-left (type_keys (new_type names) ++ (type_keys c ++ [])) (term_keys (abstracted names c v)) k
+          (IsIn-left (type_keys (new_type names)) (type_keys c ++ []) k (operator-in names e))))
       go (inr (inl e)) = within-represented names c (abstracted names c v) (abstracted-in names c v e)
       go (inr (inr (inl e))) = represented-in names c (abstracted names c v) e
       go (inr (inr (inr n))) = absurd n
@@ -269,10 +283,14 @@ module _ (xs : List Item) (made : AreMade [] xs) (before : List Item) (among : (
   given-uses kind premises given s (rule.subst h e) js p defines i = absurd i
   given-uses kind premises given s (rule.recorded h) js p defines i = absurd i
   given-uses kind premises given s (rule.restate h w) js p defines i = absurd i
-  given-uses kind premises given s (rule.first_law {names = names} {c = c} d e) js p defines i = inl (subst (λ (q : Sequent). IsIn (sequent_keys q) k) (sym e) (first-keys names c i))
-  given-uses kind premises given s (rule.second_law {names = names} {c = c} {f = f} d e) js p defines i = inl (subst (λ (q : Sequent). IsIn (sequent_keys q) k) (sym e) (second-keys names c f i))
-  given-uses kind premises given s (rule.first_law_free {names = names} {c = c} d e) js p defines i = inl (subst (λ (q : Sequent). IsIn (sequent_keys q) k) (sym e) (first_free-keys names c i))
-  given-uses kind premises given s (rule.second_law_free {names = names} {c = c} {f = f} d e) js p defines i = inl (subst (λ (q : Sequent). IsIn (sequent_keys q) k) (sym e) (second_free-keys names c f i))
+  given-uses kind premises given s (rule.first_law {names = names} {c = c} d e) js p defines i =
+      inl (subst (λ (q : Sequent). IsIn (sequent_keys q) k) (sym e) (first-keys names c i))
+  given-uses kind premises given s (rule.second_law {names = names} {c = c} {f = f} d e) js p defines i =
+      inl (subst (λ (q : Sequent). IsIn (sequent_keys q) k) (sym e) (second-keys names c f i))
+  given-uses kind premises given s (rule.first_law_free {names = names} {c = c} d e) js p defines i =
+      inl (subst (λ (q : Sequent). IsIn (sequent_keys q) k) (sym e) (first_free-keys names c i))
+  given-uses kind premises given s (rule.second_law_free {names = names} {c = c} {f = f} d e) js p defines i =
+      inl (subst (λ (q : Sequent). IsIn (sequent_keys q) k) (sym e) (second_free-keys names c f i))
 
   map-from : (js : List ℕ) → IsIn (map number_key js) k → (j : ℕ) × IsIn js j × (k ≡ number_key j)
   map-from [] i = absurd i
@@ -284,29 +302,44 @@ module _ (xs : List Item) (made : AreMade [] xs) (before : List Item) (among : (
       → (r : ℕ)
       → occurs r (part_tree symbols (filled symbols (under_types names unfilled)) s c (j, one)) ≡ true → uses d r ≡ true
   part-use d names s c j one is r e =
-      body-use d r (part_definition_tree symbols names s c j one) is (under-abstractions r (map (λ n. types) names) (part_tree symbols (filled symbols (under_types names unfilled)) s c (j, one)) e)
+      body-use d r (part_definition_tree symbols names s c j one) is
+      (under-abstractions r (map (λ n. types) names) (part_tree symbols (filled symbols (under_types names unfilled)) s c (j, one)) e)
 
   premise-use : (d : Declaration) (names : List Name) (s : ℕ) (c : HolType) (j : ℕ) (one : Sequent)
       → d.body ≡ Some (part_definition_tree symbols names s c j one) → k ≡ number_key j → KeyUses symbols k d
   premise-use d names s c j one is e =
-      KeyUses.it (part-use d names s c j one is (symbol_of_key symbols k) (part-used (symbol_of_key symbols k) symbols (filled symbols (under_types names unfilled)) (filled symbols (under_types names unfilled)) s c j one (ap (symbol_of_key symbols) e)))
+      KeyUses.it (part-use d names s c j one is (symbol_of_key symbols k)
+      (part-used (symbol_of_key symbols k) symbols (filled symbols (under_types names unfilled)) (filled symbols (under_types names unfilled)) s c j one
+      (ap (symbol_of_key symbols) e)))
 
   -- The declaration of an item uses what the item needs
   pub content-uses : (name : List ℕ) (c : Content) → IsContent before c → IsUsing c → IsIn (needs c) k → KeyUses symbols k (declaration_of symbols name c)
   content-uses name (operator n j) h u i = absurd i
-  content-uses name (constant n a) h u i = KeyUses.it (type-use (declaration_of symbols name (constant n a)) (symbol_of_key symbols k) (generic-uses symbols k a i))
-  content-uses name (defined_constant n a t) h u i = definition-uses symbols k name n a t h.no_free (term-uses symbols k t (term-instances xs made before among t h.taken) i)
-  content-uses name (type_operator names c f j one) h u (inl e) = premise-use (declaration_of symbols name (type_operator names c f j one)) names.variables sub_symbol c j one refl e
+  content-uses name (constant n a) h u i = KeyUses.it
+      (type-use (declaration_of symbols name (constant n a)) (symbol_of_key symbols k) (generic-uses symbols k a i))
+  content-uses name (defined_constant n a t) h u i =
+      definition-uses symbols k name n a t h.no_free (term-uses symbols k t (term-instances xs made before among t h.taken) i)
+  content-uses name (type_operator names c f j one) h u (inl e) =
+      premise-use (declaration_of symbols name (type_operator names c f j one)) names.variables sub_symbol c j one refl e
   content-uses name (type_operator names c f j one) h u (inr i) =
       let scope = filled symbols (under_types names.variables unfilled) in
       let r = symbol_of_key symbols k in
       KeyUses.it (part-use (declaration_of symbols name (type_operator names c f j one)) names.variables sub_symbol c j one refl r
-      (argument-occurs r (Sym sub_symbol) (part_arguments_of symbols scope c (j, one)) (any-at r (part_arguments_of symbols scope c (j, one)) (type_tree symbols scope.types c) (inl refl) (type-uses symbols k c i scope.types))))
-  content-uses name (type_abstraction names c f j one) h u (inl e) = premise-use (declaration_of symbols name (type_abstraction names c f j one)) (type_variables (abstraction_type names c)) sub_abs_symbol c j one refl e
-  content-uses name (type_abstraction names c f j one) h u (inr i) = KeyUses.it (type-use (declaration_of symbols name (type_abstraction names c f j one)) (symbol_of_key symbols k) (generic-uses symbols k (abstraction_type names c) i))
-  content-uses name (type_representation names c f j one) h u (inl e) = premise-use (declaration_of symbols name (type_representation names c f j one)) (type_variables (representation_type names c)) sub_rep_symbol c j one refl e
-  content-uses name (type_representation names c f j one) h u (inr i) = KeyUses.it (type-use (declaration_of symbols name (type_representation names c f j one)) (symbol_of_key symbols k) (generic-uses symbols k (representation_type names c) i))
-  content-uses name (unproved s) h u i = in-type symbols k (declaration_of symbols name (unproved s)) (sequent-uses symbols k s (sequent-instances xs made before among s h) i)
+      (argument-occurs r (Sym sub_symbol) (part_arguments_of symbols scope c (j, one))
+      (any-at r (part_arguments_of symbols scope c (j, one)) (type_tree symbols scope.types c) (inl refl) (type-uses symbols k c i scope.types))))
+  content-uses name (type_abstraction names c f j one) h u (inl e) =
+      premise-use (declaration_of symbols name (type_abstraction names c f j one)) (type_variables (abstraction_type names c)) sub_abs_symbol c j one refl e
+  content-uses name (type_abstraction names c f j one) h u (inr i) =
+      KeyUses.it (type-use (declaration_of symbols name (type_abstraction names c f j one)) (symbol_of_key symbols k)
+      (generic-uses symbols k (abstraction_type names c) i))
+  content-uses name (type_representation names c f j one) h u (inl e) =
+      premise-use (declaration_of symbols name (type_representation names c f j one)) (type_variables (representation_type names c)) sub_rep_symbol c j one refl
+      e
+  content-uses name (type_representation names c f j one) h u (inr i) =
+      KeyUses.it (type-use (declaration_of symbols name (type_representation names c f j one)) (symbol_of_key symbols k)
+      (generic-uses symbols k (representation_type names c) i))
+  content-uses name (unproved s) h u i = in-type symbols k (declaration_of symbols name (unproved s))
+      (sequent-uses symbols k s (sequent-instances xs made before among s h) i)
   content-uses name (step kind js premises given s) h u i = elim (IsIn-either (sequent_keys s ++ map number_key js) (given_keys given) k i) [
     | inl front ↦ elim (IsIn-either (sequent_keys s) (map number_key js) k front) [
       | inl said ↦ mentioned said
@@ -320,17 +353,22 @@ module _ (xs : List Item) (made : AreMade [] xs) (before : List Item) (among : (
     | inr back ↦ elim (given-uses kind premises given s h.0.rule js h.0.among h.1 back) [
       | inl said ↦ mentioned said
       | inr w ↦ elim w.key [
-        | inl e ↦ KeyUses.it (in_proof (symbol_of_key symbols k) (subst (λ (l : Key). occurs (symbol_of_key symbols l) (proof_tree symbols (scope_of symbols s) kind js premises given) ≡ true) (sym e) (w.used (scope_of symbols s))))
+        | inl e ↦ KeyUses.it
+            (in_proof (symbol_of_key symbols k)
+            (subst (λ (l : Key). occurs (symbol_of_key symbols l) (proof_tree symbols (scope_of symbols s) kind js premises given) ≡ true) (sym e)
+            (w.used (scope_of symbols s))))
         | inr j ↦ KeyUses.by_constant w.name (in_proof (constant_symbol symbols w.name) (w.used (scope_of symbols s))) j
       ]
     ]
   ]
     where
       mentioned : IsIn (sequent_keys s) k → KeyUses symbols k (declaration_of symbols name (step kind js premises given s))
-      mentioned j = in-type symbols k (declaration_of symbols name (step kind js premises given s)) (sequent-uses symbols k s (sequent-instances xs made before among s h.0.taken) j)
+      mentioned j = in-type symbols k (declaration_of symbols name (step kind js premises given s))
+          (sequent-uses symbols k s (sequent-instances xs made before among s h.0.taken) j)
 
       in_proof : (r : ℕ) → occurs r (proof_tree symbols (scope_of symbols s) kind js premises given) ≡ true
           → uses (declaration_of symbols name (step kind js premises given s)) r ≡ true
       in_proof r e =
           let proof = proof_tree symbols (scope_of symbols s) kind js premises given in
-          body-use (declaration_of symbols name (step kind js premises given s)) r (abstractions (domains_of symbols s) proof) refl (under-abstractions r (domains_of symbols s) proof e)
+          body-use (declaration_of symbols name (step kind js premises given s)) r (abstractions (domains_of symbols s) proof) refl
+          (under-abstractions r (domains_of symbols s) proof e)

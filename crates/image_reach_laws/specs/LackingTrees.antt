@@ -175,8 +175,10 @@ module _ (symbols : SymbolMap) (s : ℕ) (apart : IsApart symbols s) where
 
     term_domains-lack : (vs : List Variable) (scope : Scope) → Applies scope → AllByRecursion (Lacks s) (term_domains symbols vs scope)
     term_domains-lack [] scope h = tt
-    term_domains-lack (v ∷ vs) scope h =
-        (term_of-lacks (type_tree symbols scope.types v.1) (type_tree-lacks scope.types h.types v.1), term_domains-lack vs (under_term v scope) (under_term-applies v scope h))
+    term_domains-lack (v ∷ vs) scope h = (
+      term_of-lacks (type_tree symbols scope.types v.1) (type_tree-lacks scope.types h.types v.1),
+      term_domains-lack vs (under_term v scope) (under_term-applies v scope h),
+    )
 
     proof_domains-lack : (ps : List Term) (scope : Scope) → Applies scope → AllByRecursion (Lacks s) (proof_domains symbols ps scope)
     proof_domains-lack [] scope h = tt
@@ -189,5 +191,6 @@ module _ (symbols : SymbolMap) (s : ℕ) (apart : IsApart symbols s) where
         let vs = term_domains symbols (free_variables_of q) (scope_of_types symbols q) in
         let hs = proof_domains symbols q.hypotheses (scope_of_terms symbols q) in
         All-append (Lacks s) (ts ++ vs) hs
-        (All-append (Lacks s) ts vs (types-lack (type_variables_of q)) (term_domains-lack (free_variables_of q) (scope_of_types symbols q) (scope_of_types-applies q)))
+        (All-append (Lacks s) ts vs (types-lack (type_variables_of q))
+        (term_domains-lack (free_variables_of q) (scope_of_types symbols q) (scope_of_types-applies q)))
         (proof_domains-lack q.hypotheses (scope_of_terms symbols q) (scope_of_terms-applies q))

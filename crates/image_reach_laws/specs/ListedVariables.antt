@@ -72,7 +72,8 @@ equation-free h (Some q) is e f = subst (λ t. IsIn (free_places t) e.0) (sym (e
 pub listed-free : (pairs : ConstantPairs) (one : Sequent) → is_definition_list pairs one ≡ true → (v : Variable) → IsIn (variables_of pairs) v
     → IsIn (free_variables_of one) v
 listed-free pairs one good v i =
-    let found = passes (λ w. is_some (definiens pairs one.hypotheses w)) (variables_of pairs) (list_parts pairs one good).defined v (in-list (variables_of pairs) v i) in
+    let found = passes (λ w. is_some (definiens pairs one.hypotheses w)) (variables_of pairs) (list_parts pairs one good).defined v
+    (in-list (variables_of pairs) v i) in
     let e = lookup-pair (defining_equations pairs one.hypotheses) v found in
     let h = filtered-from variable_equation (λ e. is_in variable_eq e.0 (variables_of pairs)) one.hypotheses e.0 e.1 in
     let place = subst (IsIn (free_places h.0)) e.2 (equation-free h.0 (equation_parts h.0) refl e.0 h.2) in
@@ -90,7 +91,8 @@ put-at : (p : Name × Variable) (qs : ConstantPairs) → no_repeats variable_eq 
     → lookup (variable_eq p.1) (constants_put qs) ≡ Some (constant p.0 p.1.1)
 put-at p [] h i = absurd i
 put-at p (q ∷ qs) h (inl e) =
-    ap (λ b. cond b (Some (constant q.0 q.1.1)) (lookup (variable_eq p.1) (constants_put qs))) ((variable_eq-Decides p.1 q.1).1 (ap (λ (r : Name × Variable). r.1) e))
+    ap (λ b. cond b (Some (constant q.0 q.1.1)) (lookup (variable_eq p.1) (constants_put qs)))
+    ((variable_eq-Decides p.1 q.1).1 (ap (λ (r : Name × Variable). r.1) e))
     ∙ ap (λ (r : Name × Variable). Some (constant r.0 r.1.1)) (sym e)
 put-at p (q ∷ qs) h (inr i) =
     let parts = and_parts (not (is_in variable_eq q.1 (variables_of qs))) (no_repeats variable_eq (variables_of qs)) h in
@@ -99,7 +101,9 @@ put-at p (q ∷ qs) h (inr i) =
     go : (b : Bool) → variable_eq p.1 q.1 ≡ b → (variable_eq p.1 q.1 ≡ true → p.1 ≡ q.1) → is_in variable_eq q.1 (variables_of qs) ≡ false
         → lookup (variable_eq p.1) (constants_put qs) ≡ Some (constant p.0 p.1.1)
         → lookup (variable_eq p.1) (constants_put (q ∷ qs)) ≡ Some (constant p.0 p.1.1)
-    go true e f new rest = absurd (both_ways (is_in variable_eq q.1 (variables_of qs)) new (in-list (variables_of qs) q.1 (subst (IsIn (variables_of qs)) (f e) (listed-variable qs p i))))
+    go true e f new rest = absurd
+        (both_ways (is_in variable_eq q.1 (variables_of qs)) new
+        (in-list (variables_of qs) q.1 (subst (IsIn (variables_of qs)) (f e) (listed-variable qs p i))))
     go false e f new rest = ap (λ b. cond b (Some (constant q.0 q.1.1)) (lookup (variable_eq p.1) (constants_put qs))) e ∙ rest
 
 -- And its constant is put for it

@@ -52,13 +52,15 @@ module _ (xs : List Item) where
 
   placed-after : (before ys : List Item) → xs ≡ before ++ ys → AreMade before ys → (z : Item) → IsIn ys z → IsPlaced xs z
   placed-after before [] whole h z i = absurd i
-  placed-after before (y ∷ ys) whole h z (inl e) = subst (IsPlaced xs) (sym e) (record { number = length lemmas + length before; symbol = h.0; at = located before ys y whole })
+  placed-after before (y ∷ ys) whole h z (inl e) =
+      subst (IsPlaced xs) (sym e) (record { number = length lemmas + length before; symbol = h.0; at = located before ys y whole })
   placed-after before (y ∷ ys) whole h z (inr i) = placed-after (before ++ y ∷ []) ys (whole ∙ sym (append_assoc before (y ∷ []) ys)) h.3 z i
 
   asked-after : (before ys : List Item) → xs ≡ before ++ ys → AreMade before ys → (z : Item) → IsIn ys z → IsAsked xs z
   asked-after before [] whole h z i = absurd i
   asked-after before (y ∷ ys) whole h z (inl e) =
-      subst (IsAsked xs) (sym e) (record { before = before; among = λ x k. subst (λ l. IsIn l x) (sym whole) (IsIn-left before (y ∷ ys) x k); new = h.1; content = h.2 })
+      subst (IsAsked xs) (sym e)
+      (record { before = before; among = λ x k. subst (λ l. IsIn l x) (sym whole) (IsIn-left before (y ∷ ys) x k); new = h.1; content = h.2 })
   asked-after before (y ∷ ys) whole h z (inr i) = asked-after (before ++ y ∷ []) ys (whole ∙ sym (append_assoc before (y ∷ []) ys)) h.3 z i
 
   -- what the symbols tell of each
@@ -104,7 +106,8 @@ module _ (xs : List Item) (made : AreMade [] xs) where
     taken-instance : (n : Name) (t : HolType) → ConstantTaken before n t → Instance (generic_type (symbols_of xs) n) t
     taken-instance n t (items.ConstantTaken.primitive g e i) = subst (λ b. Instance b t) (sym (ap (λ o. unwrap_or o ((symbols_of xs).generic n)) e)) i
     taken-instance n t (items.ConstantTaken.declared a h i) = subst (λ b. Instance b t) (sym (has-told (constant n a) (has-among (constant n a) h)).1.1) i
-    taken-instance n t (items.ConstantTaken.defined a u h i) = subst (λ b. Instance b t) (sym (has-told (defined_constant n a u) (has-among (defined_constant n a u) h)).1.1) i
+    taken-instance n t (items.ConstantTaken.defined a u h i) =
+        subst (λ b. Instance b t) (sym (has-told (defined_constant n a u) (has-among (defined_constant n a u) h)).1.1) i
     taken-instance n t (items.ConstantTaken.abstraction names c f j one h e i) =
         let told = (has-told (type_abstraction names c f j one) (has-among (type_abstraction names c f j one) h)).1.1 in
         subst (λ (l : Name). Instance (generic_type (symbols_of xs) l) t) (sym e) (subst (λ b. Instance b t) (sym told) i)
@@ -185,7 +188,8 @@ First-each test [] = First.no_item refl
 First-each test (x ∷ xs) = go (test x.content) refl (First-each test xs)
   where
     chosen : (b : Bool) → test x.content ≡ b
-        → (first_symbol test (x ∷ xs) ≡ cond b x.symbol (first_symbol test xs)) × (first_type test (x ∷ xs) ≡ cond b (generic_of x.content) (first_type test xs))
+        → (first_symbol test (x ∷ xs) ≡ cond b x.symbol (first_symbol test xs))
+        × (first_type test (x ∷ xs) ≡ cond b (generic_of x.content) (first_type test xs))
     chosen b e = (ap (λ c. cond c x.symbol (first_symbol test xs)) e, ap (λ c. cond c (generic_of x.content) (first_type test xs)) e)
 
     go : (b : Bool) → test x.content ≡ b → First test xs → First test (x ∷ xs)
@@ -229,7 +233,8 @@ constant-of xs n k new i = go (primitive_type n) refl
       item = x;
       among = there;
       symbol = constant-input (symbols_of xs) n e ∙ s;
-      ty = constant-type (symbols_of xs) x.name x.content n t ∙ ap (generic_tree (symbols_of xs)) (sym (ap (λ o. unwrap_or o ((symbols_of xs).generic n)) e ∙ g));
+      ty = constant-type (symbols_of xs) x.name x.content n t
+          ∙ ap (generic_tree (symbols_of xs)) (sym (ap (λ o. unwrap_or o ((symbols_of xs).generic n)) e ∙ g));
     }
 
     go : (o : Option HolType) → primitive_type n ≡ o → IsConstantOf xs n

@@ -26,7 +26,8 @@ use Rattle.hol_spec.specs.NewTypes.{abstraction_type, representation_type}
 
 -- what a hypothesis is proved for is a hypothesis, unless the step proves nothing
 proves : (kind : StepKind) (ss : List Sequent) → proves_nothing kind ss ≡ false → ProvesHypothesis kind ss
-proves kinds.ProveHyp (one ∷ two ∷ []) e = is_in-IsIn term_eq term_eq-Decides two.hypotheses one.conclusion (not-false (is_in term_eq one.conclusion two.hypotheses) e)
+proves kinds.ProveHyp (one ∷ two ∷ []) e = is_in-IsIn term_eq term_eq-Decides two.hypotheses one.conclusion
+    (not-false (is_in term_eq one.conclusion two.hypotheses) e)
 proves kinds.ProveHyp [] e = tt
 proves kinds.ProveHyp (one ∷ []) e = tt
 proves kinds.ProveHyp (one ∷ two ∷ three ∷ ss) e = tt
@@ -58,7 +59,8 @@ step-using before x = go (proves_nothing x.kind (sequents_at before x.premises))
     go : (b : Bool) → proves_nothing x.kind (sequents_at before x.premises) ≡ b → IsUsing (shown_content before (cond b (restated x) x))
     go true e = tt
     go false e =
-        content-using (has_row x.kind) x.kind (map (λ k. (premise_at before k).0) x.premises) (sequents_at before x.premises) x.parameters x.sequent (proves x.kind (sequents_at before x.premises) e)
+        content-using (has_row x.kind) x.kind (map (λ k. (premise_at before k).0) x.premises) (sequents_at before x.premises) x.parameters x.sequent
+        (proves x.kind (sequents_at before x.premises) e)
 
 symbol-using : (x : Symbol) → AllByRecursion IsUsing (contents_of x)
 symbol-using (Symbol.input_constant n) = (tt {0}, tt {0})
@@ -84,7 +86,8 @@ after-using named before [] h = h
 after-using named before (x ∷ xs) h =
     let name = named (length (said_by before)) x in
     after-using named (before ++ numbered name (length before) (contents before x)) xs
-    (All-append IsUsingItem before (numbered name (length before) (contents before x)) h (numbered-using name (length before) (contents before x) (made-using before x)))
+    (All-append IsUsingItem before (numbered name (length before) (contents before x)) h
+    (numbered-using name (length before) (contents before x) (made-using before x)))
 
 -- Each item of a run needs its premises
 pub items-using : (named : Naming) (made : List Made) → AllByRecursion (λ (z : Item). IsUsing z.content) (items_of named made)
@@ -129,7 +132,8 @@ module _ (number : ℕ → ℕ) where
   given_keys-symbols : (g : Parameters) (k : Key) → IsIn (given_keys g) k → IsSymbolKey k
   given_keys-symbols (Parameters.constant n t) k (inl e) = subst IsSymbolKey (sym e) (tt {0})
   given_keys-symbols (Parameters.constant n t) k (inr i) = absurd i
-  given_keys-symbols (Parameters.constants pairs) k i = let w = flat_map-part (λ (p : Variable × Term). term_keys p.1) (constants_put pairs) k i in term_keys-symbols w.0.1 k w.2
+  given_keys-symbols (Parameters.constants pairs) k i = let w =
+      flat_map-part (λ (p : Variable × Term). term_keys p.1) (constants_put pairs) k i in term_keys-symbols w.0.1 k w.2
   given_keys-symbols Parameters.nothing k i = absurd i
   given_keys-symbols (Parameters.term t) k i = absurd i
   given_keys-symbols (Parameters.variable v) k i = absurd i
@@ -152,16 +156,20 @@ module _ (number : ℕ → ℕ) where
   needs-renumbered (type_operator names c f j one) k (inl e) = inl (ap renumbered_key e)
   needs-renumbered (type_operator names c f j one) k (inr i) = inr (renumbered_key-IsIn (type_keys c) k (type_keys-symbols c k i) i)
   needs-renumbered (type_abstraction names c f j one) k (inl e) = inl (ap renumbered_key e)
-  needs-renumbered (type_abstraction names c f j one) k (inr i) = inr (renumbered_key-IsIn (type_keys (abstraction_type names c)) k (type_keys-symbols (abstraction_type names c) k i) i)
+  needs-renumbered (type_abstraction names c f j one) k (inr i) =
+      inr (renumbered_key-IsIn (type_keys (abstraction_type names c)) k (type_keys-symbols (abstraction_type names c) k i) i)
   needs-renumbered (type_representation names c f j one) k (inl e) = inl (ap renumbered_key e)
-  needs-renumbered (type_representation names c f j one) k (inr i) = inr (renumbered_key-IsIn (type_keys (representation_type names c)) k (type_keys-symbols (representation_type names c) k i) i)
+  needs-renumbered (type_representation names c f j one) k (inr i) =
+      inr (renumbered_key-IsIn (type_keys (representation_type names c)) k (type_keys-symbols (representation_type names c) k i) i)
   needs-renumbered (unproved s) k i = renumbered_key-IsIn (sequent_keys s) k (sequent_keys-symbols s k i) i
   needs-renumbered (step kind js ss g s) k i = elim (IsIn-either (sequent_keys s ++ map number_key js) (given_keys g) k i) [
     | inl front ↦ elim (IsIn-either (sequent_keys s) (map number_key js) k front) [
       | inl said ↦ IsIn-left (sequent_keys s ++ map number_key (map number js)) (given_keys g) (renumbered_key k)
-          (IsIn-left (sequent_keys s) (map number_key (map number js)) (renumbered_key k) (renumbered_key-IsIn (sequent_keys s) k (sequent_keys-symbols s k said) said))
+          (IsIn-left (sequent_keys s) (map number_key (map number js)) (renumbered_key k)
+          (renumbered_key-IsIn (sequent_keys s) k (sequent_keys-symbols s k said) said))
       | inr premise ↦ IsIn-left (sequent_keys s ++ map number_key (map number js)) (given_keys g) (renumbered_key k)
           (IsIn-right (sequent_keys s) (map number_key (map number js)) (renumbered_key k) (premise-renumbered js k premise))
     ]
-    | inr back ↦ IsIn-right (sequent_keys s ++ map number_key (map number js)) (given_keys g) (renumbered_key k) (renumbered_key-IsIn (given_keys g) k (given_keys-symbols g k back) back)
+    | inr back ↦ IsIn-right (sequent_keys s ++ map number_key (map number js)) (given_keys g) (renumbered_key k)
+        (renumbered_key-IsIn (given_keys g) k (given_keys-symbols g k back) back)
   ]

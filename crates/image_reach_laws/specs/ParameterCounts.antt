@@ -90,20 +90,24 @@ pub declared-says : (m : List Declaration) (symbols : SymbolMap) (closed : Close
 declared-says m symbols closed name (operator n k) h =
     let e : 0 ≡ 7 = sym (end_symbol-products (replicate k types) types) ∙ Enc-end_symbol m closed _ h in absurd (omega (arith, e))
 declared-says m symbols closed name (constant n a) h =
-    let e : 4 ≡ 7 = sym (end_symbol-products (map (λ m. types) (type_variables a)) (term_of (type_tree symbols (under_types (type_variables a) unfilled) a))) ∙ Enc-end_symbol m closed _ h in
+    let e : 4 ≡ 7 = sym (end_symbol-products (map (λ m. types) (type_variables a)) (term_of (type_tree symbols (under_types (type_variables a) unfilled) a)))
+    ∙ Enc-end_symbol m closed _ h in
     absurd (omega (arith, e))
 declared-says m symbols closed name (defined_constant n a t) h =
-    let e : 4 ≡ 7 = sym (end_symbol-products (map (λ m. types) (type_variables a)) (term_of (type_tree symbols (under_types (type_variables a) unfilled) a))) ∙ Enc-end_symbol m closed _ h in
+    let e : 4 ≡ 7 = sym (end_symbol-products (map (λ m. types) (type_variables a)) (term_of (type_tree symbols (under_types (type_variables a) unfilled) a)))
+    ∙ Enc-end_symbol m closed _ h in
     absurd (omega (arith, e))
 declared-says m symbols closed name (type_operator names c f j one) h =
     let e : 0 ≡ 7 = sym (end_symbol-products (replicate (length names.variables) types) types) ∙ Enc-end_symbol m closed _ h in absurd (omega (arith, e))
 declared-says m symbols closed name (type_abstraction names c f j one) h =
     let a = abstraction_type names c in
-    let e : 4 ≡ 7 = sym (end_symbol-products (map (λ m. types) (type_variables a)) (term_of (type_tree symbols (under_types (type_variables a) unfilled) a))) ∙ Enc-end_symbol m closed _ h in
+    let e : 4 ≡ 7 = sym (end_symbol-products (map (λ m. types) (type_variables a)) (term_of (type_tree symbols (under_types (type_variables a) unfilled) a)))
+    ∙ Enc-end_symbol m closed _ h in
     absurd (omega (arith, e))
 declared-says m symbols closed name (type_representation names c f j one) h =
     let a = representation_type names c in
-    let e : 4 ≡ 7 = sym (end_symbol-products (map (λ m. types) (type_variables a)) (term_of (type_tree symbols (under_types (type_variables a) unfilled) a))) ∙ Enc-end_symbol m closed _ h in
+    let e : 4 ≡ 7 = sym (end_symbol-products (map (λ m. types) (type_variables a)) (term_of (type_tree symbols (under_types (type_variables a) unfilled) a)))
+    ∙ Enc-end_symbol m closed _ h in
     absurd (omega (arith, e))
 declared-says m symbols closed name (unproved q) h = record {
   sequent = q;

@@ -96,7 +96,8 @@ exported-name run i kind name (IsStepName.a_theorem e k w) one = absurd (both_wa
 said-name : (run : Accepted) (j : ℕ) (before : List Item) (z : Item) (s : Sequent) → says z.content ≡ Some s → length (said_by before) ≡ j
     → is_one_of j run.exports ≡ true
     → IsItemName run (λ i. i ≡ length (said_by before)) z → is_export_name z.name ≡ true
-said-name run j before z s said place one (IsItemName.by_symbol h) = let f : None ≡ Some s = sym (symbol-silent (symbols_of run.made) z.content z.name h) ∙ said in absurd (cc)
+said-name run j before z s said place one (IsItemName.by_symbol h) = let f : None ≡ Some s =
+    sym (symbol-silent (symbols_of run.made) z.content z.name h) ∙ said in absurd (cc)
 said-name run j before z s said place one (IsItemName.by_step i x p at told h) =
     exported-name run i x.kind z.name h (ap (λ k. is_one_of k run.exports) (p ∙ place) ∙ one)
 
@@ -109,9 +110,11 @@ module _ (run : Accepted) (named : HasNames run) (sound : IsSoundRun run) where
   place-named order z i j exported key =
       let short = (All-at (IsDerived run) run.exports j sound.exports exported).step in
       let count = made-said (name_in run) run.made sound.proof sound.over in
-      let q = said-at run items j [] items refl (items-named run named sound [] items (made-origins run run.made)) (omega arith) (omega (arith, short, count)) in
+      let q = said-at run items j [] items refl (items-named run named sound [] items (made-origins run run.made)) (omega arith) (omega (arith, short, count))
+      in
       let there : IsIn items q.item = subst (λ l. IsIn l q.item) (sym q.whole) (IsIn-right q.before (q.item ∷ q.after) q.item (inl refl)) in
-      let place : premise_at items j ≡ (q.item.symbol, q.sequent) = ap (premise_at items) (sym q.place) ∙ premise_at-said items q.before q.after q.item q.sequent q.whole q.said in
+      let place : premise_at items j ≡ (q.item.symbol, q.sequent) =
+      ap (premise_at items) (sym q.place) ∙ premise_at-said items q.before q.after q.item q.sequent q.whole q.said in
       let number : z.symbol ≡ q.item.symbol = number-of z.symbol z.content (premise_at items j).0 key ∙ ap (λ (p : ℕ × Sequent). p.0) place in
       let same : z ≡ q.item = one-number 0 items (numbered-from [] items order) z q.item i there number in
       ap (λ (u : Item). is_export_name u.name) same ∙ said-name run j q.before q.item q.sequent q.said q.place (in-one_of j run.exports exported) q.name

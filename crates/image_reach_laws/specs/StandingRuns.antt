@@ -39,7 +39,8 @@ module _ (xs : List Item) (made : AreMade [] xs) where
   used-reached : (y z : Item) → IsIn xs y → IsItemReached xs y → (s : ℕ) → s ≡ z.symbol → uses (declaration (symbols_of xs) y) s ≡ true → IsItemReached xs z
   used-reached y z i reached s is used l at =
       let p = item-placed xs made y i in
-      IsReached.used p.number (declaration (symbols_of xs) y) (reached p.number (sym p.symbol)) p.at (ap (λ r. uses (declaration (symbols_of xs) y) r) (at ∙ sym is) ∙ used)
+      IsReached.used p.number (declaration (symbols_of xs) y) (reached p.number (sym p.symbol)) p.at
+      (ap (λ r. uses (declaration (symbols_of xs) y) r) (at ∙ sym is) ∙ used)
 
   -- What an item needs is reached with it
   needed-reached : (y z : Item) → IsIn xs y → IsIn xs z → IsItemReached xs y → IsUsing y.content → IsIn (needs y.content) (gives z) → IsItemReached xs z
@@ -92,18 +93,22 @@ module _ (run : Accepted) (named : HasNames run) (sound : IsSoundRun run) where
     need : (y z : Item) (k : Key) → IsIn (needs y.content) k → key_eq (gives z) k ≡ true
         → IsIn (needs (renumbered number y).content) (gives (renumbered number z))
     need y z k i e =
-        subst (IsIn (needs (renumbered_content number y.content))) (ap (renumbered_key number) (sym (key_eq-is (gives z) k e)) ∙ gives-renumbered number z.symbol z.content)
+        subst (IsIn (needs (renumbered_content number y.content)))
+        (ap (renumbered_key number) (sym (key_eq-is (gives z) k e)) ∙ gives-renumbered number z.symbol z.content)
         (needs-renumbered number y.content k i)
 
     -- Each kept item is reached
     item-reached : (z : Item) → IsReachedItem roots items z → IsIn items z → keep z.symbol ≡ true → IsItemReached stays (renumbered number z)
-    item-reached z (IsReachedItem.root k root e) i kz = export-reached stays made (renumbered number z) (staying z i kz) (root-named run named sound order z i k root e)
+    item-reached z (IsReachedItem.root k root e) i kz =
+        export-reached stays made (renumbered number z) (staying z i kz) (root-named run named sound order z i k root e)
     item-reached z (IsReachedItem.needed y k h iy ky i e) iz kz =
-        needed-reached stays made (renumbered number y) (renumbered number z) (staying y iy ky) (staying z iz kz) (item-reached y h iy ky) (using y iy) (need y z k i e)
+        needed-reached stays made (renumbered number y) (renumbered number z) (staying y iy ky) (staying z iz kz) (item-reached y h iy ky) (using y iy)
+        (need y z k i e)
 
     pub unproved-reached : (i : ℕ) (d : Declaration) → slice_get (image run) i ≡ Some d → d.body ≡ None → IsReached (image run) i
     unproved-reached =
-        each-declaration run named sound order (origins-all run [] items (made-origins run run.made)) (λ i d. d.body ≡ None → IsReached (image run) i) (λ e. absurd (cc)) (λ e. absurd (cc))
+        each-declaration run named sound order (origins-all run [] items (made-origins run run.made)) (λ i d. d.body ≡ None → IsReached (image run) i)
+        (λ e. absurd (cc)) (λ e. absurd (cc))
         (λ z i k l at none. item-reached z (made-reached roots items order z i k) i k l at)
 
 -- The law: the module of an accepted run stands for it

@@ -62,7 +62,8 @@ typed-after : (before ds : List Declaration) → AreTypedAfter before ds → (i 
 typed-after before [] h i d e = absurd (cc)
 typed-after before (x ∷ ds) h zero d e =
     let same : x ≡ d = cc in subst (IsTypedAfter (before ++ [])) same (subst (λ l. IsTypedAfter l x) (sym (append-nil before)) h.0)
-typed-after before (x ∷ ds) h (suc i) d e = subst (λ l. IsTypedAfter l d) (append_assoc before (x ∷ []) (take i ds)) (typed-after (before ++ x ∷ []) ds h.1 i d e)
+typed-after before (x ∷ ds) h (suc i) d e = subst (λ l. IsTypedAfter l d) (append_assoc before (x ∷ []) (take i ds))
+    (typed-after (before ++ x ∷ []) ds h.1 i d e)
 
 body-typed : (m : List Declaration) (f : Form) (o : Option Tree) (A body : Tree) → IsBodyOf m f o A → o ≡ Some body → Typed m [] body A
 body-typed m Symbol o A body h e = let none : None ≡ Some body = sym h ∙ e in absurd (cc)
@@ -83,7 +84,8 @@ theorem-says symbols name number (type_representation names c u j one) f e = abs
 theorem-says symbols name number (unproved s) f e = absurd (cc)
 theorem-says symbols name number (step kind js ss g s) f e = absurd (cc)
 
-theorem-row : (symbols : SymbolMap) (name : List ℕ) (number : ℕ → ℕ) (b : Bool) (kind : StepKind) (js : List ℕ) (ss : List Sequent) (g : Parameters) (s : Sequent)
+theorem-row : (symbols : SymbolMap) (name : List ℕ) (number : ℕ → ℕ) (b : Bool) (kind : StepKind) (js : List ℕ) (ss : List Sequent) (g : Parameters)
+    (s : Sequent)
     → (declaration_of symbols name (renumbered_content number (content_by b kind js ss g s))).form ≡ Thm → b ≡ true
 theorem-row symbols name number true kind js ss g s f = refl
 theorem-row symbols name number false kind js ss g s f = absurd (cc)
@@ -101,10 +103,12 @@ module _ (run : Accepted) (named : HasNames run) (sound : IsSoundRun run) (carri
   -- The theorem of a kept item
   item-theorem : (z : Item) → IsIn (items run named sound) z → keep run named sound z.symbol ≡ true → (declared run named sound z).form ≡ Thm
       → IsStepTheorem run (declared run named sound z)
-  item-theorem z i kept f = by_name (item_name-is run named sound.assumptions Always z (All-at (Origin run run.made Always) (items run named sound) z origins i))
+  item-theorem z i kept f = by_name
+      (item_name-is run named sound.assumptions Always z (All-at (Origin run run.made Always) (items run named sound) z origins i))
     where
       by_name : IsItemName run Always z → IsStepTheorem run (declared run named sound z)
-      by_name (IsItemName.by_symbol h) = absurd (theorem-says (symbols run named sound) z.name (number run named sound) z.content f (symbol-silent (symbols_of run.made) z.content z.name h))
+      by_name (IsItemName.by_symbol h) = absurd
+          (theorem-says (symbols run named sound) z.name (number run named sound) z.content f (symbol-silent (symbols_of run.made) z.content z.name h))
       by_name (IsItemName.by_step k x p at told name) =
           let row =
           theorem-row (symbols run named sound) z.name (number run named sound) (has_row x.kind) told.kind told.premises told.sequents told.parameters x.sequent
@@ -113,13 +117,15 @@ module _ (run : Accepted) (named : HasNames run) (sound : IsSoundRun run) (carri
             number = k;
             step = x;
             at = at;
-            name = subst (IsTheoremName run k) (sym (declaration-name (symbols run named sound) z.name (renumbered_content (number run named sound) z.content))) (theorem-name run k x.kind z.name row name);
+            name = subst (IsTheoremName run k) (sym (declaration-name (symbols run named sound) z.name (renumbered_content (number run named sound) z.content)))
+                (theorem-name run k x.kind z.name row name);
             says = item-stands run named sound carried.in_order origins z i kept x.sequent (content-says x z.content told);
           }
 
   theorems-of_steps : AreStepTheorems run
   theorems-of_steps =
-      each-declaration run named sound carried.in_order origins (λ i d. length lemmas ≤ i → d.form ≡ Thm → IsStepTheorem run d) (λ l. absurd (omega (arith, l))) (λ l. absurd (omega (arith, l)))
+      each-declaration run named sound carried.in_order origins (λ i d. length lemmas ≤ i → d.form ≡ Thm → IsStepTheorem run d) (λ l. absurd (omega (arith, l)))
+      (λ l. absurd (omega (arith, l)))
       (λ z i kept k at l f. item-theorem z i kept f)
 
 -- The law: the bodies of the module of an accepted run are typed, and where the run has names its theorems are those of steps

@@ -39,8 +39,10 @@ module _ (x : Tree) (us : List Tree) where
       ∙ ap (λ i. option_map_or (lift 0) (slice_get (reverse (us ++ x ∷ [])) i) (Var (suc n - length (us ++ x ∷ [])))) all
       ∙ ap (λ l. option_map_or (lift 0) (slice_get l (suc n)) (Var (suc n - length (us ++ x ∷ [])))) reversed)
     where
-      either : ((a : Tree) × (n < length (reverse us)) × (slice_get (reverse us) n ≡ Some a) × (get_or (reverse us) n a ≡ a)) ⊎ ((length (reverse us) ≤ n) × (slice_get (reverse us) n ≡ None))
-          → sub (cons x Var) (option_map_or (lift 1) (slice_get (reverse us) n) (Var (suc n - length us))) ≡ option_map_or (lift 0) (slice_get (reverse us) n) (Var (suc n - length (us ++ x ∷ [])))
+      either : ((a : Tree) × (n < length (reverse us)) × (slice_get (reverse us) n ≡ Some a) × (get_or (reverse us) n a ≡ a))
+          ⊎ ((length (reverse us) ≤ n) × (slice_get (reverse us) n ≡ None))
+          → sub (cons x Var) (option_map_or (lift 1) (slice_get (reverse us) n) (Var (suc n - length us)))
+          ≡ option_map_or (lift 0) (slice_get (reverse us) n) (Var (suc n - length (us ++ x ∷ [])))
       either (inl w) = rw w.2 (sym (put_is x (lift 1 w.0)) ∙ put-lift x w.0 ∙ sym (lift_zero w.0))
       either (inr w) =
           let l : suc n - length us ≡ suc (n - length us) = omega (arith, w.0, length-reverse us) in

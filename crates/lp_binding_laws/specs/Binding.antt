@@ -46,7 +46,8 @@ list_var k (u ∷ us) n = sub (cons (lift k u) Var) (list_var (suc k) us n)
 
 puts_is : (k : ℕ) (us : List Tree) (t : Tree) → puts k us t ≡ sub (list_var k us) t
 puts_is k [] t = sym (sub_var t)
-puts_is k (u ∷ us) t = put_is (lift k u) (puts (suc k) us t) ∙ ap (sub (cons (lift k u) Var)) (puts_is (suc k) us t) ∙ sub_sub (cons (lift k u) Var) (list_var (suc k) us) t
+puts_is k (u ∷ us) t = put_is (lift k u) (puts (suc k) us t) ∙ ap (sub (cons (lift k u) Var)) (puts_is (suc k) us t) ∙ sub_sub (cons (lift k u) Var)
+    (list_var (suc k) us) t
 
 cons_lift : (k : ℕ) (u a : Tree) → sub (cons (lift k u) Var) (lift (suc k) a) ≡ lift k a
 cons_lift k u a = ap (sub (cons (lift k u) Var)) (sym (suc_lift k a)) ∙ sub_ren (cons (lift k u) Var) suc (lift k a) ∙ sub_var (lift k a)
@@ -54,7 +55,8 @@ cons_lift k u a = ap (sub (cons (lift k u) Var)) (sym (suc_lift k a)) ∙ sub_re
 -- a put more among the variables of a list
 module _ (k : ℕ) (u : Tree) where
   one_more : (xs : List Tree) (n : ℕ)
-      → sub (cons (lift k u) Var) (option_map_or (lift (suc k)) (slice_get xs n) (Var (n - length xs))) ≡ option_map_or (lift k) (slice_get (xs ++ u ∷ []) n) (Var (n - suc (length xs)))
+      → sub (cons (lift k u) Var) (option_map_or (lift (suc k)) (slice_get xs n) (Var (n - length xs)))
+      ≡ option_map_or (lift k) (slice_get (xs ++ u ∷ []) n) (Var (n - suc (length xs)))
   one_more [] zero = refl
   one_more [] (suc n) =
       let a : suc n - 0 ≡ suc n = omega arith in
@@ -72,7 +74,8 @@ module _ (k : ℕ) (u : Tree) where
 pub list_var_is : (k : ℕ) (us : List Tree) (n : ℕ) → list_var k us n ≡ option_map_or (lift k) (slice_get (reverse us) n) (Var (n - length us))
 list_var_is k [] n = let e : n ≡ n - 0 = omega arith in ap Var e
 list_var_is k (u ∷ us) n =
-    ap (sub (cons (lift k u) Var)) (list_var_is (suc k) us n ∙ ap (λ m. option_map_or (lift (suc k)) (slice_get (reverse us) n) (Var (n - m))) (sym (length-reverse us)))
+    ap (sub (cons (lift k u) Var)) (list_var_is (suc k) us n
+    ∙ ap (λ m. option_map_or (lift (suc k)) (slice_get (reverse us) n) (Var (n - m))) (sym (length-reverse us)))
     ∙ one_more k u (reverse us) n
     ∙ ap (λ m. option_map_or (lift k) (slice_get (reverse us ++ u ∷ []) n) (Var (n - suc m))) (length-reverse us)
     ∙ ap (λ xs. option_map_or (lift k) (slice_get xs n) (Var (n - suc (length us)))) (sym (reverse-append (u ∷ []) us))

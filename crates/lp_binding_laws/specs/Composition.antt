@@ -148,11 +148,14 @@ put_all_var-high d us n h = grind arith
 
 -- a variable for which there is no argument passes them all
 suc_lowered : (d : ℕ) (us : List Tree) (n : ℕ)
-    → option_map_or (lift (suc d)) (slice_get (reverse us) (n - d)) (Var (suc (n - length us))) ≡ option_map_or (lift (suc d)) (slice_get (reverse us) (n - d)) (Var (suc n - length us))
+    → option_map_or (lift (suc d)) (slice_get (reverse us) (n - d)) (Var (suc (n - length us)))
+    ≡ option_map_or (lift (suc d)) (slice_get (reverse us) (n - d)) (Var (suc n - length us))
 suc_lowered d us n = go (slice_get_cases (reverse us) (n - d)).1
   where
-    go : ((x : Tree) × (n - d < length (reverse us)) × (slice_get (reverse us) (n - d) ≡ Some x) × (get_or (reverse us) (n - d) x ≡ x)) ⊎ ((length (reverse us) ≤ n - d) × (slice_get (reverse us) (n - d) ≡ None))
-        → option_map_or (lift (suc d)) (slice_get (reverse us) (n - d)) (Var (suc (n - length us))) ≡ option_map_or (lift (suc d)) (slice_get (reverse us) (n - d)) (Var (suc n - length us))
+    go : ((x : Tree) × (n - d < length (reverse us)) × (slice_get (reverse us) (n - d) ≡ Some x) × (get_or (reverse us) (n - d) x ≡ x))
+        ⊎ ((length (reverse us) ≤ n - d) × (slice_get (reverse us) (n - d) ≡ None))
+        → option_map_or (lift (suc d)) (slice_get (reverse us) (n - d)) (Var (suc (n - length us)))
+        ≡ option_map_or (lift (suc d)) (slice_get (reverse us) (n - d)) (Var (suc n - length us))
     go (inl w) = rw w.2 refl
     go (inr w) = let e : suc (n - length us) ≡ suc n - length us = omega (arith, w.0, length-reverse us) in rw e refl
 
@@ -196,7 +199,8 @@ put_all_at-one d a t = put_all_at_is d (a ∷ []) t ∙ ap (λ w. sub w t) (fun_
 
 -- what was lifted over the variable of its place, with that variable put, is itself again
 pub put-lift_at : (t : Tree) → put (Var 0) (lift_at 1 1 t) ≡ t
-put-lift_at t = put_is (Var 0) (lift_at 1 1 t) ∙ ap (sub (cons (Var 0) Var)) (lift_at_is 1 1 t) ∙ sub_ren (cons (Var 0) Var) (raised 1 1) t ∙ ap (λ w. sub w t) (fun_ext each) ∙ sub_var t
+put-lift_at t = put_is (Var 0) (lift_at 1 1 t) ∙ ap (sub (cons (Var 0) Var)) (lift_at_is 1 1 t) ∙ sub_ren (cons (Var 0) Var) (raised 1 1) t
+    ∙ ap (λ w. sub w t) (fun_ext each) ∙ sub_var t
   where
     low : raised 1 1 0 ≡ 0
     low = grind arith

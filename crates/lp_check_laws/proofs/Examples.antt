@@ -21,4 +21,9 @@ a_definition = record { declaration = y; at = refl; ends = asked said (asked sai
 
 -- x : proof bool: `bool` has the type `type` where `term bool` is expected, which meets it after a recheck of five steps and one turn
 an_ill_typed : Check (symbol (codes "x") (proof_of bools) ∷ []) 0 No 9
-an_ill_typed = record { declaration = symbol (codes "x") (proof_of bools); at = refl; ends = refused (asked said (asked said (refused (asked (asked said (asked said (asked said said))) (refused said))))) }
+an_ill_typed = record {
+  declaration = symbol (codes "x") (proof_of bools);
+  at = refl;
+  ends =
+      refused (asked said (asked said (refused (asked (asked said (asked said (asked said said))) (refused said)))));
+}

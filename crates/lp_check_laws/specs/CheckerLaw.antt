@@ -188,7 +188,8 @@ module _ (m : List Declaration) (sound : IsSound m) where
   meet-Typed : (G : List Tree) (E F : Tree) {u : Tree} → By (meet true G E F) u → IsContext m G → (t : Tree) → Typed m G t F → Typed m G t E
   meet-Typed G E F h c t ht = go (tree_eq E F) refl h
     where
-      go : (b : Bool) {u : Tree} → tree_eq E F ≡ b → By (if b then Say (Found E) else recheck true G E (Ask (Convert E F) (λ _. Say (Found E)))) u → Typed m G t E
+      go : (b : Bool) {u : Tree} → tree_eq E F ≡ b → By (if b then Say (Found E) else recheck true G E (Ask (Convert E F) (λ _. Say (Found E)))) u
+          → Typed m G t E
       go true e h = subst (Typed m G t) (sym (tree_eq-true E F e)) ht
       go false e (asks {t = s} i k) = on (i c) (of_if_sort s k)
         where

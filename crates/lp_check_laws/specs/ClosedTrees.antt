@@ -23,8 +23,10 @@ loose-ren c d r SortKind h le = omega arith
 loose-ren c d r (Var n) h le = let k = h n (omega (arith, le)) in omega (arith, k)
 loose-ren c d r (Sym s) h le = omega arith
 loose-ren c d r (App f x) h le = omega (arith, loose-ren c d r f h (omega (arith, le)), loose-ren c d r x h (omega (arith, le)))
-loose-ren c d r (Lam a b) h le = omega (arith, loose-ren c d r a h (omega (arith, le)), loose-ren (suc c) (suc d) (up r) b (loose-up c d r h) (omega (arith, le)))
-loose-ren c d r (Pi a b) h le = omega (arith, loose-ren c d r a h (omega (arith, le)), loose-ren (suc c) (suc d) (up r) b (loose-up c d r h) (omega (arith, le)))
+loose-ren c d r (Lam a b) h le = omega
+    (arith, loose-ren c d r a h (omega (arith, le)), loose-ren (suc c) (suc d) (up r) b (loose-up c d r h) (omega (arith, le)))
+loose-ren c d r (Pi a b) h le = omega
+    (arith, loose-ren c d r a h (omega (arith, le)), loose-ren (suc c) (suc d) (up r) b (loose-up c d r h) (omega (arith, le)))
 
 loose-ups : (c d : ℕ) (s : ℕ → Tree) → ((n : ℕ) → n < c → loose (s n) ≤ d) → (n : ℕ) → n < suc c → loose (ups s n) ≤ suc d
 loose-ups c d s h zero lt = omega arith
@@ -36,8 +38,10 @@ loose-sub c d s SortKind h le = omega arith
 loose-sub c d s (Var n) h le = h n (omega (arith, le))
 loose-sub c d s (Sym k) h le = omega arith
 loose-sub c d s (App f x) h le = omega (arith, loose-sub c d s f h (omega (arith, le)), loose-sub c d s x h (omega (arith, le)))
-loose-sub c d s (Lam a b) h le = omega (arith, loose-sub c d s a h (omega (arith, le)), loose-sub (suc c) (suc d) (ups s) b (loose-ups c d s h) (omega (arith, le)))
-loose-sub c d s (Pi a b) h le = omega (arith, loose-sub c d s a h (omega (arith, le)), loose-sub (suc c) (suc d) (ups s) b (loose-ups c d s h) (omega (arith, le)))
+loose-sub c d s (Lam a b) h le = omega
+    (arith, loose-sub c d s a h (omega (arith, le)), loose-sub (suc c) (suc d) (ups s) b (loose-ups c d s h) (omega (arith, le)))
+loose-sub c d s (Pi a b) h le = omega
+    (arith, loose-sub c d s a h (omega (arith, le)), loose-sub (suc c) (suc d) (ups s) b (loose-ups c d s h) (omega (arith, le)))
 
 pub loose-put : (d : ℕ) (x b : Tree) → loose x ≤ d → loose b ≤ suc d → loose (put x b) ≤ d
 loose-put d x b hx hb = subst (λ t. loose t ≤ d) (sym (put_is x b)) (loose-sub (suc d) d (cons x Var) b each hb)
@@ -185,9 +189,13 @@ module _ (m : List Declaration) (closed : IsClosed m) (r : Bool) where
       ask_alike (one_infer a (omega (arith, h))) (λ F l. product-alike d d F a l (λ A B hA hB.
       ask_alike (one_infer a (omega (arith, h))) (λ X k. ask_alike (one_meet a hA k) (λ u v. found_alike (loose-put d x B (omega (arith, h)) hB)))))
   infer-alike d (Lam b t) a h =
-      ask_alike (one_infer a (omega (arith, h))) (λ s l. if_type-alike d s (ask_alike (one_infer (agrees-under {A = b} (omega (arith, h)) a) (omega (arith, h))) (λ B k. unless_kind-alike d B (found_alike (omega (arith, h, k))))))
+      ask_alike (one_infer a (omega (arith, h)))
+      (λ s l. if_type-alike d s
+      (ask_alike (one_infer (agrees-under {A = b} (omega (arith, h)) a) (omega (arith, h)))
+      (λ B k. unless_kind-alike d B (found_alike (omega (arith, h, k))))))
   infer-alike d (Pi b t) a h =
-      ask_alike (one_infer a (omega (arith, h))) (λ s l. if_type-alike d s (ask_alike (one_infer (agrees-under {A = b} (omega (arith, h)) a) (omega (arith, h))) (λ o k. sort o)))
+      ask_alike (one_infer a (omega (arith, h)))
+      (λ s l. if_type-alike d s (ask_alike (one_infer (agrees-under {A = b} (omega (arith, h)) a) (omega (arith, h))) (λ o k. sort o)))
     where
       sort : (o : Tree) → Alike d (if_sort o (Say (Found o))) (if_sort o (Say (Found o)))
       sort SortType = found_alike (omega arith)
@@ -205,24 +213,30 @@ module _ (m : List Declaration) (closed : IsClosed m) (r : Bool) where
   reach-alike d (Var n) h = no_alike
   reach-alike d (Sym s) h = go (head_step m (Sym s)) refl
     where
-      go : (o : Option Tree) → head_step m (Sym s) ≡ o → Alike d (if_step o (λ H. Ask (Reach H) (λ P. Say (Found P)))) (if_step o (λ H. Ask (Reach H) (λ P. Say (Found P))))
+      go : (o : Option Tree) → head_step m (Sym s) ≡ o
+          → Alike d (if_step o (λ H. Ask (Reach H) (λ P. Say (Found P)))) (if_step o (λ H. Ask (Reach H) (λ P. Say (Found P))))
       go None e = no_alike
       go (Some H) e = ask_alike (one_reach (loose-head m closed d (Sym s) H e h)) (λ P l. found_alike l)
   reach-alike d (App f x) h = go (head_step m (App f x)) refl
     where
-      go : (o : Option Tree) → head_step m (App f x) ≡ o → Alike d (if_step o (λ H. Ask (Reach H) (λ P. Say (Found P)))) (if_step o (λ H. Ask (Reach H) (λ P. Say (Found P))))
+      go : (o : Option Tree) → head_step m (App f x) ≡ o
+          → Alike d (if_step o (λ H. Ask (Reach H) (λ P. Say (Found P)))) (if_step o (λ H. Ask (Reach H) (λ P. Say (Found P))))
       go None e = no_alike
       go (Some H) e = ask_alike (one_reach (loose-head m closed d (App f x) H e h)) (λ P l. found_alike l)
   reach-alike d (Lam a b) h = go (head_step m (Lam a b)) refl
     where
-      go : (o : Option Tree) → head_step m (Lam a b) ≡ o → Alike d (if_step o (λ H. Ask (Reach H) (λ P. Say (Found P)))) (if_step o (λ H. Ask (Reach H) (λ P. Say (Found P))))
+      go : (o : Option Tree) → head_step m (Lam a b) ≡ o
+          → Alike d (if_step o (λ H. Ask (Reach H) (λ P. Say (Found P)))) (if_step o (λ H. Ask (Reach H) (λ P. Say (Found P))))
       go None e = no_alike
       go (Some H) e = ask_alike (one_reach (loose-head m closed d (Lam a b) H e h)) (λ P l. found_alike l)
 
   parts-alike : (d : ℕ) (E F : Tree) → loose E ≤ d → loose F ≤ d → Alike d (convert_parts E F) (convert_parts E F)
-  parts-alike d (App f x) (App g y) h k = ask_alike (one_convert {d = d} (omega (arith, h)) (omega (arith, k))) (λ u l. ask_alike (one_convert {d = d} (omega (arith, h)) (omega (arith, k))) (λ v n. found_alike h))
-  parts-alike d (Lam a b) (Lam c e) h k = ask_alike (one_convert {d = d} (omega (arith, h)) (omega (arith, k))) (λ u l. ask_alike (one_convert {d = suc d} (omega (arith, h)) (omega (arith, k))) (λ v n. found_alike h))
-  parts-alike d (Pi a b) (Pi c e) h k = ask_alike (one_convert {d = d} (omega (arith, h)) (omega (arith, k))) (λ u l. ask_alike (one_convert {d = suc d} (omega (arith, h)) (omega (arith, k))) (λ v n. found_alike h))
+  parts-alike d (App f x) (App g y) h k = ask_alike (one_convert {d = d} (omega (arith, h)) (omega (arith, k)))
+      (λ u l. ask_alike (one_convert {d = d} (omega (arith, h)) (omega (arith, k))) (λ v n. found_alike h))
+  parts-alike d (Lam a b) (Lam c e) h k = ask_alike (one_convert {d = d} (omega (arith, h)) (omega (arith, k)))
+      (λ u l. ask_alike (one_convert {d = suc d} (omega (arith, h)) (omega (arith, k))) (λ v n. found_alike h))
+  parts-alike d (Pi a b) (Pi c e) h k = ask_alike (one_convert {d = d} (omega (arith, h)) (omega (arith, k)))
+      (λ u l. ask_alike (one_convert {d = suc d} (omega (arith, h)) (omega (arith, k))) (λ v n. found_alike h))
   parts-alike d _ _ h k = no_alike
 
   by-alike : (d : ℕ) (E F : Tree) (o u : Option Tree) → head_step m E ≡ o → head_step m F ≡ u → loose E ≤ d → loose F ≤ d
@@ -236,13 +250,15 @@ module _ (m : List Declaration) (closed : IsClosed m) (r : Bool) where
   plan-alike (one_reach {d = d} {F = F} h) = reach-alike d F h
   plan-alike (one_meet {d = d} {G = G} {D = D} {E = E} {F = F} a h k) = go (tree_eq E F)
     where
-      go : (b : Bool) → Alike d (if b then Say (Found E) else recheck r G E (Ask (Convert E F) (λ _. Say (Found E)))) (if b then Say (Found E) else recheck r D E (Ask (Convert E F) (λ _. Say (Found E))))
+      go : (b : Bool) → Alike d (if b then Say (Found E) else recheck r G E (Ask (Convert E F) (λ _. Say (Found E))))
+          (if b then Say (Found E) else recheck r D E (Ask (Convert E F) (λ _. Say (Found E))))
       go true = found_alike h
       go false = recheck-alike r d d E a h (ask_alike (one_convert h k) (λ u l. found_alike h))
   plan-alike (one_convert {d = d} {E = E} {F = F} h k) = go (tree_eq E F)
     where
       go : (b : Bool)
-          → Alike d (if b then Say (Found E) else convert_by E F (head_step m E) (head_step m F)) (if b then Say (Found E) else convert_by E F (head_step m E) (head_step m F))
+          → Alike d (if b then Say (Found E) else convert_by E F (head_step m E) (head_step m F))
+          (if b then Say (Found E) else convert_by E F (head_step m E) (head_step m F))
       go true = found_alike h
       go false = by-alike d E F (head_step m E) (head_step m F) refl refl h k
 

@@ -18,9 +18,12 @@ head_step-Conv m t u e = Steps-Conv (head_step-Steps m t u e)
 -- where the property of a question of conversion says that its trees are convertible
 module _ (m : List Declaration) (P : Question → Tree → Type 0) (convertible : (E F u : Tree) → P (Convert E F) u → Conv m E F) where
   convert_parts-Conv : (E F : Tree) {t : Tree} → Backed P (convert_parts E F) t → Conv m E F
-  convert_parts-Conv (App f x) (App g y) (asks h (asks k says)) = Conv-trans (Conv-under (λ w. App w x) (λ a b. app_function) (convertible _ _ _ h)) (Conv-under (App g) (λ a b. app_argument) (convertible _ _ _ k))
-  convert_parts-Conv (Lam a b) (Lam c d) (asks h (asks k says)) = Conv-trans (Conv-under (λ w. Lam w b) (λ a b. lam_domain) (convertible _ _ _ h)) (Conv-under (Lam c) (λ a b. lam_body) (convertible _ _ _ k))
-  convert_parts-Conv (Pi a b) (Pi c d) (asks h (asks k says)) = Conv-trans (Conv-under (λ w. Pi w b) (λ a b. pi_domain) (convertible _ _ _ h)) (Conv-under (Pi c) (λ a b. pi_body) (convertible _ _ _ k))
+  convert_parts-Conv (App f x) (App g y) (asks h (asks k says)) =
+      Conv-trans (Conv-under (λ w. App w x) (λ a b. app_function) (convertible _ _ _ h)) (Conv-under (App g) (λ a b. app_argument) (convertible _ _ _ k))
+  convert_parts-Conv (Lam a b) (Lam c d) (asks h (asks k says)) =
+      Conv-trans (Conv-under (λ w. Lam w b) (λ a b. lam_domain) (convertible _ _ _ h)) (Conv-under (Lam c) (λ a b. lam_body) (convertible _ _ _ k))
+  convert_parts-Conv (Pi a b) (Pi c d) (asks h (asks k says)) =
+      Conv-trans (Conv-under (λ w. Pi w b) (λ a b. pi_domain) (convertible _ _ _ h)) (Conv-under (Pi c) (λ a b. pi_body) (convertible _ _ _ k))
   convert_parts-Conv _ _ h = elim h [ ]
 
   convert_by-Conv : (E F : Tree) (e f : Option Tree) {t : Tree} → head_step m E ≡ e → head_step m F ≡ f → Backed P (convert_by E F e f) t → Conv m E F

@@ -21,7 +21,8 @@ module _ (m : List Declaration) (closed : IsClosed m) where
   find-equation {G = G} {a = a} ha hx hy =
       let bool : IsSimple m G bools = constant refl tt in
       let predicates : IsSimple m G (arr_of a bools) = at_type (at_type (constant refl tt) ha refl) bool refl in
-      let equality : IsConstant m G (App (Sym eq_symbol) a) (term_of (arr_of a (arr_of a bools))) = at_type (constant refl tt) ha (ap (λ w. term_of (arr_of w (arr_of w bools))) (lift_zero a)) in
+      let equality : IsConstant m G (App (Sym eq_symbol) a) (term_of (arr_of a (arr_of a bools))) =
+      at_type (constant refl tt) ha (ap (λ w. term_of (arr_of w (arr_of w bools))) (lift_zero a)) in
       let half = find-apply m closed ha predicates folded (find_constant m equality) hx in
       let whole = find-apply m closed ha bool half.unfolded half.finds hy in
       record { found = whole.found; unfolded = whole.unfolded; finds = Finds-more m (omega arith) whole.finds }
@@ -42,7 +43,8 @@ module _ (m : List Declaration) (closed : IsClosed m) where
       → Finds m (Infer G A) SortType (7 * suc w * size A)
   find-declared w e of_types g le less = record { steps = 0; ends = said; within = omega arith }
   find-declared w e (of_terms h) g le less = Finds-more m (omega arith) (find_terms m h)
-  find-declared w e (of_proofs h) g le less = Finds-more m (omega arith) (find-proofs (find-term m closed w (sized m closed (suc w) e h g (omega (arith, le)) (omega (arith, less)))))
+  find-declared w e (of_proofs h) g le less = Finds-more m (omega arith)
+      (find-proofs (find-term m closed w (sized m closed (suc w) e h g (omega (arith, le)) (omega (arith, less)))))
   find-declared w e (of_products {a = a} ha hb) g le less =
       let p = find-declared w e ha g (omega (arith, le)) (omega (arith, less)) in
       let q = find-declared w e hb (small-entry m {A = a} (omega (arith, le)) g) (omega (arith, le)) (omega (arith, less)) in
@@ -53,21 +55,35 @@ module _ (m : List Declaration) (closed : IsClosed m) where
   by-steps E F {n = n} h = go (tree_eq E F) refl
     where
       go : (q : Bool) → tree_eq E F ≡ q → Finds m (Convert E F) E (suc n)
-      go true e = record { steps = 0; ends = subst (λ q. Ends m true (if q then Say (Found E) else convert_by E F (head_step m E) (head_step m F)) (Found E) 0) (sym e) said; within = omega arith }
-      go false e = record { steps = n; ends = subst (λ q. Ends m true (if q then Say (Found E) else convert_by E F (head_step m E) (head_step m F)) (Found E) n) (sym e) h; within = omega arith }
+      go true e = record {
+        steps = 0;
+        ends =
+            subst (λ q. Ends m true (if q then Say (Found E) else convert_by E F (head_step m E) (head_step m F)) (Found E) 0) (sym e) said;
+        within =
+            omega arith;
+      }
+      go false e = record {
+        steps = n;
+        ends =
+            subst (λ q. Ends m true (if q then Say (Found E) else convert_by E F (head_step m E) (head_step m F)) (Found E) n) (sym e) h;
+        within = omega arith;
+      }
 
   -- near trees convert within three steps a node
   pub convert-near : {E F : Tree} → Near m E F → Finds m (Convert E F) E (3 * size E)
   convert-near {E = E} near_same = Finds-more m (omega (arith, size-positive E)) (convert_same m E)
   convert-near {E = E} {F = F} (near_head e) =
       let h = convert_same m F in
-      Finds-more m (omega (arith, size-positive E, h.within)) (by-steps E F (subst (λ o. Ends m true (convert_by E F o (head_step m F)) (Found E) (suc (h.steps + 0))) (sym e) (asked h.ends said)))
+      Finds-more m (omega (arith, size-positive E, h.within))
+      (by-steps E F (subst (λ o. Ends m true (convert_by E F o (head_step m F)) (Found E) (suc (h.steps + 0))) (sym e) (asked h.ends said)))
   convert-near (near_arrows h) = Finds-more m (omega (arith, unfolded-size m closed h)) (convert_unfolded m closed h)
   convert-near (near_application {f = f} {g = g} {x = x} {y = y} p q hf hx) =
       let k = convert-near hf in
       let l = convert-near hx in
       Finds-more m (omega (arith, k.within, l.within))
-      (by-steps (App f x) (App g y) (subst₂ (λ o u. Ends m true (convert_by (App f x) (App g y) o u) (Found (App f x)) (suc (k.steps + suc (l.steps + 0)))) (sym p) (sym q) (asked k.ends (asked l.ends said))))
+      (by-steps (App f x) (App g y)
+      (subst₂ (λ o u. Ends m true (convert_by (App f x) (App g y) o u) (Found (App f x)) (suc (k.steps + suc (l.steps + 0)))) (sym p) (sym q)
+      (asked k.ends (asked l.ends said))))
   convert-near (near_product {a = a} {b = b} {c = c} {d = d} ha hb) =
       let k = convert-near ha in
       let l = convert-near hb in

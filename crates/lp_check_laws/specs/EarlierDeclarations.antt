@@ -83,7 +83,8 @@ module _ (m more : List Declaration) where
 
 module _ (m : List Declaration) (own : IsSelfContained m) where
   symbols-Step : {t u : Tree} → Step m t u → symbols t ≤ length (signature ++ m) → symbols u ≤ length (signature ++ m)
-  symbols-Step (beta {b = b} {x = x} e) h = subst (λ u. symbols u ≤ length (signature ++ m)) e (symbols-put_at (length (signature ++ m)) 0 x b (omega (arith, h)) (omega (arith, h)))
+  symbols-Step (beta {b = b} {x = x} e) h = subst (λ u. symbols u ≤ length (signature ++ m)) e
+      (symbols-put_at (length (signature ++ m)) 0 x b (omega (arith, h)) (omega (arith, h)))
   symbols-Step (delta {s = s} {u = u} e) h = own.definitions s u e
   symbols-Step (rule {a = a} {b = b} e) h = subst (λ u. symbols u ≤ length (signature ++ m)) e (let k = symbols-lift_at 0 1 b in omega (arith, h, k))
   symbols-Step (app_function s) h = omega (arith, symbols-Step s (omega (arith, h)), h)
@@ -193,7 +194,8 @@ module _ (m : List Declaration) (own : IsSelfContained m) (more : List Declarati
 
   step-alike : (F : Tree) → IsTreeOver m F → (f g : Tree → Plan) → ((H : Tree) → IsTreeOver m H → Alike m (f H) (g H))
       → Alike m (if_step (head_step (m ++ more) F) f) (if_step (head_step m F) g)
-  step-alike F h f g on = let k = head F h in subst (λ o. Alike m (if_step o f) (if_step (head_step m F) g)) (sym k.longer) (subst (λ o. Alike m (if_step k.step f) (if_step o g)) (sym k.here) (go k.step k.over))
+  step-alike F h f g on = let k = head F h in subst (λ o. Alike m (if_step o f) (if_step (head_step m F) g)) (sym k.longer)
+      (subst (λ o. Alike m (if_step k.step f) (if_step o g)) (sym k.here) (go k.step k.over))
     where
       go : (o : Option Tree) → ((H : Tree) → o ≡ Some H → IsTreeOver m H) → Alike m (if_step o f) (if_step o g)
       go None w = no_alike
@@ -216,10 +218,12 @@ module _ (m : List Declaration) (own : IsSelfContained m) (more : List Declarati
   infer-alike G (Sym s) c h = found_if-alike m _ _ (symbol_type-longer m more s (omega (arith, h))) (own.types s)
   infer-alike G (App f x) c h =
       ask_alike (over_infer c (omega (arith, h))) (λ F l. product-alike G F c l (λ A B hA hB.
-      ask_alike (over_infer c (omega (arith, h))) (λ X k. ask_alike (over_meet c hA k) (λ u v. found_alike (symbols-put_at (length (signature ++ m)) 0 x B (omega (arith, h)) hB)))))
+      ask_alike (over_infer c (omega (arith, h)))
+      (λ X k. ask_alike (over_meet c hA k) (λ u v. found_alike (symbols-put_at (length (signature ++ m)) 0 x B (omega (arith, h)) hB)))))
   infer-alike G (Lam a b) c h =
       let ha : IsTreeOver m a = omega (arith, h) in
-      ask_alike (over_infer c ha) (λ s l. if_type-alike m s (ask_alike (over_infer (ha, c) (omega (arith, h))) (λ B k. unless_kind-alike m B (found_alike (omega (arith, h, k))))))
+      ask_alike (over_infer c ha)
+      (λ s l. if_type-alike m s (ask_alike (over_infer (ha, c) (omega (arith, h))) (λ B k. unless_kind-alike m B (found_alike (omega (arith, h, k))))))
   infer-alike G (Pi a b) c h =
       let ha : IsTreeOver m a = omega (arith, h) in
       ask_alike (over_infer c ha) (λ s l. if_type-alike m s (ask_alike (over_infer (ha, c) (omega (arith, h))) (λ o k. if_sort-alike m o (found_alike k))))
@@ -234,9 +238,12 @@ module _ (m : List Declaration) (own : IsSelfContained m) (more : List Declarati
   reach-alike (Lam a b) h = step-alike (Lam a b) h _ _ (λ H l. ask_alike (over_reach l) (λ P k. found_alike k))
 
   parts-alike : (E F : Tree) → IsTreeOver m E → IsTreeOver m F → Alike m (convert_parts E F) (convert_parts E F)
-  parts-alike (App f x) (App g y) h k = ask_alike (over_convert (omega (arith, h)) (omega (arith, k))) (λ u l. ask_alike (over_convert (omega (arith, h)) (omega (arith, k))) (λ v n. found_alike h))
-  parts-alike (Lam a b) (Lam c e) h k = ask_alike (over_convert (omega (arith, h)) (omega (arith, k))) (λ u l. ask_alike (over_convert (omega (arith, h)) (omega (arith, k))) (λ v n. found_alike h))
-  parts-alike (Pi a b) (Pi c e) h k = ask_alike (over_convert (omega (arith, h)) (omega (arith, k))) (λ u l. ask_alike (over_convert (omega (arith, h)) (omega (arith, k))) (λ v n. found_alike h))
+  parts-alike (App f x) (App g y) h k = ask_alike (over_convert (omega (arith, h)) (omega (arith, k)))
+      (λ u l. ask_alike (over_convert (omega (arith, h)) (omega (arith, k))) (λ v n. found_alike h))
+  parts-alike (Lam a b) (Lam c e) h k = ask_alike (over_convert (omega (arith, h)) (omega (arith, k)))
+      (λ u l. ask_alike (over_convert (omega (arith, h)) (omega (arith, k))) (λ v n. found_alike h))
+  parts-alike (Pi a b) (Pi c e) h k = ask_alike (over_convert (omega (arith, h)) (omega (arith, k)))
+      (λ u l. ask_alike (over_convert (omega (arith, h)) (omega (arith, k))) (λ v n. found_alike h))
   parts-alike _ _ h k = no_alike
 
   by-alike : (E F : Tree) (o u : Option Tree) → ((H : Tree) → o ≡ Some H → IsTreeOver m H) → ((H : Tree) → u ≡ Some H → IsTreeOver m H) → IsTreeOver m E
@@ -257,7 +264,8 @@ module _ (m : List Declaration) (own : IsSelfContained m) (more : List Declarati
           (by-alike E F (head_step m E) (head_step m F) (λ H q. symbols-head_step m own E H q h) (λ H q. symbols-head_step m own F H q k) h k))
 
       go : (b : Bool)
-          → Alike m (if b then Say (Found E) else convert_by E F (head_step (m ++ more) E) (head_step (m ++ more) F)) (if b then Say (Found E) else convert_by E F (head_step m E) (head_step m F))
+          → Alike m (if b then Say (Found E) else convert_by E F (head_step (m ++ more) E) (head_step (m ++ more) F))
+          (if b then Say (Found E) else convert_by E F (head_step m E) (head_step m F))
       go true = found_alike h
       go false = same
 
@@ -266,7 +274,8 @@ module _ (m : List Declaration) (own : IsSelfContained m) (more : List Declarati
   plan-alike q (over_reach {F = F} h) = reach-alike F h
   plan-alike q (over_meet {G = G} {E = E} {F = F} c h k) = go (tree_eq E F)
     where
-      go : (b : Bool) → Alike m (if b then Say (Found E) else recheck r G E (Ask (Convert E F) (λ _. Say (Found E)))) (if b then Say (Found E) else recheck r G E (Ask (Convert E F) (λ _. Say (Found E))))
+      go : (b : Bool) → Alike m (if b then Say (Found E) else recheck r G E (Ask (Convert E F) (λ _. Say (Found E))))
+          (if b then Say (Found E) else recheck r G E (Ask (Convert E F) (λ _. Say (Found E))))
       go true = found_alike h
       go false = recheck-alike m r G E c h (ask_alike (over_convert h k) (λ u l. found_alike h))
   plan-alike q (over_convert {E = E} {F = F} h k) = convert-alike E F h k
@@ -343,7 +352,8 @@ record IsSettled (count : ℕ) (d : Declaration) : Type 0 where
   definition : (t : Tree) → definition_of d.form d.body ≡ Some t → (loose t ≡ 0) × (symbols t ≤ count)
 
 IsSettled-more : (count most : ℕ) → count ≤ most → (d : Declaration) → IsSettled count d → IsSettled most d
-IsSettled-more count most l d h = record { closed = h.closed; known = omega (arith, h.known, l); definition = λ t e. let k = h.definition t e in (k.0, omega (arith, k.1, l)) }
+IsSettled-more count most l d h = record
+    { closed = h.closed; known = omega (arith, h.known, l); definition = λ t e. let k = h.definition t e in (k.0, omega (arith, k.1, l)) }
 
 AreSettled-more : (count most : ℕ) → count ≤ most → (ds : List Declaration) → AllByRecursion (IsSettled count) ds → AllByRecursion (IsSettled most) ds
 AreSettled-more count most l [] h = tt
@@ -378,8 +388,52 @@ settled : (name : List ℕ) (A : Tree) → loose A ≡ 0 → symbols A ≤ lengt
 settled name A c k = record { closed = c; known = k; definition = λ t e. absurd (cc) }
 
 signature-settled : AllByRecursion (IsSettled (length signature)) signature
-signature-settled =
-    (settled _ _ refl (omega arith), (settled _ _ refl (omega arith), (settled _ _ refl (omega arith), (settled _ _ refl (omega arith), (settled _ _ refl (omega arith), (settled _ _ refl (omega arith), (settled _ _ refl (omega arith), (settled _ _ refl (omega arith), (settled _ _ refl (omega arith), (settled _ _ refl (omega arith), (settled _ _ refl (omega arith), (settled _ _ refl (omega arith), (settled _ _ refl (omega arith), (settled _ _ refl (omega arith), (settled _ _ refl (omega arith), (settled _ _ refl (omega arith), (settled _ _ refl (omega arith), (settled _ _ refl (omega arith), tt))))))))))))))))))
+signature-settled = (
+  settled _ _ refl (omega arith),
+  (
+    settled _ _ refl (omega arith),
+    (
+      settled _ _ refl (omega arith),
+      (
+        settled _ _ refl (omega arith),
+        (
+          settled _ _ refl (omega arith),
+          (
+            settled _ _ refl (omega arith),
+            (
+              settled _ _ refl (omega arith),
+              (
+                settled _ _ refl (omega arith),
+                (
+                  settled _ _ refl (omega arith),
+                  (
+                    settled _ _ refl (omega arith),
+                    (
+                      settled _ _ refl (omega arith),
+                      (
+                        settled _ _ refl (omega arith),
+                        (
+                          settled _ _ refl (omega arith),
+                          (
+                            settled _ _ refl (omega arith),
+                            (
+                              settled _ _ refl (omega arith),
+                              (settled _ _ refl (omega arith), (settled _ _ refl (omega arith), (settled _ _ refl (omega arith), tt))),
+                            ),
+                          ),
+                        ),
+                      ),
+                    ),
+                  ),
+                ),
+              ),
+            ),
+          ),
+        ),
+      ),
+    ),
+  ),
+)
 
 -- a module is over its own symbols
 pub IsModule-IsSelfContained : (m : List Declaration) → IsModule m → IsSelfContained m
@@ -413,7 +467,8 @@ pub MayFollow-at : (before ds : List Declaration) (i : ℕ) (d : Declaration) �
     → MayFollow (before ++ take i ds) d
 MayFollow-at before [] i d a e = absurd (cc)
 MayFollow-at before (x ∷ xs) zero d a e = subst₂ MayFollow (sym (append-nil before)) (same_Some _ _ e) a.0
-MayFollow-at before (x ∷ xs) (suc i) d a e = subst (λ l. MayFollow l d) (append_assoc before (x ∷ []) (take i xs)) (MayFollow-at (before ++ x ∷ []) xs i d a.1 e)
+MayFollow-at before (x ∷ xs) (suc i) d a e = subst (λ l. MayFollow l d) (append_assoc before (x ∷ []) (take i xs))
+    (MayFollow-at (before ++ x ∷ []) xs i d a.1 e)
 
 body-over : (m : List Declaration) (f : Form) (body : Option Tree) → IsBodyOver (length (signature ++ m)) f body → HasBodyTreeOver m body
 body-over m f None h = tt

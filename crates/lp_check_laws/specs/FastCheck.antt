@@ -45,7 +45,9 @@ module _ (m : List Declaration) where
   drops-product G (App f x) rest = drops-step G (head_step m (App f x)) rest
   drops-product G (Lam a b) rest = drops-step G (head_step m (Lam a b)) rest
 
-  drops-meet : (b : Bool) (G : List Tree) (E F : Tree) → Drops (if b then Say (Found E) else recheck true G E (Ask (Convert E F) (λ _. Say (Found E)))) (if b then Say (Found E) else Ask (Convert E F) (λ _. Say (Found E)))
+  drops-meet : (b : Bool) (G : List Tree) (E F : Tree)
+      → Drops (if b then Say (Found E) else recheck true G E (Ask (Convert E F) (λ _. Say (Found E))))
+      (if b then Say (Found E) else Ask (Convert E F) (λ _. Say (Found E)))
   drops-meet true G E F = ends_so
   drops-meet false G E F = drops-recheck G E (Ask (Convert E F) (λ _. Say (Found E)))
 

@@ -29,7 +29,8 @@ module _ (m : List Declaration) where
   pub meet_same : (G : List Tree) (t : Tree) → Finds (Meet G t t) t 1
   meet_same G t = record {
     steps = 0;
-    ends = subst (λ b. Ends m true (if b then Say (Found t) else recheck true G t (Ask (Convert t t) (λ _. Say (Found t)))) (Found t) 0) (sym (tree_eq-refl t)) said;
+    ends = subst (λ b. Ends m true (if b then Say (Found t) else recheck true G t (Ask (Convert t t) (λ _. Say (Found t)))) (Found t) 0) (sym (tree_eq-refl t))
+        said;
     within = omega arith;
   }
 
@@ -75,7 +76,8 @@ module _ (m : List Declaration) (closed : IsClosed m) where
   -- a simple type under a further entry
   constant-weaken : {G : List Tree} {C t A : Tree} → IsConstant m G t A → IsConstant m (C ∷ G) (ren suc t) (ren suc A)
   constant-weaken (type_variable e) = type_variable e
-  constant-weaken {G = G} {C = C} (constant {s = s} {A = A} e k) = subst (IsConstant m (C ∷ G) (Sym s)) (sym (ren_closed suc A (closed.types s A e))) (constant e k)
+  constant-weaken {G = G} {C = C} (constant {s = s} {A = A} e k) =
+      subst (IsConstant m (C ∷ G) (Sym s)) (sym (ren_closed suc A (closed.types s A e))) (constant e k)
   constant-weaken (at_type {a = a} {A = A} hf ha e) = at_type (constant-weaken hf) (constant-weaken ha) (sym (ren-put suc a A) ∙ ap (ren suc) e)
 
   pub simple-weaken : {G : List Tree} {C a : Tree} → IsSimple m G a → IsSimple m (C ∷ G) (lift 1 a)
@@ -115,12 +117,19 @@ module _ (m : List Declaration) (closed : IsClosed m) where
 
       go : (q : Bool) → tree_eq E F ≡ q → Finds m (Convert (term_of (lift 1 b)) S) (term_of (lift 1 b)) (3 * size S)
           → Finds m (Convert (term_of (arr_of a b)) F) (term_of (arr_of a b)) (3 * size F)
-      go true e k = record { steps = _; ends = asked (subst (λ q. Ends m true (if q then Say (Found E) else convert_by E F None None) (Found E) 0) (sym e) said) said; within = omega arith }
+      go true e k = record {
+        steps = _;
+        ends =
+            asked (subst (λ q. Ends m true (if q then Say (Found E) else convert_by E F None None) (Found E) 0) (sym e) said) said;
+        within = omega arith;
+      }
       go false e k =
           let d = convert_same m (term_of a) in
           record {
             steps = _;
-            ends = asked (subst (λ q. Ends m true (if q then Say (Found E) else convert_by E F None None) (Found E) (suc (d.steps + suc (k.steps + 0)))) (sym e) (asked d.ends (asked k.ends said))) said;
+            ends = asked
+                (subst (λ q. Ends m true (if q then Say (Found E) else convert_by E F None None) (Found E) (suc (d.steps + suc (k.steps + 0)))) (sym e)
+                (asked d.ends (asked k.ends said))) said;
             within = omega (arith, k.within, d.within);
           }
 
@@ -129,12 +138,22 @@ module _ (m : List Declaration) (closed : IsClosed m) where
   meet_unfolded {G = G} {a = a} {S = S} ha h = go (tree_eq (term_of a) S) refl
     where
       go : (q : Bool) → tree_eq (term_of a) S ≡ q → Finds m (Meet G (term_of a) S) (term_of a) (5 * size a + 10)
-      go true e = record { steps = 0; ends = subst (λ q. Ends m true (if q then Say (Found (term_of a)) else recheck true G (term_of a) (Ask (Convert (term_of a) S) (λ _. Say (Found (term_of a))))) (Found (term_of a)) 0) (sym e) said; within = omega arith }
+      go true e = record {
+        steps = 0;
+        ends =
+            subst (λ q. Ends m true
+            (if q then Say (Found (term_of a)) else recheck true G (term_of a) (Ask (Convert (term_of a) S) (λ _. Say (Found (term_of a))))) (Found (term_of a))
+            0) (sym e) said;
+        within = omega arith;
+      }
       go false e =
           let p = find_terms m ha in
           let c = convert_unfolded h in
           record {
             steps = _;
-            ends = subst (λ q. Ends m true (if q then Say (Found (term_of a)) else recheck true G (term_of a) (Ask (Convert (term_of a) S) (λ _. Say (Found (term_of a))))) (Found (term_of a)) (suc (p.steps + suc (c.steps + 0)))) (sym e) (asked p.ends (asked c.ends said));
+            ends = subst
+                (λ q. Ends m true (if q then Say (Found (term_of a)) else recheck true G (term_of a)
+                (Ask (Convert (term_of a) S) (λ _. Say (Found (term_of a))))) (Found (term_of a)) (suc (p.steps + suc (c.steps + 0)))) (sym e)
+                (asked p.ends (asked c.ends said));
             within = omega (arith, p.within, c.within, unfolded-size h);
           }

@@ -39,10 +39,13 @@ equation-paid : (w f h E F sf sh d pf ph pe pc : ℕ) → pf + cost w * (E + d) 
 equation-paid w f h E F sf sh d pf ph pe pc x y z c = omega (arith, x, y, z, c)
 
 squares : (x s y : ℕ) → 3 ≤ y → 7 * ((x + s + y) + (x + s + y)) * x + 2 * ((7 * ((x + s + y) + (x + s + y)) + 40) * y) + 1 ≤ 64 * ((x + s + y) * (x + s + y))
-squares x s y big = let y' = y - 3 in let is : y ≡ 3 + y' = omega (arith, big) in subst (λ n. 7 * ((x + s + n) + (x + s + n)) * x + 2 * ((7 * ((x + s + n) + (x + s + n)) + 40) * n) + 1 ≤ 64 * ((x + s + n) * (x + s + n))) (sym is) (above x s y')
+squares x s y big = let y' = y - 3 in let is : y ≡ 3 + y' =
+    omega (arith, big) in subst
+    (λ n. 7 * ((x + s + n) + (x + s + n)) * x + 2 * ((7 * ((x + s + n) + (x + s + n)) + 40) * n) + 1 ≤ 64 * ((x + s + n) * (x + s + n))) (sym is) (above x s y')
   where
     above : (x s z : ℕ)
-        → 7 * ((x + s + (3 + z)) + (x + s + (3 + z))) * x + 2 * ((7 * ((x + s + (3 + z)) + (x + s + (3 + z))) + 40) * (3 + z)) + 1 ≤ 64 * ((x + s + (3 + z)) * (x + s + (3 + z)))
+        → 7 * ((x + s + (3 + z)) + (x + s + (3 + z))) * x + 2 * ((7 * ((x + s + (3 + z)) + (x + s + (3 + z))) + 40) * (3 + z)) + 1 ≤ 64 *
+        ((x + s + (3 + z)) * (x + s + (3 + z)))
     above x s z = omega arith
 
 module _ (m : List Declaration) (closed : IsClosed m) where
@@ -58,7 +61,9 @@ module _ (m : List Declaration) (closed : IsClosed m) where
       let k = convert-close h in
       record {
         most = suc k.most;
-        finds = Finds-more m (omega (arith, k.finds.within)) (by-steps m closed E F (subst (λ o. Ends m true (convert_by E F o (head_step m F)) (Found E) (suc (k.finds.steps + 0))) (sym e) (asked k.finds.ends said)));
+        finds = Finds-more m (omega (arith, k.finds.within))
+            (by-steps m closed E F
+            (subst (λ o. Ends m true (convert_by E F o (head_step m F)) (Found E) (suc (k.finds.steps + 0))) (sym e) (asked k.finds.ends said)));
         within = omega (arith, k.within);
       }
   convert-close (close_application {f = f} {g = g} {x = x} {y = y} p q hf hx) =
@@ -67,7 +72,9 @@ module _ (m : List Declaration) (closed : IsClosed m) where
       record {
         most = 1 + k.most + l.most;
         finds = Finds-more m (omega (arith, k.finds.within, l.finds.within))
-            (by-steps m closed (App f x) (App g y) (subst₂ (λ o u. Ends m true (convert_by (App f x) (App g y) o u) (Found (App f x)) (suc (k.finds.steps + suc (l.finds.steps + 0)))) (sym p) (sym q) (asked k.finds.ends (asked l.finds.ends said))));
+            (by-steps m closed (App f x) (App g y)
+            (subst₂ (λ o u. Ends m true (convert_by (App f x) (App g y) o u) (Found (App f x)) (suc (k.finds.steps + suc (l.finds.steps + 0)))) (sym p)
+            (sym q) (asked k.finds.ends (asked l.finds.ends said))));
         within = omega (arith, k.within, l.within);
       }
   convert-close (close_product {a = a} {b = b} {c = c} {d = d} ha hb) =
@@ -75,7 +82,8 @@ module _ (m : List Declaration) (closed : IsClosed m) where
       let l = convert-close hb in
       record {
         most = 1 + k.most + l.most;
-        finds = Finds-more m (omega (arith, k.finds.within, l.finds.within)) (by-steps m closed (Pi a b) (Pi c d) {n = suc (k.finds.steps + suc (l.finds.steps + 0))} (asked k.finds.ends (asked l.finds.ends said)));
+        finds = Finds-more m (omega (arith, k.finds.within, l.finds.within))
+            (by-steps m closed (Pi a b) (Pi c d) {n = suc (k.finds.steps + suc (l.finds.steps + 0))} (asked k.finds.ends (asked l.finds.ends said)));
         within = omega (arith, k.within, l.within);
       }
   convert-close (close_arrow {a = a} {b = b} {c = c} {d = d} ha hb) =
@@ -84,12 +92,14 @@ module _ (m : List Declaration) (closed : IsClosed m) where
       let E = Pi (term_of a) (lift 1 (term_of b)) in
       let F = Pi (term_of c) (lift 1 (term_of d)) in
       let parts : Finds m (Convert E F) E (1 + k.most + l.most) =
-      Finds-more m (omega (arith, k.finds.within, l.finds.within)) (by-steps m closed E F {n = suc (k.finds.steps + suc (l.finds.steps + 0))} (asked k.finds.ends (asked l.finds.ends said))) in
+      Finds-more m (omega (arith, k.finds.within, l.finds.within))
+      (by-steps m closed E F {n = suc (k.finds.steps + suc (l.finds.steps + 0))} (asked k.finds.ends (asked l.finds.ends said))) in
       let half : Finds m (Convert E (term_of (arr_of c d))) E (2 + k.most + l.most) =
       Finds-more m (omega (arith, parts.within)) (by-steps m closed E (term_of (arr_of c d)) {n = suc (parts.steps + 0)} (asked parts.ends said)) in
       record {
         most = 3 + k.most + l.most;
-        finds = Finds-more m (omega (arith, half.within)) (by-steps m closed (term_of (arr_of a b)) (term_of (arr_of c d)) {n = suc (half.steps + 0)} (asked half.ends said));
+        finds = Finds-more m (omega (arith, half.within))
+            (by-steps m closed (term_of (arr_of a b)) (term_of (arr_of c d)) {n = suc (half.steps + 0)} (asked half.ends said));
         within = omega (arith, k.within, l.within, size-lift 1 d);
       }
 
@@ -121,16 +131,21 @@ module _ (m : List Declaration) (closed : IsClosed m) where
       let sort : Finds m (Infer G (term_of S)) SortType (3 + s.most) = Finds-more m (omega arith) sorted in
       let c = convert_same m (Sym 4) in
       let l = convert_same m S in
-      let one : Finds m (Convert S n) S 2 = Finds-more m (omega (arith, l.within)) (by-steps m closed S n (subst₂ (λ a b. Ends m true (convert_by S n a b) (Found S) (suc (l.steps + 0))) (sym z) (sym d) (asked l.ends said))) in
+      let one : Finds m (Convert S n) S 2 = Finds-more m (omega (arith, l.within))
+      (by-steps m closed S n (subst₂ (λ a b. Ends m true (convert_by S n a b) (Found S) (suc (l.steps + 0))) (sym z) (sym d) (asked l.ends said))) in
       let two : Finds m (Convert (term_of S) (term_of n)) (term_of S) 5 =
-      Finds-more m (omega (arith, one.within, c.within)) (by-steps m closed (term_of S) (term_of n) (subst₂ (λ a b. Ends m true (convert_by (term_of S) (term_of n) a b) (Found (term_of S)) (suc (c.steps + suc (one.steps + 0)))) (sym v) (sym y) (asked c.ends (asked one.ends said)))) in
+      Finds-more m (omega (arith, one.within, c.within))
+      (by-steps m closed (term_of S) (term_of n)
+      (subst₂ (λ a b. Ends m true (convert_by (term_of S) (term_of n) a b) (Found (term_of S)) (suc (c.steps + suc (one.steps + 0)))) (sym v) (sym y)
+      (asked c.ends (asked one.ends said)))) in
       let meet = find-meet m closed sort two in
       let argument : Finds m (Infer G x) (term_of n) (7 * suc w * size x) = subst (λ t. Finds m (Infer G x) t (7 * suc w * size x)) same o.finds in
       let sizes : cost w * size S ≤ cost w * size f = times (cost w) (size S) (size f) ss in
       let wide : cost w * spreads m [] S ≤ cost w * spreads m (x ∷ []) f = times (cost w) (spreads m [] S) (spreads m (x ∷ []) f) sp in
       record {
         most = 1 + p.most + 7 * suc w * size x + (1 + (3 + s.most) + 5);
-        finds = subst (λ t. Finds m (Infer G (App f x)) t (1 + p.most + 7 * suc w * size x + (1 + (3 + s.most) + 5))) r (find_application m p.finds argument meet);
+        finds = subst (λ t. Finds m (Infer G (App f x)) t (1 + p.most + 7 * suc w * size x + (1 + (3 + s.most) + 5))) r
+            (find_application m p.finds argument meet);
         paid = omega (arith, p.paid, s.paid, spread_E, spread_F, sizes, wide, size-positive x);
       }
 
@@ -165,20 +180,30 @@ module _ (m : List Declaration) (closed : IsClosed m) where
       let body = convert-close c in
       let first = convert_same m (term_of a) in
       let near : Finds m (Convert E (Pi (term_of a) F)) E (2 + body.most) =
-      Finds-more m (omega (arith, body.finds.within, first.within)) (by-steps m closed E (Pi (term_of a) F) {n = suc (first.steps + suc (body.finds.steps + 0))} (asked first.ends (asked body.finds.ends said))) in
+      Finds-more m (omega (arith, body.finds.within, first.within))
+      (by-steps m closed E (Pi (term_of a) F) {n = suc (first.steps + suc (body.finds.steps + 0))} (asked first.ends (asked body.finds.ends said))) in
       let v = find-meet m closed r near in
       let s = ap (λ n. cost w * n) (call-spread m closed L [] hf q) in
       let z = ap (λ t. size t) (put_all-nil (proof_of B)) in
-      let l : Finds m (Infer G L) (Pi (term_of a) F) (1 + (2 * size a + 3) + k.most) = record { steps = _; ends = asked d.ends (asked k.finds.ends (last-unless-kind c said)); within = omega (arith, d.within, k.finds.within) } in
+      let l : Finds m (Infer G L) (Pi (term_of a) F) (1 + (2 * size a + 3) + k.most) =
+      record { steps = _; ends = asked d.ends (asked k.finds.ends (last-unless-kind c said)); within = omega (arith, d.within, k.finds.within) } in
       let T = size (Lam (term_of a) t) in
       let U = size (Lam (term_of a) u) in
       let is : size E ≡ 13 + size a + size b + T + U = omega (arith, size-lift 1 b, size-lift 1 (Lam (term_of a) t), size-lift 1 (Lam (term_of a) u)) in
-      let meets : 7 * suc w * (T + U + 2) + 16 * size a + 37 * size b + 130 ≤ cost w * size E = subst (λ n. 7 * suc w * (T + U + 2) + 16 * size a + 37 * size b + 130 ≤ cost w * n) (sym is) (law-cost w (size a) (size b) T U) in
+      let meets : 7 * suc w * (T + U + 2) + 16 * size a + 37 * size b + 130 ≤ cost w * size E =
+      subst (λ n. 7 * suc w * (T + U + 2) + 16 * size a + 37 * size b + 130 ≤ cost w * n) (sym is) (law-cost w (size a) (size b) T U) in
       let most = 1 + p.most + (1 + (2 * size a + 3) + k.most) + (1 + (7 * suc w * (T + U + 2) + 16 * size a + 37 * size b + 130) + (2 + body.most)) in
       let found : most + cost w * spread [] (proof_of B) ≤ 2 * (cost w * (size (App f L) + spreads m [] (App f L))) =
-      law-paid w (size f) (size h) (size a) (size E) (size F) (spreads m (L ∷ []) f) (spreads m [] L) (spreads m [] h) (spread [] (proof_of B)) p.most k.most (7 * suc w * (T + U + 2) + 16 * size a + 37 * size b + 130) body.most
-      (subst (λ n. p.most + n ≤ cost w * (size f + spreads m (L ∷ []) f)) s p.paid) k.paid meets body.within (times (cost w) (spreads m [] h) (spreads m [] L) (omega arith)) in
-      record { most = most; finds = subst (λ t. Finds m (Infer G (App f L)) t most) q (find_application m p.finds l v); paid = subst (λ n. most + cost w * n ≤ 2 * (cost w * (size (App f L) + spreads m [] (App f L)))) z found }
+      law-paid w (size f) (size h) (size a) (size E) (size F) (spreads m (L ∷ []) f) (spreads m [] L) (spreads m [] h) (spread [] (proof_of B)) p.most k.most
+      (7 * suc w * (T + U + 2) + 16 * size a + 37 * size b + 130) body.most
+      (subst (λ n. p.most + n ≤ cost w * (size f + spreads m (L ∷ []) f)) s p.paid) k.paid meets body.within
+      (times (cost w) (spreads m [] h) (spreads m [] L) (omega arith)) in
+      record {
+        most = most;
+        finds = subst (λ t. Finds m (Infer G (App f L)) t most) q (find_application m p.finds l v);
+        paid =
+            subst (λ n. most + cost w * n ≤ 2 * (cost w * (size (App f L) + spreads m [] (App f L)))) z found;
+      }
   find-law w e (law_last big h) g le less = let k = find-last w e h g le less in record { most = k.most; finds = k.finds; paid = k.paid }
   find-law w e {G = G} (at_close_equation {f = f} {h = h} {l = l} {r = r} {A = A} {F = F} {B = B} hf hl hr ss sp hh c q) g le less =
       let E = proof_of (eq_of bools l r) in
@@ -198,7 +223,12 @@ module _ (m : List Declaration) (closed : IsClosed m) where
       let found : most + cost w * spread [] (proof_of B) ≤ 2 * (cost w * (size (App f h) + spreads m [] (App f h))) =
       equation-paid w (size f) (size h) (size E) (size F) (spreads m (h ∷ []) f) (spreads m [] h) (spread [] (proof_of B)) p.most k.most price body.most
       (subst (λ n. p.most + n ≤ cost w * (size f + spreads m (h ∷ []) f)) s p.paid) k.paid meets body.within in
-      record { most = most; finds = subst (λ t. Finds m (Infer G (App f h)) t most) q (find_application m p.finds k.finds v); paid = subst (λ n. most + cost w * n ≤ 2 * (cost w * (size (App f h) + spreads m [] (App f h)))) z found }
+      record {
+        most = most;
+        finds = subst (λ t. Finds m (Infer G (App f h)) t most) q (find_application m p.finds k.finds v);
+        paid =
+            subst (λ n. most + cost w * n ≤ 2 * (cost w * (size (App f h) + spreads m [] (App f h)))) z found;
+      }
   find-law w e (law_under {a = a} ha h) g le less =
       let d = find-declared m closed w e ha g (omega (arith, le)) (omega (arith, less)) in
       let k = find-law w e h (small-entry m {A = a} (omega (arith, le)) g) (omega (arith, le)) (omega (arith, less)) in
@@ -212,7 +242,8 @@ module _ (m : List Declaration) (closed : IsClosed m) where
   pub in-all : (w : ℕ) (A t : Tree) → suc w ≡ (tree_weight m A + tree_weight m t) + (tree_weight m A + tree_weight m t) → 3 ≤ tree_weight m t
       → 7 * suc w * size A + 2 * (cost w * (size t + spreads m [] t)) + 1 ≤ 64 * ((tree_weight m A + tree_weight m t) * (tree_weight m A + tree_weight m t))
   in-all w A t e big =
-      subst (λ n. 7 * n * size A + 2 * ((7 * n + 40) * (size t + spreads m [] t)) + 1 ≤ 64 * ((tree_weight m A + tree_weight m t) * (tree_weight m A + tree_weight m t))) (sym e)
+      subst (λ n. 7 * n * size A + 2 * ((7 * n + 40) * (size t + spreads m [] t)) + 1 ≤ 64 *
+      ((tree_weight m A + tree_weight m t) * (tree_weight m A + tree_weight m t))) (sym e)
       (squares (size A) (spreads m [] A) (size t + spreads m [] t) big)
 
   -- what is found of a definition by a call, and what its conversion costs
@@ -229,12 +260,30 @@ module _ (m : List Declaration) (closed : IsClosed m) where
       → size t + spreads m [] t + e ≤ suc w → Defines w G t A
   find-call-definition w e {t = t} (by_type h) g le less =
       let p = priced m closed w e h [] g le less in
-      record { found = types; most = p.most; finds = p.finds; near = 1; converts = convert_same m types; plain = λ e. e; paid = omega (arith, p.paid, size-positive t) }
+      record {
+        found = types;
+        most = p.most;
+        finds = p.finds;
+        near = 1;
+        converts = convert_same m types;
+        plain = λ e. e;
+        paid =
+            omega (arith, p.paid, size-positive t);
+      }
   find-call-definition w e {t = t} (by_term {d = d} h c) g le less =
       let p = priced m closed w e h [] g le less in
       let k = convert-close c in
       let s = ap (λ t. cost w * size t) (put_all-nil (term_of d)) in
-      record { found = term_of d; most = p.most; finds = p.finds; near = k.most; converts = k.finds; plain = λ e. e; paid = omega (arith, p.paid, k.within, s, size-positive t) }
+      record {
+        found = term_of d;
+        most = p.most;
+        finds = p.finds;
+        near = k.most;
+        converts = k.finds;
+        plain = λ e. e;
+        paid =
+            omega (arith, p.paid, k.within, s, size-positive t);
+      }
   find-call-definition w e {G = G} (call_under h) g le less =
       let k = find-call-definition w e h (small-entry m {A = types} (omega (arith, le)) g) (omega (arith, le)) (omega (arith, less)) in
       let first = convert_same m types in
@@ -244,7 +293,9 @@ module _ (m : List Declaration) (closed : IsClosed m) where
         most = 2 + k.most;
         finds = record { steps = _; ends = asked sort.ends (asked k.finds.ends (k.plain said)); within = omega (arith, sort.within, k.finds.within) };
         near = 2 + k.near;
-        converts = Finds-more m (omega (arith, k.converts.within, first.within)) (by-steps m closed (Pi types _) (Pi types k.found) {n = suc (first.steps + suc (k.converts.steps + 0))} (asked first.ends (asked k.converts.ends said)));
+        converts = Finds-more m (omega (arith, k.converts.within, first.within))
+            (by-steps m closed (Pi types _) (Pi types k.found) {n = suc (first.steps + suc (k.converts.steps + 0))}
+            (asked first.ends (asked k.converts.ends said)));
         plain = λ e. e;
         paid = omega (arith, k.paid);
       }

@@ -44,7 +44,8 @@ spreads-same m s r domains xs x B e f l =
     let sizes = size-applied (Sym s) (Sym r) xs refl in
     let left = spreads-applied m (Sym s) xs [] in
     let right = spreads-applied m (Sym r) xs (x ∷ []) in
-    let at_s : symbol_spread m s (xs ++ []) ≡ spread xs (products domains types) = ap (λ l. symbol_spread m s l) (append-nil xs) ∙ ap (λ o. option_map_or (spread xs) o 0) e in
+    let at_s : symbol_spread m s (xs ++ []) ≡ spread xs (products domains types) =
+    ap (λ l. symbol_spread m s l) (append-nil xs) ∙ ap (λ o. option_map_or (spread xs) o 0) e in
     let at_r : symbol_spread m r (xs ++ x ∷ []) ≡ spread (xs ++ x ∷ []) (products domains B) = ap (λ o. option_map_or (spread (xs ++ x ∷ [])) o 0) f in
     let le = same_domains [] xs domains x B l in
     (omega (arith, sizes), omega (arith, left, right, at_s, at_r, le))

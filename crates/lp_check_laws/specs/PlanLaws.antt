@@ -60,7 +60,8 @@ module _ (m : List Declaration) (r : Bool) where
   then_found rest (said {reply = No}) e h = absurd (cc)
   then_found rest (refused g) e h = absurd (cc)
   then_found rest {reply = reply} {k = k} (asked {q = q} {rest = more} {n = a} {k = b} g l) e h =
-      let is : suc (a + (b + k)) ≡ suc (a + b) + k = omega arith in subst (Ends m r (Ask q (λ t. and_then (more t) rest)) reply) is (asked g (then_found rest l e h))
+      let is : suc (a + (b + k)) ≡ suc (a + b) + k =
+      omega arith in subst (Ends m r (Ask q (λ t. and_then (more t) rest)) reply) is (asked g (then_found rest l e h))
 
   pub then_no : {p : Plan} (rest : Tree → Plan) {f : Reply} {n : ℕ} → Ends m r p f n → f ≡ No → Ends m r (and_then p rest) No n
   then_no rest (said {reply = Found u}) e = absurd (cc)

@@ -128,7 +128,8 @@ placed before (x ∷ xs) sound h zero d e =
     }
 placed before (x ∷ xs) sound h (suc i) d e =
     let count : length (before ++ x ∷ []) + i ≡ length before + suc i = omega (arith, length-append before (x ∷ [])) in
-    subst₂ (λ l n. Placed l n d) (append_assoc before (x ∷ []) xs) count (placed (before ++ x ∷ []) xs (IsSound-after before x sound (shaped-typed before x sound h.0)) h.1 i d e)
+    subst₂ (λ l n. Placed l n d) (append_assoc before (x ∷ []) xs) count
+    (placed (before ++ x ∷ []) xs (IsSound-after before x sound (shaped-typed before x sound h.0)) h.1 i d e)
 
 -- the check of a declaration finds its type, at a price within 64 times the square of its weight in the module
 pub record IsPriced (m : List Declaration) (i : ℕ) (d : Declaration) : Type 0 where

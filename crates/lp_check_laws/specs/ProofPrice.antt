@@ -38,10 +38,18 @@ module _ (m : List Declaration) (closed : IsClosed m) where
   find-meet {G = G} {E = E} {F = F} {k = k} {l = l} h c = go (tree_eq E F) refl
     where
       go : (q : Bool) → tree_eq E F ≡ q → Finds m (Meet G E F) E (1 + k + l)
-      go true e = record { steps = 0; ends = subst (λ q. Ends m true (if q then Say (Found E) else recheck true G E (Ask (Convert E F) (λ _. Say (Found E)))) (Found E) 0) (sym e) said; within = omega arith }
+      go true e = record {
+        steps = 0;
+        ends =
+            subst (λ q. Ends m true (if q then Say (Found E) else recheck true G E (Ask (Convert E F) (λ _. Say (Found E)))) (Found E) 0) (sym e) said;
+        within =
+            omega arith;
+      }
       go false e = record {
         steps = suc (h.steps + suc (c.steps + 0));
-        ends = subst (λ q. Ends m true (if q then Say (Found E) else recheck true G E (Ask (Convert E F) (λ _. Say (Found E)))) (Found E) (suc (h.steps + suc (c.steps + 0)))) (sym e) (asked h.ends (asked c.ends said));
+        ends = subst
+            (λ q. Ends m true (if q then Say (Found E) else recheck true G E (Ask (Convert E F) (λ _. Say (Found E)))) (Found E)
+            (suc (h.steps + suc (c.steps + 0)))) (sym e) (asked h.ends (asked c.ends said));
         within = omega (arith, h.within, c.within);
       }
 
@@ -80,7 +88,9 @@ module _ (m : List Declaration) (closed : IsClosed m) where
   -- `x : term a -> proof (eq b ((x : term a => t) x) ((x : term a => u) x))` is a type, near `x : term a -> proof (eq b t u)`
   pub pointwise-near : (a b t u : Tree) → Near m (pointwise a b t u) (Pi (term_of a) (proof_of (eq_of (lift 1 b) t u)))
   pointwise-near a b t u =
-      near_product near_same (near_application refl refl near_same (near_application refl refl (near_application refl refl near_same (near_head (ap Some (put-lift_at t)))) (near_head (ap Some (put-lift_at u)))))
+      near_product near_same
+      (near_application refl refl near_same
+      (near_application refl refl (near_application refl refl near_same (near_head (ap Some (put-lift_at t)))) (near_head (ap Some (put-lift_at u)))))
 
   pub find-pointwise : (w e : ℕ) {G : List Tree} {a b t u : Tree} → IsSimple m G a → IsSimple m G b → IsTerm m (term_of a ∷ G) t (lift 1 b)
       → IsTerm m (term_of a ∷ G) u (lift 1 b) → AreSmall m e G
@@ -93,12 +103,23 @@ module _ (m : List Declaration) (closed : IsClosed m) where
       let f = find-term m closed w (sized-weaken m closed {C = term_of a} (sized m closed (suc w) e (of_binder ha hb ht) g lt wt)) in
       let k = find-term m closed w (sized-weaken m closed {C = term_of a} (sized m closed (suc w) e (of_binder ha hb hu) g lu wu)) in
       let x = find-term m closed w (by_entry {n = 0} {b = a} refl refl a') in
-      let p = find-proofs m closed (find-equation m closed b' (find-apply m closed a' b' f.unfolded f.finds x) (find-apply m closed a' b' k.unfolded k.finds x)) in
+      let p = find-proofs m closed (find-equation m closed b' (find-apply m closed a' b' f.unfolded f.finds x) (find-apply m closed a' b' k.unfolded k.finds x))
+      in
       let q = find_terms m ha in
       record {
         steps = _;
         ends = asked q.ends (asked p.ends said);
-        within = omega (arith, q.within, p.within, size-lift 1 a, size-lift 1 b, ap (λ n. w * n) (size-lift 1 (Lam (term_of a) t)), ap (λ n. w * n) (size-lift 1 (Lam (term_of a) u)), size-lift 1 (Lam (term_of a) t), size-lift 1 (Lam (term_of a) u));
+        within = omega (
+          arith,
+          q.within,
+          p.within,
+          size-lift 1 a,
+          size-lift 1 b,
+          ap (λ n. w * n) (size-lift 1 (Lam (term_of a) t)),
+          ap (λ n. w * n) (size-lift 1 (Lam (term_of a) u)),
+          size-lift 1 (Lam (term_of a) t),
+          size-lift 1 (Lam (term_of a) u),
+        );
       }
 
   -- what is paid at an argument: for the function, for the argument, and for the meeting of the expected type
@@ -121,7 +142,8 @@ module _ (m : List Declaration) (closed : IsClosed m) where
       let s = ap (λ n. cost w * n) (call-spread a args hf q) in
       record {
         most = 1 + p.most + 2 * size a + 1;
-        finds = subst (λ t. Finds m (Infer G (App f a)) t (1 + p.most + 2 * size a + 1)) q (find_application m p.finds (find_constant m ha) (meet_same m G types));
+        finds = subst (λ t. Finds m (Infer G (App f a)) t (1 + p.most + 2 * size a + 1)) q
+            (find_application m p.finds (find_constant m ha) (meet_same m G types));
         paid = omega (arith, p.paid, s);
       }
   priced w e {G = G} (at_a_term {f = f} {x = x} {a = a} {A = A} {B = B} hf hx q) args g le less =
@@ -149,17 +171,22 @@ module _ (m : List Declaration) (closed : IsClosed m) where
       let p = priced w e hf (x ∷ args) g (omega (arith, le)) (omega (arith, less)) in
       let k = priced w e hh [] g (omega (arith, le)) (omega (arith, less)) in
       let o = find-term m closed w (sized m closed (suc w) e ht g (omega (arith, le)) (omega (arith, less))) in
-      let r = find-proofs m closed (find-equation m closed (term-simple m ht) (record { found = term_of a; unfolded = folded; finds = find_constant m hc }) o) in
-      let near : Near m E (proof_of (eq_of a t t)) = near_application refl refl near_same (near_application refl refl (near_application refl refl near_same (near_head d)) near_same) in
+      let r = find-proofs m closed (find-equation m closed (term-simple m ht) (record { found = term_of a; unfolded = folded; finds = find_constant m hc }) o)
+      in
+      let near : Near m E (proof_of (eq_of a t t)) =
+      near_application refl refl near_same (near_application refl refl (near_application refl refl near_same (near_head d)) near_same) in
       let u = find-meet r (convert-near m closed near) in
       let s = ap (λ n. cost w * n) (call-spread x args hf q) in
       let is : size E ≡ 6 + size a + size c + size t = omega arith in
-      let more : 2 + (2 * size c + 7 * suc w * size t + 23 * size a + 81 + 3) + 3 * size E ≤ cost w * size E = subst (λ n. 2 + (2 * size c + 7 * suc w * size t + 23 * size a + 81 + 3) + 3 * n ≤ cost w * n) (sym is) (definition-cost w (size a) (size c) (size t)) in
+      let more : 2 + (2 * size c + 7 * suc w * size t + 23 * size a + 81 + 3) + 3 * size E ≤ cost w * size E =
+      subst (λ n. 2 + (2 * size c + 7 * suc w * size t + 23 * size a + 81 + 3) + 3 * n ≤ cost w * n) (sym is) (definition-cost w (size a) (size c) (size t))
+      in
       let most = 1 + p.most + k.most + (1 + (2 * size c + 7 * suc w * size t + 23 * size a + 81 + 3) + 3 * size E) in
       record {
         most = most;
         finds = subst (λ t. Finds m (Infer G (App f x)) t most) q (find_application m p.finds k.finds u);
-        paid = paid-at (cost w) (size f) (size x) (size E) (spreads m (x ∷ args) f) (spreads m [] x) (spread args B) p.most k.most (1 + (2 * size c + 7 * suc w * size t + 23 * size a + 81 + 3) + 3 * size E)
+        paid = paid-at (cost w) (size f) (size x) (size E) (spreads m (x ∷ args) f) (spreads m [] x) (spread args B) p.most k.most
+            (1 + (2 * size c + 7 * suc w * size t + 23 * size a + 81 + 3) + 3 * size E)
             (subst (λ n. p.most + n ≤ cost w * (size f + spreads m (x ∷ args) f)) s p.paid) (omega (arith, k.paid)) (omega (arith, more));
       }
   priced w e {G = G} (at_abstractions {a = a} {b = b} {t = t} {u = u} {h = h} {A = A} {B = B} hf ha hb ht hu hh q) args g le less =
@@ -172,17 +199,21 @@ module _ (m : List Declaration) (closed : IsClosed m) where
       let r = find-pointwise w e ha hb ht hu g (omega (arith, le)) (omega (arith, le)) (omega (arith, less)) (omega (arith, less)) in
       let v = find-meet r (convert-near m closed (pointwise-near a b t u)) in
       let s = ap (λ n. cost w * n) (call-spread L args hf q) in
-      let l : Finds m (Infer G L) (Pi (term_of a) (proof_of (eq_of (lift 1 b) t u))) (1 + (2 * size a + 3) + k.most) = record { steps = _; ends = asked d.ends (asked k.finds.ends said); within = omega (arith, d.within, k.finds.within) } in
+      let l : Finds m (Infer G L) (Pi (term_of a) (proof_of (eq_of (lift 1 b) t u))) (1 + (2 * size a + 3) + k.most) =
+      record { steps = _; ends = asked d.ends (asked k.finds.ends said); within = omega (arith, d.within, k.finds.within) } in
       let T = size (Lam (term_of a) t) in
       let U = size (Lam (term_of a) u) in
       let is : size E ≡ 13 + size a + size b + T + U = omega (arith, size-lift 1 b, size-lift 1 (Lam (term_of a) t), size-lift 1 (Lam (term_of a) u)) in
-      let more : 2 + (7 * suc w * (T + U + 2) + 16 * size a + 37 * size b + 130) + 3 * size E ≤ cost w * size E = subst (λ n. 2 + (7 * suc w * (T + U + 2) + 16 * size a + 37 * size b + 130) + 3 * n ≤ cost w * n) (sym is) (abstractions-cost w (size a) (size b) T U) in
+      let more : 2 + (7 * suc w * (T + U + 2) + 16 * size a + 37 * size b + 130) + 3 * size E ≤ cost w * size E =
+      subst (λ n. 2 + (7 * suc w * (T + U + 2) + 16 * size a + 37 * size b + 130) + 3 * n ≤ cost w * n) (sym is) (abstractions-cost w (size a) (size b) T U)
+      in
       let own = abstraction-cost w (size a) (size h) (spreads m [] (term_of a)) (spreads m [] h) k.most (omega (arith, k.paid)) in
       let most = 1 + p.most + (1 + (2 * size a + 3) + k.most) + (1 + (7 * suc w * (T + U + 2) + 16 * size a + 37 * size b + 130) + 3 * size E) in
       record {
         most = most;
         finds = subst (λ t. Finds m (Infer G (App f L)) t most) q (find_application m p.finds l v);
-        paid = paid-at (cost w) (size f) (size L) (size E) (spreads m (L ∷ args) f) (spreads m [] L) (spread args B) p.most (1 + (2 * size a + 3) + k.most) (1 + (7 * suc w * (T + U + 2) + 16 * size a + 37 * size b + 130) + 3 * size E)
+        paid = paid-at (cost w) (size f) (size L) (size E) (spreads m (L ∷ args) f) (spreads m [] L) (spread args B) p.most (1 + (2 * size a + 3) + k.most)
+            (1 + (7 * suc w * (T + U + 2) + 16 * size a + 37 * size b + 130) + 3 * size E)
             (subst (λ n. p.most + n ≤ cost w * (size f + spreads m (L ∷ args) f)) s p.paid) own (omega (arith, more));
       }
   priced w e (called h) args g le less =
@@ -190,7 +221,12 @@ module _ (m : List Declaration) (closed : IsClosed m) where
       record { most = p.most; finds = p.finds; paid = omega (arith, p.paid) }
   priced w e (hypothesis {n = n} {p = p} {A = A} at q) args g le less = record {
     most = 1;
-    finds = record { steps = 0; ends = subst (λ o. Ends m true (found_if (option_map (lift (suc n)) o)) (Found A) 0) (sym at) (subst (λ x. Ends m true (Say (Found x)) (Found A) 0) (sym q) said); within = omega arith };
+    finds = record {
+      steps = 0;
+      ends = subst (λ o. Ends m true (found_if (option_map (lift (suc n)) o)) (Found A) 0) (sym at)
+          (subst (λ x. Ends m true (Say (Found x)) (Found A) 0) (sym q) said);
+      within = omega arith;
+    };
     paid = omega arith;
   }
   priced w e (under_binder {a = a} ha hh) args g le less =

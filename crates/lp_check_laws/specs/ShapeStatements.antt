@@ -11,7 +11,8 @@ use Rattle.lp_check_laws.specs.ShapedPasses.{Passes, AreShaped}
 
 -- The check of a shaped declaration says yes at a price of at most 64 times the square of its weight.
 abbrev pub ShapedPass : Type 0
-ShapedPass = (m : List Declaration) (closed : IsClosed m) (d : Declaration) → IsShaped m d → Passes m closed (declaration_plan d) d.ty (64 * (weight m d * weight m d))
+ShapedPass = (m : List Declaration) (closed : IsClosed m) (d : Declaration) → IsShaped m d
+    → Passes m closed (declaration_plan d) d.ty (64 * (weight m d * weight m d))
 
 -- A module of shaped declarations is well typed.
 abbrev pub ShapedTyped : Type 0
@@ -19,4 +20,5 @@ ShapedTyped = (m : List Declaration) → AreShaped [] m → WellTyped m
 
 -- The check of a declaration over those before it is its check over the whole module: one reply at one price, with rechecks or without.
 abbrev pub EarlierAlone : Type 0
-EarlierAlone = (m : List Declaration) → IsModule m → (i : ℕ) (d : Declaration) → slice_get m i ≡ Some d → (r : Bool) (reply : Reply) (n : ℕ) → Ends m r (declaration_plan d) reply n ↔ Ends (take i m) r (declaration_plan d) reply n
+EarlierAlone = (m : List Declaration) → IsModule m → (i : ℕ) (d : Declaration) → slice_get m i ≡ Some d → (r : Bool) (reply : Reply) (n : ℕ)
+    → Ends m r (declaration_plan d) reply n ↔ Ends (take i m) r (declaration_plan d) reply n

@@ -41,7 +41,8 @@ module _ (m : List Declaration) (G : List Tree) where
   pub shaped-call : (domains args : List Tree) (s : ℕ) (t : Tree) → symbol_type m s ≡ Some (products domains t) → Solid (products domains t)
       → loose (products domains t) ≡ 0 → AreArguments m G [] domains args → IsProof m true G (applied (Sym s) args) (put_all args t)
   shaped-call domains args s t e solid c k =
-      shaped-applied domains args [] (Sym s) t (subst (IsProof m true G (Sym s)) (sym (put_all_at-closed 0 [] (products domains t) (omega (arith, c)))) (call e solid)) k
+      shaped-applied domains args [] (Sym s) t
+      (subst (IsProof m true G (Sym s)) (sym (put_all_at-closed 0 [] (products domains t) (omega (arith, c)))) (call e solid)) k
 
 module _ (m : List Declaration) where
   -- an equation of terms
@@ -53,14 +54,16 @@ module _ (m : List Declaration) where
 
   pub shaped-refl : {G : List Tree} {a x : Tree} → IsSimple m G a → IsTerm m G x a → IsProof m false G (refl_of a x) (proof_of (eq_of a x x))
   shaped-refl {G = G} {a = a} {x = x} ha hx =
-      let h = shaped-call m G (types ∷ term_of (Var 0) ∷ []) (a ∷ x ∷ []) refl_symbol (proof_of (eq_of (Var 1) (Var 0) (Var 0))) refl tt refl (a_type ha, (a_term (simp lift_zero hx), tt {0})) in
+      let h = shaped-call m G (types ∷ term_of (Var 0) ∷ []) (a ∷ x ∷ []) refl_symbol (proof_of (eq_of (Var 1) (Var 0) (Var 0))) refl tt refl
+      (a_type ha, (a_term (simp lift_zero hx), tt {0})) in
       called (simp lift_zero at h)
 
   pub shaped-eq_mp : {G : List Tree} {p q h k : Tree} → IsTerm m G p bools → IsTerm m G q bools → IsProof m false G h (proof_of (eq_of bools p q))
       → IsProof m false G k (proof_of p) → IsProof m false G (applied (Sym eq_mp_symbol) (p ∷ q ∷ h ∷ k ∷ [])) (proof_of q)
   shaped-eq_mp {G = G} {p = p} {q = q} {h = h} {k = k} hp hq hh hk =
       let domains = term_of bools ∷ term_of bools ∷ proof_of (eq_of bools (Var 1) (Var 0)) ∷ proof_of (Var 2) ∷ [] in
-      let c = shaped-call m G domains (p ∷ q ∷ h ∷ k ∷ []) eq_mp_symbol (proof_of (Var 2)) refl tt refl (a_term hp, (a_term hq, (a_proof (simp lift_zero hh), (a_proof (simp lift_zero hk), tt {0})))) in
+      let c = shaped-call m G domains (p ∷ q ∷ h ∷ k ∷ []) eq_mp_symbol (proof_of (Var 2)) refl tt refl
+      (a_term hp, (a_term hq, (a_proof (simp lift_zero hh), (a_proof (simp lift_zero hk), tt {0})))) in
       called (simp lift_zero at c)
 
   pub shaped-app_thm : {G : List Tree} {a b f g x y h k : Tree} → IsSimple m G a → IsSimple m G b → IsTerm m G f (arr_of a b) → IsTerm m G g (arr_of a b)
@@ -68,9 +71,22 @@ module _ (m : List Declaration) where
       → IsProof m false G h (proof_of (eq_of (arr_of a b) f g)) → IsProof m false G k (proof_of (eq_of a x y))
       → IsProof m false G (applied (Sym app_thm_symbol) (a ∷ b ∷ f ∷ g ∷ x ∷ y ∷ h ∷ k ∷ [])) (proof_of (eq_of b (App f x) (App g y)))
   shaped-app_thm {G = G} {a = a} {b = b} {f = f} {g = g} {x = x} {y = y} {h = h} {k = k} ha hb hf hg hx hy hh hk =
-      let domains = two_functions ++ term_of (Var 3) ∷ term_of (Var 4) ∷ proof_of (eq_of (arr_of (Var 5) (Var 4)) (Var 3) (Var 2)) ∷ proof_of (eq_of (Var 6) (Var 2) (Var 1)) ∷ [] in
-      let c = shaped-call m G domains (a ∷ b ∷ f ∷ g ∷ x ∷ y ∷ h ∷ k ∷ []) app_thm_symbol (proof_of (eq_of (Var 6) (App (Var 5) (Var 3)) (App (Var 4) (Var 2)))) refl tt refl
-      (a_type ha, (a_type hb, (a_term (simp lift_zero hf), (a_term (simp lift_zero hg), (a_term (simp lift_zero hx), (a_term (simp lift_zero hy), (a_proof (simp lift_zero hh), (a_proof (simp lift_zero hk), tt {0})))))))) in
+      let domains = two_functions ++ term_of (Var 3) ∷ term_of (Var 4) ∷ proof_of (eq_of (arr_of (Var 5) (Var 4)) (Var 3) (Var 2)) ∷ proof_of
+      (eq_of (Var 6) (Var 2) (Var 1)) ∷ [] in
+      let c = shaped-call m G domains (a ∷ b ∷ f ∷ g ∷ x ∷ y ∷ h ∷ k ∷ []) app_thm_symbol (proof_of (eq_of (Var 6) (App (Var 5) (Var 3)) (App (Var 4) (Var 2))))
+      refl tt refl (
+        a_type ha,
+        (
+          a_type hb,
+          (
+            a_term (simp lift_zero hf),
+            (
+              a_term (simp lift_zero hg),
+              (a_term (simp lift_zero hx), (a_term (simp lift_zero hy), (a_proof (simp lift_zero hh), (a_proof (simp lift_zero hk), tt {0})))),
+            ),
+          ),
+        ),
+      ) in
       called (simp lift_zero at c)
 
   -- from x = y to y = x
@@ -80,9 +96,11 @@ module _ (m : List Declaration) where
       let bool : IsSimple m G bools = constant refl tt in
       let predicates : IsSimple m G (arr_of a bools) = at_type (at_type (constant refl tt) ha refl) bool refl in
       let relations : IsSimple m G (arr_of a (arr_of a bools)) = at_type (at_type (constant refl tt) ha refl) predicates refl in
-      let equality : IsTerm m G (App (Sym eq_symbol) a) (arr_of a (arr_of a bools)) = of_constant (at_type (constant refl tt) ha (ap (λ w. term_of (arr_of w (arr_of w bools))) (lift_zero a))) relations in
+      let equality : IsTerm m G (App (Sym eq_symbol) a) (arr_of a (arr_of a bools)) =
+      of_constant (at_type (constant refl tt) ha (ap (λ w. term_of (arr_of w (arr_of w bools))) (lift_zero a))) relations in
       let functions = shaped-app_thm ha predicates equality equality hx hy (shaped-refl relations equality) hh in
-      shaped-eq_mp (shaped-equation ha hx hx) (shaped-equation ha hy hx) (shaped-app_thm ha bool (of_function equality hx) (of_function equality hy) hx hx functions (shaped-refl ha hx)) (shaped-refl ha hx)
+      shaped-eq_mp (shaped-equation ha hx hx) (shaped-equation ha hy hx)
+      (shaped-app_thm ha bool (of_function equality hx) (of_function equality hy) hx hx functions (shaped-refl ha hx)) (shaped-refl ha hx)
 
   -- the lemma of symmetry is shaped over every module
   pub sym_lemma-shaped : IsShaped m sym_lemma
@@ -94,8 +112,10 @@ module _ (m : List Declaration) where
         body = inl (record {
           found = _;
           proof = under_binder of_types (under_binder (of_terms (type_variable refl)) (under_binder (of_terms (type_variable refl))
-              (under_binder (of_proofs (shaped-equation (type_variable refl) (of_entry refl refl (type_variable refl)) (of_entry refl refl (type_variable refl))))
-              (shaped-sym_proof (type_variable refl) (of_entry refl refl (type_variable refl)) (of_entry refl refl (type_variable refl)) (hypothesis refl refl)))));
+              (under_binder
+              (of_proofs (shaped-equation (type_variable refl) (of_entry refl refl (type_variable refl)) (of_entry refl refl (type_variable refl))))
+              (shaped-sym_proof (type_variable refl) (of_entry refl refl (type_variable refl)) (of_entry refl refl (type_variable refl))
+              (hypothesis refl refl)))));
           near = near_same;
         });
       }

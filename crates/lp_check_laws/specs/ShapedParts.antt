@@ -51,7 +51,8 @@ module _ (m : List Declaration) {G : List Tree} (C F W H : Tree) (p : IsPartAt m
   part_call : (s : ℕ) (t : Tree) → symbol_type m s ≡ Some (products part_domains t) → Solid (products part_domains t) → loose (products part_domains t) ≡ 0
       → IsProof m true G (part_of s C F W H) (put_all (C ∷ F ∷ W ∷ H ∷ []) t)
   part_call s t e solid c =
-      shaped-call m G part_domains (C ∷ F ∷ W ∷ H ∷ []) s t e solid c (a_type p.ty, (a_term (simp lift_zero p.predicate), (a_term (simp lift_zero p.witness), (a_proof (simp lift_zero p.proof), tt {0}))))
+      shaped-call m G part_domains (C ∷ F ∷ W ∷ H ∷ []) s t e solid c
+      (a_type p.ty, (a_term (simp lift_zero p.predicate), (a_term (simp lift_zero p.witness), (a_proof (simp lift_zero p.proof), tt {0}))))
 
   -- the five symbols
   pub sub-call : IsProof m true G (part_of sub_symbol C F W H) types
@@ -74,11 +75,14 @@ module _ (m : List Declaration) {G : List Tree} (C F W H : Tree) (p : IsPartAt m
   lifted_part s = part_of s (lift 1 C) (lift 1 F) (lift 1 W) (lift 1 H)
 
   sub_abs_rep-call : IsProof m true G (part_of sub_abs_rep_symbol C F W H)
-      (Pi (term_of (part_of sub_symbol C F W H)) (proof_of (eq_of (lifted_part sub_symbol) (App (lifted_part sub_abs_symbol) (App (lifted_part sub_rep_symbol) (Var 0))) (Var 0))))
+      (Pi (term_of (part_of sub_symbol C F W H))
+      (proof_of (eq_of (lifted_part sub_symbol) (App (lifted_part sub_abs_symbol) (App (lifted_part sub_rep_symbol) (Var 0))) (Var 0))))
   sub_abs_rep-call = let c = part_call sub_abs_rep_symbol abstraction_undoes refl tt refl in simp lift_zero at c
 
   sub_rep_abs-call : IsProof m true G (part_of sub_rep_abs_symbol C F W H)
-      (Pi (term_of C) (proof_of (eq_of bools (eq_of (lift 1 C) (App (lifted_part sub_rep_symbol) (App (lifted_part sub_abs_symbol) (Var 0))) (Var 0)) (App (lift 1 F) (Var 0)))))
+      (Pi (term_of C)
+      (proof_of (eq_of bools (eq_of (lift 1 C) (App (lifted_part sub_rep_symbol) (App (lifted_part sub_abs_symbol) (Var 0))) (Var 0))
+      (App (lift 1 F) (Var 0)))))
   sub_rep_abs-call = let c = part_call sub_rep_abs_symbol part_holds refl tt refl in simp lift_zero at c
 
   put-part : (s : ℕ) (x : Tree) → put x (lifted_part s) ≡ part_of s C F W H
@@ -98,7 +102,9 @@ module _ (m : List Declaration) {G : List Tree} (C F W H : Tree) (p : IsPartAt m
   second-last x hx =
       let x0 : put x (Var 0) ≡ x = lift_zero x in
       last_call (at_a_term sub_rep_abs-call hx
-      (λ i. proof_of (eq_of bools (eq_of (put-lift x C i) (App (put-part sub_rep_symbol x i) (App (put-part sub_abs_symbol x i) (x0 i))) (x0 i)) (App (put-lift x F i) (x0 i)))))
+      (λ i. proof_of
+      (eq_of bools (eq_of (put-lift x C i) (App (put-part sub_rep_symbol x i) (App (put-part sub_abs_symbol x i) (x0 i))) (x0 i))
+      (App (put-lift x F i) (x0 i)))))
 
 -- The definitions of a type definition: its operator, and its constants, whose types have the operator where the part is found
 module _ (m : List Declaration) {G : List Tree} (C F W H : Tree) (p : IsPartAt m G C F W H) where
@@ -119,25 +125,31 @@ module _ (m : List Declaration) {G : List Tree} (C F W H : Tree) (p : IsPartAt m
       by_term (sub_rep-call m C F W H p) (close_arrow (close_application (no-arrow m N _ step) refl close_same (close_step step close_same)) close_same)
 
 -- extensionality of two abstractions, before the proof
-module _ (m : List Declaration) {G : List Tree} {a b t u : Tree} (ha : IsSimple m G a) (hb : IsSimple m G b) (ht : IsTerm m (term_of a ∷ G) t (lift 1 b)) (hu : IsTerm m (term_of a ∷ G) u (lift 1 b)) where
-  extensional : IsProof m true G (two_abstractions a b t u) (Pi (pointwise a b t u) (proof_of (eq_of (arr_of (lift 1 a) (lift 1 b)) (lift 1 (Lam (term_of a) t)) (lift 1 (Lam (term_of a) u)))))
+module _ (m : List Declaration) {G : List Tree} {a b t u : Tree} (ha : IsSimple m G a) (hb : IsSimple m G b) (ht : IsTerm m (term_of a ∷ G) t (lift 1 b))
+    (hu : IsTerm m (term_of a ∷ G) u (lift 1 b)) where
+  extensional : IsProof m true G (two_abstractions a b t u)
+      (Pi (pointwise a b t u) (proof_of (eq_of (arr_of (lift 1 a) (lift 1 b)) (lift 1 (Lam (term_of a) t)) (lift 1 (Lam (term_of a) u)))))
   extensional =
       let f = Lam (term_of a) t in
       let g = Lam (term_of a) u in
-      let c = shaped-call m G two_functions (a ∷ b ∷ f ∷ g ∷ []) fun_ext_symbol (Pi pointwise_equal (proof_of (eq_of (arr_of (Var 4) (Var 3)) (Var 2) (Var 1)))) refl tt refl
+      let c = shaped-call m G two_functions (a ∷ b ∷ f ∷ g ∷ []) fun_ext_symbol (Pi pointwise_equal (proof_of (eq_of (arr_of (Var 4) (Var 3)) (Var 2) (Var 1))))
+      refl tt refl
       (a_type ha, (a_type hb, (a_term (simp lift_zero (of_binder ha hb ht)), (a_term (simp lift_zero (of_binder ha hb hu)), tt {0})))) in
       simp lift_zero at c
 
   -- the equation that extensionality proves
   concluded : (h : Tree)
-      → put h (proof_of (eq_of (arr_of (lift 1 a) (lift 1 b)) (lift 1 (Lam (term_of a) t)) (lift 1 (Lam (term_of a) u)))) ≡ proof_of (eq_of (arr_of a b) (Lam (term_of a) t) (Lam (term_of a) u))
+      → put h (proof_of (eq_of (arr_of (lift 1 a) (lift 1 b)) (lift 1 (Lam (term_of a) t)) (lift 1 (Lam (term_of a) u))))
+      ≡ proof_of (eq_of (arr_of a b) (Lam (term_of a) t) (Lam (term_of a) u))
   concluded h i = proof_of (eq_of (arr_of (put-lift h a i) (put-lift h b i)) (put-lift h (Lam (term_of a) t) i) (put-lift h (Lam (term_of a) u) i))
 
 -- The first law: abs undoes rep at each term of the new type, where the type and both constants become those of the part by head steps
 pub first_law-shaped : (m : List Declaration) {G : List Tree} (N C F W H A R : Tree) → IsSimple m G N → IsSimple m (term_of N ∷ G) (lift 1 N)
     → IsPartAt m (term_of N ∷ G) C F W H
-    → IsTerm m (term_of N ∷ G) A (arr_of C (lift 1 N)) → IsTerm m (term_of N ∷ G) R (arr_of (lift 1 N) C) → head_step m (lift 1 N) ≡ Some (part_of sub_symbol C F W H)
-    → ((y : Tree) → head_step m (App A y) ≡ Some (App (part_of sub_abs_symbol C F W H) y)) → ((y : Tree) → head_step m (App R y) ≡ Some (App (part_of sub_rep_symbol C F W H) y))
+    → IsTerm m (term_of N ∷ G) A (arr_of C (lift 1 N)) → IsTerm m (term_of N ∷ G) R (arr_of (lift 1 N) C) → head_step m (lift 1 N)
+    ≡ Some (part_of sub_symbol C F W H)
+    → ((y : Tree) → head_step m (App A y) ≡ Some (App (part_of sub_abs_symbol C F W H) y))
+    → ((y : Tree) → head_step m (App R y) ≡ Some (App (part_of sub_rep_symbol C F W H) y))
     → IsLaw m G (App (two_abstractions N N (App A (App R (Var 0))) (Var 0)) (Lam (term_of N) (App (part_of sub_abs_rep_symbol C F W H) (Var 0))))
     (proof_of (eq_of (arr_of N N) (Lam (term_of N) (App A (App R (Var 0)))) (Lam (term_of N) (Var 0))))
 first_law-shaped m {G = G} N C F W H A R hN hN' p hA hR stepN stepA stepR =
@@ -149,15 +161,18 @@ first_law-shaped m {G = G} N C F W H A R hN hN' p hA hR stepN stepA stepR =
     (close_application refl refl close_same
     (close_application refl refl
     (close_application refl refl (close_application refl refl close_same (close_step stepN close_same))
-    (close_step (ap Some (put-lift_at (App A (App R (Var 0))))) (close_step (stepA (App R (Var 0))) (close_application refl refl close_same (close_step (stepR (Var 0)) close_same)))))
+    (close_step (ap Some (put-lift_at (App A (App R (Var 0)))))
+    (close_step (stepA (App R (Var 0))) (close_application refl refl close_same (close_step (stepR (Var 0)) close_same)))))
     (close_step refl close_same)))
     (concluded m hN hN t x h)
 
 -- The second law: rep undoes abs exactly where the predicate holds
 pub second_law-shaped : (m : List Declaration) {G : List Tree} (B N C F W H A R : Tree) → IsSimple m G B → lift 1 B ≡ C → IsPartAt m (term_of B ∷ G) C F W H
     → IsTerm m (term_of B ∷ G) A (arr_of C N) → IsTerm m (term_of B ∷ G) R (arr_of N C)
-    → ((y : Tree) → head_step m (App A y) ≡ Some (App (part_of sub_abs_symbol C F W H) y)) → ((y : Tree) → head_step m (App R y) ≡ Some (App (part_of sub_rep_symbol C F W H) y))
-    → IsLaw m G (App (two_abstractions B bools (eq_of C (App R (App A (Var 0))) (Var 0)) (App F (Var 0))) (Lam (term_of B) (App (part_of sub_rep_abs_symbol C F W H) (Var 0))))
+    → ((y : Tree) → head_step m (App A y) ≡ Some (App (part_of sub_abs_symbol C F W H) y))
+    → ((y : Tree) → head_step m (App R y) ≡ Some (App (part_of sub_rep_symbol C F W H) y))
+    → IsLaw m G (App (two_abstractions B bools (eq_of C (App R (App A (Var 0))) (Var 0)) (App F (Var 0)))
+    (Lam (term_of B) (App (part_of sub_rep_abs_symbol C F W H) (Var 0))))
     (proof_of (eq_of (arr_of B bools) (Lam (term_of B) (eq_of C (App R (App A (Var 0))) (Var 0))) (Lam (term_of B) (App F (Var 0)))))
 second_law-shaped m {G = G} B N C F W H A R hB same p hA hR stepA stepR =
     let D = term_of B ∷ G in
@@ -172,7 +187,8 @@ second_law-shaped m {G = G} B N C F W H A R hB same p hA hR stepA stepR =
     (close_application refl refl close_same
     (close_step (ap Some (put-lift_at (eq_of C (App R (App A (Var 0))) (Var 0))))
     (close_application refl refl
-    (close_application refl refl close_same (close_step (stepR (App A (Var 0))) (close_application refl refl close_same (close_step (stepA (Var 0)) close_same))))
+    (close_application refl refl close_same
+    (close_step (stepR (App A (Var 0))) (close_application refl refl close_same (close_step (stepA (Var 0)) close_same))))
     close_same)))
     (close_step (ap Some (put-lift_at (App F (Var 0)))) close_same)))
     (concluded m hB bool t u h)
@@ -180,12 +196,15 @@ second_law-shaped m {G = G} B N C F W H A R hB same p hA hR stepA stepR =
 -- In version 5: abs undoes rep at a term of the new type
 pub first_law_free-shaped : (m : List Declaration) {G : List Tree} (N C F W H x : Tree) → IsPartAt m G C F W H → IsTerm m G x N
     → head_step m N ≡ Some (part_of sub_symbol C F W H)
-    → IsLaw m G (App (part_of sub_abs_rep_symbol C F W H) x) (proof_of (eq_of (part_of sub_symbol C F W H) (App (part_of sub_abs_symbol C F W H) (App (part_of sub_rep_symbol C F W H) x)) x))
+    → IsLaw m G (App (part_of sub_abs_rep_symbol C F W H) x)
+    (proof_of (eq_of (part_of sub_symbol C F W H) (App (part_of sub_abs_symbol C F W H) (App (part_of sub_rep_symbol C F W H) x)) x))
 first_law_free-shaped m N C F W H x p hx stepN = law_last (omega arith) (first-last m C F W H p N x hx stepN)
 
 pub first_law_free-close : (m : List Declaration) (N C F W H A R x : Tree) → head_step m N ≡ Some (part_of sub_symbol C F W H)
-    → ((y : Tree) → head_step m (App A y) ≡ Some (App (part_of sub_abs_symbol C F W H) y)) → ((y : Tree) → head_step m (App R y) ≡ Some (App (part_of sub_rep_symbol C F W H) y))
-    → Close m 3 (proof_of (eq_of N (App A (App R x)) x)) (proof_of (eq_of (part_of sub_symbol C F W H) (App (part_of sub_abs_symbol C F W H) (App (part_of sub_rep_symbol C F W H) x)) x))
+    → ((y : Tree) → head_step m (App A y) ≡ Some (App (part_of sub_abs_symbol C F W H) y))
+    → ((y : Tree) → head_step m (App R y) ≡ Some (App (part_of sub_rep_symbol C F W H) y))
+    → Close m 3 (proof_of (eq_of N (App A (App R x)) x))
+    (proof_of (eq_of (part_of sub_symbol C F W H) (App (part_of sub_abs_symbol C F W H) (App (part_of sub_rep_symbol C F W H) x)) x))
 first_law_free-close m N C F W H A R x stepN stepA stepR =
     close_application refl refl close_same
     (close_application refl refl
@@ -197,16 +216,19 @@ first_law_free-close m N C F W H A R x stepN stepA stepR =
 -- and rep undoes abs at a term of the old type where the predicate holds of it, turned round
 pub second_law_free-shaped : (m : List Declaration) {G : List Tree} (N C F W H A R x : Tree) → IsPartAt m G C F W H → IsTerm m G x C → IsTerm m G A (arr_of C N)
     → IsTerm m G R (arr_of N C)
-    → ((y : Tree) → head_step m (App A y) ≡ Some (App (part_of sub_abs_symbol C F W H) y)) → ((y : Tree) → head_step m (App R y) ≡ Some (App (part_of sub_rep_symbol C F W H) y))
+    → ((y : Tree) → head_step m (App A y) ≡ Some (App (part_of sub_abs_symbol C F W H) y))
+    → ((y : Tree) → head_step m (App R y) ≡ Some (App (part_of sub_rep_symbol C F W H) y))
     → symbol_type m (length signature) ≡ Some sym_lemma.ty
-    → IsLaw m G (applied (Sym (length signature)) (bools ∷ eq_of C (App R (App A x)) x ∷ App F x ∷ App (part_of sub_rep_abs_symbol C F W H) x ∷ [])) (proof_of (eq_of bools (App F x) (eq_of C (App R (App A x)) x)))
+    → IsLaw m G (applied (Sym (length signature)) (bools ∷ eq_of C (App R (App A x)) x ∷ App F x ∷ App (part_of sub_rep_abs_symbol C F W H) x ∷ []))
+    (proof_of (eq_of bools (App F x) (eq_of C (App R (App A x)) x)))
 second_law_free-shaped m {G = G} N C F W H A R x p hx hA hR stepA stepR lemma =
     let l = eq_of C (App R (App A x)) x in
     let r = App F x in
     let hl : IsTerm m G l bools = shaped-equation m p.ty (of_function hR (of_function hA hx)) hx in
     let hr : IsTerm m G r bools = of_function p.predicate hx in
     let h = App (part_of sub_rep_abs_symbol C F W H) x in
-    let c = shaped-call m G (types ∷ term_of (Var 0) ∷ term_of (Var 1) ∷ []) (bools ∷ l ∷ r ∷ []) (length signature) (Pi (proof_of (eq_of (Var 2) (Var 1) (Var 0))) (proof_of (eq_of (Var 3) (Var 1) (Var 2)))) lemma tt refl
+    let c = shaped-call m G (types ∷ term_of (Var 0) ∷ term_of (Var 1) ∷ []) (bools ∷ l ∷ r ∷ []) (length signature)
+    (Pi (proof_of (eq_of (Var 2) (Var 1) (Var 0))) (proof_of (eq_of (Var 3) (Var 1) (Var 2)))) lemma tt refl
     (a_type (constant refl tt), (a_term hl, (a_term hr, tt {0}))) in
     at_close_equation (simp lift_zero at c) hl hr (omega arith) (omega arith) (second-last m C F W H p x hx)
     (close_application refl refl close_same

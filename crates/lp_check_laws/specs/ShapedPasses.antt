@@ -29,7 +29,8 @@ square (suc n) = omega arith
 
 -- the sum of what the type and the body cost
 whole' : (x s y z : ℕ)
-    → 7 * ((x + s + (y + z)) + (x + s + (y + z))) * x + (7 * ((x + s + (y + z)) + (x + s + (y + z))) + 40) * (y + z) + 3 * x ≤ 64 * ((x + s + (y + z)) * (x + s + (y + z)))
+    → 7 * ((x + s + (y + z)) + (x + s + (y + z))) * x + (7 * ((x + s + (y + z)) + (x + s + (y + z))) + 40) * (y + z) + 3 * x ≤ 64 *
+    ((x + s + (y + z)) * (x + s + (y + z)))
 whole' x s y z = omega (arith, square (x + s + (y + z)))
 
 -- what the type costs alone
@@ -69,7 +70,8 @@ module _ (m : List Declaration) (closed : IsClosed m) where
     pub within : price ≤ most
 
   -- a body whose type is found near the declared type passes
-  passes-body : {A t F : Tree} {j k : ℕ} → Finds m (Infer [] A) SortType j → Finds m (Infer [] t) F k → Near m A F → Passes (Ask (Infer [] A) (λ s. if_type s (body_plan A (Some t)))) A (j + k + 3 * size A)
+  passes-body : {A t F : Tree} {j k : ℕ} → Finds m (Infer [] A) SortType j → Finds m (Infer [] t) F k → Near m A F
+      → Passes (Ask (Infer [] A) (λ s. if_type s (body_plan A (Some t)))) A (j + k + 3 * size A)
   passes-body ha ht near =
       let c = convert-near m closed near in
       record { price = _; ends = asked ha.ends (asked ht.ends (asked c.ends said)); within = omega (arith, ha.within, ht.within, c.within) }
@@ -77,20 +79,24 @@ module _ (m : List Declaration) (closed : IsClosed m) where
   -- the same, as a bound by the weight
   module _ (w : ℕ) (A : Tree) where
     by-weight : (t : Tree) → suc w ≡ (size A + spreads m [] A + (size t + spreads m [] t)) + (size A + spreads m [] A + (size t + spreads m [] t))
-        → 7 * suc w * size A + cost w * (size t + spreads m [] t) + 3 * size A ≤ 64 * ((size A + spreads m [] A + (size t + spreads m [] t)) * (size A + spreads m [] A + (size t + spreads m [] t)))
+        → 7 * suc w * size A + cost w * (size t + spreads m [] t) + 3 * size A ≤ 64 *
+        ((size A + spreads m [] A + (size t + spreads m [] t)) * (size A + spreads m [] A + (size t + spreads m [] t)))
     by-weight t e =
-        subst (λ n. 7 * n * size A + (7 * n + 40) * (size t + spreads m [] t) + 3 * size A ≤ 64 * ((size A + spreads m [] A + (size t + spreads m [] t)) * (size A + spreads m [] A + (size t + spreads m [] t)))) (sym e)
+        subst (λ n. 7 * n * size A + (7 * n + 40) * (size t + spreads m [] t) + 3 * size A ≤ 64 *
+        ((size A + spreads m [] A + (size t + spreads m [] t)) * (size A + spreads m [] A + (size t + spreads m [] t)))) (sym e)
         (whole' (size A) (spreads m [] A) (size t) (spreads m [] t))
 
   -- the plan of a shaped declaration
   passes : (f : Form) (A : Tree) (body : Option Tree) → IsDeclared m [] A → IsBodyShaped m f body A
-      → Passes (Ask (Infer [] A) (λ s. if_type s (body_plan A body))) A (64 * ((tree_weight m A + option_map_or (tree_weight m) body 0) * (tree_weight m A + option_map_or (tree_weight m) body 0)))
+      → Passes (Ask (Infer [] A) (λ s. if_type s (body_plan A body))) A
+      (64 * ((tree_weight m A + option_map_or (tree_weight m) body 0) * (tree_weight m A + option_map_or (tree_weight m) body 0)))
   passes Symbol A None ha h =
       let wt = tree_weight m A in
       let w = wt + wt - 1 in
       let is : suc w ≡ wt + wt = omega (arith, size-positive A) in
       let p = find-declared m closed w wt ha (no-entries wt) (omega arith) (omega (arith, is)) in
-      let bound : 7 * suc w * size A ≤ 64 * ((wt + 0) * (wt + 0)) = subst (λ n. 7 * n * size A ≤ 64 * ((wt + 0) * (wt + 0))) (sym is) (alone (size A) (spreads m [] A)) in
+      let bound : 7 * suc w * size A ≤ 64 * ((wt + 0) * (wt + 0)) =
+      subst (λ n. 7 * n * size A ≤ 64 * ((wt + 0) * (wt + 0))) (sym is) (alone (size A) (spreads m [] A)) in
       record { price = _; ends = asked p.ends said; within = omega (arith, p.within, bound) }
   passes Symbol A (Some t) ha h = absurd (cc)
   passes Def A None ha h = absurd h
@@ -100,7 +106,12 @@ module _ (m : List Declaration) (closed : IsClosed m) where
       let is : suc w ≡ wt + wt = omega (arith, size-positive A) in
       let p = find-declared m closed w wt ha (no-entries wt) (omega arith) (omega (arith, is)) in
       let k = find-call-definition m closed w wt h.0 (no-entries wt) (omega arith) (omega (arith, is)) in
-      record { price = _; ends = asked p.ends (asked k.finds.ends (asked k.converts.ends said)); within = omega (arith, p.within, k.finds.within, k.converts.within, k.paid, in-all m closed w A t is (omega (arith, h.1))) }
+      record {
+        price = _;
+        ends = asked p.ends (asked k.finds.ends (asked k.converts.ends said));
+        within =
+            omega (arith, p.within, k.finds.within, k.converts.within, k.paid, in-all m closed w A t is (omega (arith, h.1)));
+      }
   passes Def A (Some t) ha (inl h) =
       let wt = tree_weight m A + tree_weight m t in
       let w = wt + wt - 1 in
@@ -117,7 +128,12 @@ module _ (m : List Declaration) (closed : IsClosed m) where
       let p = find-declared m closed w wt ha (no-entries wt) (omega arith) (omega (arith, is)) in
       let k = find-law m closed w wt h.law (no-entries wt) (omega arith) (omega (arith, is)) in
       let c = convert-close m closed h.close in
-      record { price = _; ends = asked p.ends (asked k.finds.ends (asked c.finds.ends said)); within = omega (arith, p.within, k.finds.within, c.finds.within, k.paid, c.within, in-all m closed w A t is (omega (arith, law-size m closed h.law))) }
+      record {
+        price = _;
+        ends = asked p.ends (asked k.finds.ends (asked c.finds.ends said));
+        within =
+            omega (arith, p.within, k.finds.within, c.finds.within, k.paid, c.within, in-all m closed w A t is (omega (arith, law-size m closed h.law)));
+      }
   passes Thm A (Some t) ha (inl h) =
       let wt = tree_weight m A + tree_weight m t in
       let w = wt + wt - 1 in

@@ -12,11 +12,13 @@ module _ (m : List Declaration) where
   -- extensionality at two abstractions
   pub shaped-fun_ext : {G : List Tree} {a b t u h : Tree} → IsSimple m G a → IsSimple m G b → IsTerm m (term_of a ∷ G) t (lift 1 b)
       → IsTerm m (term_of a ∷ G) u (lift 1 b) → IsProof m false (term_of a ∷ G) h (proof_of (eq_of (lift 1 b) t u))
-      → IsProof m false G (applied (Sym fun_ext_symbol) (a ∷ b ∷ Lam (term_of a) t ∷ Lam (term_of a) u ∷ Lam (term_of a) h ∷ [])) (proof_of (eq_of (arr_of a b) (Lam (term_of a) t) (Lam (term_of a) u)))
+      → IsProof m false G (applied (Sym fun_ext_symbol) (a ∷ b ∷ Lam (term_of a) t ∷ Lam (term_of a) u ∷ Lam (term_of a) h ∷ []))
+      (proof_of (eq_of (arr_of a b) (Lam (term_of a) t) (Lam (term_of a) u)))
   shaped-fun_ext {G = G} {a = a} {b = b} {t = t} {u = u} {h = h} ha hb ht hu hh =
       let f = Lam (term_of a) t in
       let g = Lam (term_of a) u in
-      let c = shaped-call m G two_functions (a ∷ b ∷ f ∷ g ∷ []) fun_ext_symbol (Pi pointwise_equal (proof_of (eq_of (arr_of (Var 4) (Var 3)) (Var 2) (Var 1)))) refl tt refl
+      let c = shaped-call m G two_functions (a ∷ b ∷ f ∷ g ∷ []) fun_ext_symbol (Pi pointwise_equal (proof_of (eq_of (arr_of (Var 4) (Var 3)) (Var 2) (Var 1))))
+      refl tt refl
       (a_type ha, (a_type hb, (a_term (simp lift_zero (of_binder ha hb ht)), (a_term (simp lift_zero (of_binder ha hb hu)), tt {0})))) in
       called (at_abstractions (simp lift_zero at c) ha hb ht hu hh (simp put-lift refl))
 

@@ -44,7 +44,8 @@ moved (inside {r = r} w) (suc n) A e =
     record {
       by = h.by;
       at = h.at;
-      is = sym (suc_lift (suc (r n)) (ren h.by A)) ∙ ap (ren suc) h.is ∙ ren_ren suc r (lift (suc n) A) ∙ sym (ren_ren (up r) suc (lift (suc n) A)) ∙ ap (ren (up r)) (suc_lift (suc n) A);
+      is = sym (suc_lift (suc (r n)) (ren h.by A)) ∙ ap (ren suc) h.is ∙ ren_ren suc r (lift (suc n) A) ∙ sym (ren_ren (up r) suc (lift (suc n) A))
+          ∙ ap (ren (up r)) (suc_lift (suc n) A);
     }
 
 module _ (m : List Declaration) (closed : IsClosed m) where
@@ -68,7 +69,8 @@ module _ (m : List Declaration) (closed : IsClosed m) where
   sized-ren {r = r} v (by_function {a = a} {b = b} le ha hb f x) =
       by_function (omega (arith, le, size-ren r a, size-ren r b)) (constant-ren v ha) (constant-ren v hb) (sized-ren v f) (sized-ren v x)
   sized-ren {w = w} {r = r} {D = D} v (by_binder {t = t} {a = a} {b = b} ha hb h) =
-      by_binder (constant-ren v ha) (constant-ren v hb) (subst (IsSized m w (term_of (ren r a) ∷ D) (ren (up r) t)) (ren-lift r b) (sized-ren {r = up r} (inside v) h))
+      by_binder (constant-ren v ha) (constant-ren v hb)
+      (subst (IsSized m w (term_of (ren r a) ∷ D) (ren (up r) t)) (ren-lift r b) (sized-ren {r = up r} (inside v) h))
 
   -- a term as a part of an entry more
   pub sized-weaken : {w : ℕ} {G : List Tree} {C t a : Tree} → IsSized m w G t a → IsSized m w (C ∷ G) (lift 1 t) (lift 1 a)
@@ -82,7 +84,8 @@ module _ (m : List Declaration) (closed : IsClosed m) where
       let sf = term-spreads m (x ∷ []) f in
       let ts = type-size m f g (omega (arith, le)) in
       let parts = arrow-parts m (term-simple m f) in
-      by_function (omega (arith, ts, less, sf)) parts.0 parts.1 (sized w e f g (omega (arith, le)) (omega (arith, less, sf))) (sized w e h g (omega (arith, le)) (omega (arith, less, sf)))
+      by_function (omega (arith, ts, less, sf)) parts.0 parts.1 (sized w e f g (omega (arith, le)) (omega (arith, less, sf)))
+      (sized w e h g (omega (arith, le)) (omega (arith, less, sf)))
   sized w e (of_binder {a = a} ha hb t) g le less =
       by_binder ha hb (sized w e t (small-entry m {A = term_of a} (omega (arith, le)) g) (omega (arith, le)) (omega (arith, less)))
 
@@ -93,7 +96,8 @@ module _ (m : List Declaration) (closed : IsClosed m) where
     unfolded = folded;
     finds = record {
       steps = 0;
-      ends = subst (λ o. Ends m true (found_if (option_map (lift (suc n)) o)) (Found (term_of a)) 0) (sym at) (subst (λ x. Ends m true (Say (Found (term_of x))) (Found (term_of a)) 0) (sym q) said);
+      ends = subst (λ o. Ends m true (found_if (option_map (lift (suc n)) o)) (Found (term_of a)) 0) (sym at)
+          (subst (λ x. Ends m true (Say (Found (term_of x))) (Found (term_of a)) 0) (sym q) said);
       within = omega arith;
     };
   }
@@ -108,5 +112,10 @@ module _ (m : List Declaration) (closed : IsClosed m) where
       record {
         found = _;
         unfolded = arrow q.unfolded;
-        finds = record { steps = _; ends = asked p.ends (asked q.finds.ends (unless-kind m closed q.unfolded said)); within = omega (arith, p.within, q.finds.within) };
+        finds = record {
+          steps = _;
+          ends = asked p.ends (asked q.finds.ends (unless-kind m closed q.unfolded said));
+          within =
+              omega (arith, p.within, q.finds.within);
+        };
       }

@@ -30,7 +30,8 @@ spread_after-put : (x : Tree) (before args : List Tree) (t : Tree) → Solid t
     → spread_after (x ∷ before) args t ≡ spread_after before args (put_at (length before) x t)
 spread_after-put x before (u ∷ us) (Pi a b) h =
     let e : length (before ++ u ∷ []) ≡ suc (length before) = length-append before (u ∷ []) ∙ omega arith in
-    ap₂ (λ n k. n + k) (ap size (put_all-cons x before a)) (spread_after-put x (before ++ u ∷ []) us b h ∙ ap (λ n. spread_after (before ++ u ∷ []) us (put_at n x b)) e)
+    ap₂ (λ n k. n + k) (ap size (put_all-cons x before a))
+    (spread_after-put x (before ++ u ∷ []) us b h ∙ ap (λ n. spread_after (before ++ u ∷ []) us (put_at n x b)) e)
 spread_after-put x before [] t h = ap size (put_all-cons x before t)
 spread_after-put x before (u ∷ us) (Var n) h = absurd h
 spread_after-put x before (u ∷ us) SortType h = refl
@@ -70,7 +71,8 @@ module _ (m : List Declaration) where
       lone : (args : List Tree) → spread args types ≤ 0 + 1
       lone [] = omega arith
       lone (u ∷ us) = omega arith
-  constant-weight args (constant {s = s} {A = A} e k) = let w : symbol_spread m s args ≡ spread args A = ap (λ o. option_map_or (spread args) o 0) e in omega (arith, w)
+  constant-weight args (constant {s = s} {A = A} e k) = let w : symbol_spread m s args ≡ spread args A =
+      ap (λ o. option_map_or (spread args) o 0) e in omega (arith, w)
   constant-weight args (at_type {a = a} hf ha e) = omega (arith, constant-weight (a ∷ args) hf, spread-type a args hf e)
 
   -- further arguments spread a constant as they spread what remains of its type
@@ -117,7 +119,8 @@ module _ (m : List Declaration) where
       let k = ap size (put_all-nil a) in
       omega (arith, w, k, size-positive t)
   type-size (of_function {x = x} f h) g le = omega (arith, type-size f g (omega (arith, le)), term-spreads (x ∷ []) f)
-  type-size (of_binder {a = a} {b = b} ha hb t) g le = omega (arith, type-size t (small-entry {A = term_of a} (omega (arith, le)) g) (omega (arith, le)), size-lift 1 b)
+  type-size (of_binder {a = a} {b = b} ha hb t) g le =
+      omega (arith, type-size t (small-entry {A = term_of a} (omega (arith, le)) g) (omega (arith, le)), size-lift 1 b)
 
 module _ (m : List Declaration) (closed : IsClosed m) where
   -- a type was found for the term, with arrows unfolded down to some depth, for at most so many steps

@@ -29,7 +29,8 @@ use Rattle.lp_conv.specs.GrowthLaws.{Grows-refl, Grows-trans, IsHeld-Grows, decl
 same-tree : (ts : List Tree) (e f : LpId) → true ≡ nat_eq e.0 f.0 → tree_eq (tree_at ts e.0) (tree_at ts f.0) ≡ true
 same-tree ts e f h = subst (λ t. tree_eq (tree_at ts e.0) t ≡ true) (ap (tree_at ts) (eqb-true e.0 f.0 (sym h))) (tree_eq-refl (tree_at ts e.0))
 
-other-tree : (ts : List Tree) (e f : LpId) → IsDistinct ts → e.0 < length ts → f.0 < length ts → false ≡ nat_eq e.0 f.0 → tree_eq (tree_at ts e.0) (tree_at ts f.0) ≡ false
+other-tree : (ts : List Tree) (e f : LpId) → IsDistinct ts → e.0 < length ts → f.0 < length ts → false ≡ nat_eq e.0 f.0
+    → tree_eq (tree_at ts e.0) (tree_at ts f.0) ≡ false
 other-tree ts e f d he hf h = go (tree_eq (tree_at ts e.0) (tree_at ts f.0)) refl
   where
     go : (b : Bool) → tree_eq (tree_at ts e.0) (tree_at ts f.0) ≡ b → b ≡ false
@@ -47,23 +48,27 @@ module _ (ds : List Declaration) (E F : Tree) where
   other-plan o u e h k = ap₂ (convert_by E F) (sym h) (sym k) ∙ ap (λ b. if b then Say (Found E) else convert_by E F (head_step ds E) (head_step ds F)) (sym e)
 
 -- a turn of one tree with itself
-pub turn-same : (ds : List Declaration) (ts : List Tree) (e f : LpId) → true ≡ nat_eq e.0 f.0 → Say (Found (tree_at ts e.0)) ≡ convert ds (tree_at ts e.0) (tree_at ts f.0)
+pub turn-same : (ds : List Declaration) (ts : List Tree) (e f : LpId) → true ≡ nat_eq e.0 f.0 → Say (Found (tree_at ts e.0))
+    ≡ convert ds (tree_at ts e.0) (tree_at ts f.0)
 turn-same ds ts e f h = equal-plan ds (tree_at ts e.0) (tree_at ts f.0) (same-tree ts e f h)
 
 -- a turn with a head step on the left
-pub turn-left : (ds : List Declaration) (ts us : List Tree) (e f g : LpId) → IsDistinct ts → e.0 < length ts → f.0 < length ts → false ≡ nat_eq e.0 f.0 → Stays ts us → Some (tree_at us g.0) ≡ head_step ds (tree_at ts e.0)
+pub turn-left : (ds : List Declaration) (ts us : List Tree) (e f g : LpId) → IsDistinct ts → e.0 < length ts → f.0 < length ts → false ≡ nat_eq e.0 f.0
+    → Stays ts us → Some (tree_at us g.0) ≡ head_step ds (tree_at ts e.0)
     → Ask (Convert (tree_at us g.0) (tree_at us f.0)) (λ _. Say (Found (tree_at ts e.0))) ≡ convert ds (tree_at ts e.0) (tree_at ts f.0)
 turn-left ds ts us e f g d he hf h s is =
     ap (λ t. Ask (Convert (tree_at us g.0) t) (λ _. Say (Found (tree_at ts e.0)))) (sym (tree_at-Stays s f.0 hf))
     ∙ other-plan ds (tree_at ts e.0) (tree_at ts f.0) (Some (tree_at us g.0)) (head_step ds (tree_at ts f.0)) (other-tree ts e f d he hf h) (sym is) refl
 
 -- a turn with a head step on the right
-pub turn-right : (ds as' : List Declaration) (ts us ws : List Tree) (e f g : LpId) → IsDistinct ts → e.0 < length ts → f.0 < length ts → false ≡ nat_eq e.0 f.0 → Stays ts us → Stays us ws → None ≡ head_step ds (tree_at ts e.0) → as' ≡ ds → Some (tree_at ws g.0) ≡ head_step as' (tree_at us f.0)
+pub turn-right : (ds as' : List Declaration) (ts us ws : List Tree) (e f g : LpId) → IsDistinct ts → e.0 < length ts → f.0 < length ts → false ≡ nat_eq e.0 f.0
+    → Stays ts us → Stays us ws → None ≡ head_step ds (tree_at ts e.0) → as' ≡ ds → Some (tree_at ws g.0) ≡ head_step as' (tree_at us f.0)
     → Ask (Convert (tree_at ws e.0) (tree_at ws g.0)) (λ _. Say (Found (tree_at ts e.0))) ≡ convert ds (tree_at ts e.0) (tree_at ts f.0)
 turn-right ds as' ts us ws e f g d he hf h s t none same is =
     let stays : Stays ts ws = record { each = λ i u a. t.each i u (s.each i u a) } in
     ap (λ u. Ask (Convert u (tree_at ws g.0)) (λ _. Say (Found (tree_at ts e.0)))) (sym (tree_at-Stays stays e.0 he))
-    ∙ other-plan ds (tree_at ts e.0) (tree_at ts f.0) None (Some (tree_at ws g.0)) (other-tree ts e f d he hf h) (sym none) (ap (head_step ds) (tree_at-Stays s f.0 hf) ∙ ap (λ d. head_step d (tree_at us f.0)) (sym same) ∙ sym is)
+    ∙ other-plan ds (tree_at ts e.0) (tree_at ts f.0) None (Some (tree_at ws g.0)) (other-tree ts e f d he hf h) (sym none)
+    (ap (head_step ds) (tree_at-Stays s f.0 hf) ∙ ap (λ d. head_step d (tree_at us f.0)) (sym same) ∙ sym is)
 
 parts-plan : (ts : List Tree) (n k : LpNode) → plan_of ts (tree_of_node ts n) (parts_of n k) ≡ convert_parts (tree_of_node ts n) (tree_of_node ts k)
 parts-plan ts (node.App g x) (node.App h y) = refl
@@ -72,14 +77,17 @@ parts-plan ts (node.Pi g x) (node.Pi h y) = refl
 parts-plan ts _ _ = refl
 
 -- a turn of the parts
-pub turn-parts : (ds as' : List Declaration) (ts us ws : List Tree) (e f : LpId) (n k : LpNode) (l : Left) → IsDistinct ts → e.0 < length ts → f.0 < length ts → false ≡ nat_eq e.0 f.0 → Stays ts us → Stays us ws → None ≡ head_step ds (tree_at ts e.0) → as' ≡ ds → None ≡ head_step as' (tree_at us f.0)
-    → Holds ws e.0 (tree_of_node ws n) → Holds ws f.0 (tree_of_node ws k) → l ≡ parts_of n k → plan_of ws (tree_at ts e.0) l ≡ convert ds (tree_at ts e.0) (tree_at ts f.0)
+pub turn-parts : (ds as' : List Declaration) (ts us ws : List Tree) (e f : LpId) (n k : LpNode) (l : Left) → IsDistinct ts → e.0 < length ts → f.0 < length ts
+    → false ≡ nat_eq e.0 f.0 → Stays ts us → Stays us ws → None ≡ head_step ds (tree_at ts e.0) → as' ≡ ds → None ≡ head_step as' (tree_at us f.0)
+    → Holds ws e.0 (tree_of_node ws n) → Holds ws f.0 (tree_of_node ws k) → l ≡ parts_of n k → plan_of ws (tree_at ts e.0) l
+    ≡ convert ds (tree_at ts e.0) (tree_at ts f.0)
 turn-parts ds as' ts us ws e f n k l d he hf h s t none same nil at to is =
     let stays : Stays ts ws = record { each = λ i u a. t.each i u (s.each i u a) } in
     let E = tree_at-Stays stays e.0 he ∙ Holds-tree_at ws e.0 _ at in
     let F = tree_at-Stays stays f.0 hf ∙ Holds-tree_at ws f.0 _ to in
     ap₂ (plan_of ws) E is ∙ parts-plan ws n k ∙ ap₂ convert_parts (sym E) (sym F)
-    ∙ other-plan ds (tree_at ts e.0) (tree_at ts f.0) None None (other-tree ts e f d he hf h) (sym none) (ap (head_step ds) (tree_at-Stays s f.0 hf) ∙ ap (λ d. head_step d (tree_at us f.0)) (sym same) ∙ sym nil)
+    ∙ other-plan ds (tree_at ts e.0) (tree_at ts f.0) None None (other-tree ts e f d he hf h) (sym none)
+    (ap (head_step ds) (tree_at-Stays s f.0 hf) ∙ ap (λ d. head_step d (tree_at us f.0)) (sym same) ∙ sym nil)
 
 -- what is pending of pairs
 abbrev pub pend : List Tree → Tree → List (LpId × LpId) → Plan
@@ -112,9 +120,11 @@ pub record IsConvert (from : Module) (e f : LpId) (all : ℕ) (m : Module) (here
   pub declared : declarations_of m ≡ declarations_of from
   pub known : ArePairs m.table ps
   pub less : here ≤ all
-  pub left : Leaves (declarations_of from) true (converting (tree_at from.table e.0) (tree_at from.table f.0)) (all - here) (pend m.table (tree_at from.table e.0) ps)
+  pub left : Leaves (declarations_of from) true (converting (tree_at from.table e.0) (tree_at from.table f.0)) (all - here)
+      (pend m.table (tree_at from.table e.0) ps)
 
-pub start-convert : (m : Module) (e f : LpId) (all : ℕ) (ps : List (LpId × LpId)) → IsHeld m → e.0 < length m.table → f.0 < length m.table → ps ≡ (e, f) ∷ [] → IsConvert m e f all m all ps
+pub start-convert : (m : Module) (e f : LpId) (all : ℕ) (ps : List (LpId × LpId)) → IsHeld m → e.0 < length m.table → f.0 < length m.table → ps ≡ (e, f) ∷ []
+    → IsConvert m e f all m all ps
 start-convert m e f all ps held he hf q =
     subst (IsConvert m e f all m all) (sym q)
     (record {
@@ -123,11 +133,13 @@ start-convert m e f all ps held he hf q =
       declared = refl;
       known = (he, hf, tt);
       less = omega arith;
-      left = let z : all - all ≤ 0 = omega arith in leaves_fewer (declarations_of m) true z (leaves_all (declarations_of m) true (converting (tree_at m.table e.0) (tree_at m.table f.0)));
+      left = let z : all - all ≤ 0 = omega arith in leaves_fewer (declarations_of m) true z
+          (leaves_all (declarations_of m) true (converting (tree_at m.table e.0) (tree_at m.table f.0)));
     })
 
 -- a turn of the pair on top
-module _ (from : Module) (e f : LpId) (all : ℕ) (m k : Module) (here there : ℕ) (a b : LpId) (ps rest : List (LpId × LpId)) (l : Left) (s : IsConvert from e f all m here ps) (q : ps ≡ (a, b) ∷ rest) (g : Grows m k)
+module _ (from : Module) (e f : LpId) (all : ℕ) (m k : Module) (here there : ℕ) (a b : LpId) (ps rest : List (LpId × LpId)) (l : Left)
+    (s : IsConvert from e f all m here ps) (q : ps ≡ (a, b) ∷ rest) (g : Grows m k)
     (is : plan_of k.table (tree_at m.table a.0) l ≡ convert (declarations_of m) (tree_at m.table a.0) (tree_at m.table b.0)) (ticked : there + 1 ≡ here) where
   abbrev pub E : Tree
   E = tree_at from.table e.0
@@ -136,18 +148,24 @@ module _ (from : Module) (e f : LpId) (all : ℕ) (m k : Module) (here there : �
   top = subst (IsConvert from e f all m here) q s
 
   -- what the turn leaves
-  turned : (t : Plan) → and_then (plan_of k.table (tree_at m.table a.0) l) (λ _. pend m.table E rest) ≡ t → Leaves (declarations_of from) true (converting E (tree_at from.table f.0)) (all - there) t
+  turned : (t : Plan) → and_then (plan_of k.table (tree_at m.table a.0) l) (λ _. pend m.table E rest) ≡ t
+      → Leaves (declarations_of from) true (converting E (tree_at from.table f.0)) (all - there) t
   turned t w =
       let ds = declarations_of from in
       let le : all - there ≤ all - here + (1 + 0) = omega (arith, ticked, s.less) in
       let plan = subst (λ ds. plan_of k.table (tree_at m.table a.0) l ≡ convert ds (tree_at m.table a.0) (tree_at m.table b.0)) s.declared is in
       leaves_fewer ds true le (leaves_then ds true top.left
-      (leaves_then ds true (leaves_ask ds true (Convert (tree_at m.table a.0) (tree_at m.table b.0)) (λ _. pend m.table E rest)) (leaves_equal ds true (ap (λ p. and_then p (λ _. pend m.table E rest)) (sym plan) ∙ w))))
+      (leaves_then ds true (leaves_ask ds true (Convert (tree_at m.table a.0) (tree_at m.table b.0)) (λ _. pend m.table E rest))
+      (leaves_equal ds true (ap (λ p. and_then p (λ _. pend m.table E rest)) (sym plan) ∙ w))))
 
-  leaves-pairs : (l : Left) → (l ≡ left.Differs → ⊥) → and_then (plan_of k.table (tree_at m.table a.0) l) (λ _. pend m.table E rest) ≡ pend k.table E (pushed l rest)
+  leaves-pairs : (l : Left) → (l ≡ left.Differs → ⊥) → and_then (plan_of k.table (tree_at m.table a.0) l) (λ _. pend m.table E rest)
+      ≡ pend k.table E (pushed l rest)
   leaves-pairs left.Nothing n = sym (pend-stays g.keeps.stays E rest top.known.2)
-  leaves-pairs (left.One x y) n = ap (λ p. Ask (Convert (tree_at k.table x.0) (tree_at k.table y.0)) (λ _. p)) (sym (pend-stays g.keeps.stays E rest top.known.2))
-  leaves-pairs (left.Two x y z w) n = ap (λ p. Ask (Convert (tree_at k.table x.0) (tree_at k.table y.0)) (λ _. Ask (Convert (tree_at k.table z.0) (tree_at k.table w.0)) (λ _. p))) (sym (pend-stays g.keeps.stays E rest top.known.2))
+  leaves-pairs (left.One x y) n = ap (λ p. Ask (Convert (tree_at k.table x.0) (tree_at k.table y.0)) (λ _. p))
+      (sym (pend-stays g.keeps.stays E rest top.known.2))
+  leaves-pairs (left.Two x y z w) n = ap
+      (λ p. Ask (Convert (tree_at k.table x.0) (tree_at k.table y.0)) (λ _. Ask (Convert (tree_at k.table z.0) (tree_at k.table w.0)) (λ _. p)))
+      (sym (pend-stays g.keeps.stays E rest top.known.2))
   leaves-pairs left.Differs n = absurd (n refl)
 
   known-pairs : (l : Left) → IsKnownLeft k.table l → ArePairs k.table (pushed l rest)
@@ -157,7 +175,8 @@ module _ (from : Module) (e f : LpId) (all : ℕ) (m k : Module) (here there : �
   known-pairs left.Differs h = pairs-more g.keeps rest top.known.2
 
   -- the loop goes on with what the turn leaves
-  pub next-convert : (r : Left) (new : List (LpId × LpId)) → IsKnownLeft k.table l → l ≡ r → (r ≡ left.Differs → ⊥) → new ≡ pushed r rest → IsConvert from e f all k there new
+  pub next-convert : (r : Left) (new : List (LpId × LpId)) → IsKnownLeft k.table l → l ≡ r → (r ≡ left.Differs → ⊥) → new ≡ pushed r rest
+      → IsConvert from e f all k there new
   next-convert r new h lr n ew =
       let w : pushed l rest ≡ new = ap (λ v. pushed v rest) lr ∙ sym ew in
       record {
@@ -178,7 +197,8 @@ module _ (from : Module) (e f : LpId) (all : ℕ) (m k : Module) (here there : �
 
 module _ (from : Module) (e f : LpId) (all : ℕ) (m : Module) (here : ℕ) where
   -- it ends where the budget is spent
-  pub spent-end : (p : LpId × LpId) (ps rest : List (LpId × LpId)) → IsConvert from e f all m here ps → ps ≡ p ∷ rest → here ≡ 0 → IsAnswered from e f all here answer.Over
+  pub spent-end : (p : LpId × LpId) (ps rest : List (LpId × LpId)) → IsConvert from e f all m here ps → ps ≡ p ∷ rest → here ≡ 0
+      → IsAnswered from e f all here answer.Over
   spent-end p ps rest s q z =
       let top = subst (IsConvert from e f all m here) q s in
       over_leaves (declarations_of from) true top.left (omega (arith, s.less, z)) (λ reply n h. positive h)
@@ -196,4 +216,5 @@ module _ (from : Module) (e f : LpId) (all : ℕ) (m : Module) (here : ℕ) wher
 
   -- and the trees are convertible
   pub done-sound : (ps : List (LpId × LpId)) → IsConvert from e f all m here ps → ps ≡ [] → AreConvertible from e f
-  done-sound ps s q = let d = done-end ps s q in converting-Conv (declarations_of from) true (tree_at from.table e.0) (tree_at from.table f.0) (tree_at from.table e.0) d.price d.ends
+  done-sound ps s q = let d = done-end ps s q in converting-Conv (declarations_of from) true (tree_at from.table e.0) (tree_at from.table f.0)
+      (tree_at from.table e.0) d.price d.ends

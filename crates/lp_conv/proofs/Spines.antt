@@ -29,7 +29,8 @@ pub record IsSpine (from : Module) (id : LpId) (m : Module) (head : LpId) (args 
   pub listed : AreKnown from.table args
   pub is : spine_step (declarations_of from) (tree_at from.table head.0) (trees_at from.table args) ≡ head_step (declarations_of from) (tree_at from.table id.0)
 
-pub spine-more : (from m : Module) (id head f x : LpId) (args new : List LpId) → IsSpine from id m head args → Holds m.table head.0 (App (tree_at m.table f.0) (tree_at m.table x.0)) → f.0 < head.0 → x.0 < head.0 → new ≡ x ∷ args → IsSpine from id m f new
+pub spine-more : (from m : Module) (id head f x : LpId) (args new : List LpId) → IsSpine from id m head args
+    → Holds m.table head.0 (App (tree_at m.table f.0) (tree_at m.table x.0)) → f.0 < head.0 → x.0 < head.0 → new ≡ x ∷ args → IsSpine from id m f new
 spine-more from m id head f x args new s h lf lx e =
     let at = subst (λ (k : Module). Holds k.table head.0 (App (tree_at k.table f.0) (tree_at k.table x.0))) s.same h in
     subst (IsSpine from id m f) (sym e) (record {
@@ -47,7 +48,8 @@ pub record IsApplied (from : Module) (f : LpId) (all : List LpId) (m : Module) (
   pub listed : AreKnown m.table rest
   pub is : applied (tree_at m.table made.0) (trees_at m.table rest) ≡ applied (tree_at from.table f.0) (trees_at from.table all)
 
-pub applied-more : (from m k : Module) (f made next x : LpId) (all rest new : List LpId) → IsApplied from f all m made rest → rest ≡ x ∷ new → Grows m k → next.0 < length k.table → Holds k.table next.0 (App (tree_at m.table made.0) (tree_at m.table x.0))
+pub applied-more : (from m k : Module) (f made next x : LpId) (all rest new : List LpId) → IsApplied from f all m made rest → rest ≡ x ∷ new → Grows m k
+    → next.0 < length k.table → Holds k.table next.0 (App (tree_at m.table made.0) (tree_at m.table x.0))
     → IsApplied from f all k next new
 applied-more from m k f made next x all rest new s e g known h =
     let parts = subst (AreKnown m.table) e s.listed in
@@ -56,14 +58,18 @@ applied-more from m k f made next x all rest new s e g known h =
       held = IsHeld-Grows m k g s.held;
       known = known;
       listed = AreKnown-Keeps g.keeps new parts.1;
-      is = ap₂ applied (Holds-tree_at k.table next.0 _ h) (trees_at-Stays g.keeps.stays new parts.1) ∙ ap (λ l. applied (tree_at m.table made.0) (trees_at m.table l)) (sym e) ∙ s.is;
+      is = ap₂ applied (Holds-tree_at k.table next.0 _ h) (trees_at-Stays g.keeps.stays new parts.1)
+          ∙ ap (λ l. applied (tree_at m.table made.0) (trees_at m.table l)) (sym e) ∙ s.is;
     }
 
 -- what beta makes, where what follows it is in a table that has grown
-pub beta-applied : (from m k : Module) (body x made whole : LpId) (all rest : List LpId) → Grows from m → all ≡ x ∷ rest → AreKnown from.table rest → Holds m.table made.0 (put (tree_at from.table x.0) (tree_at from.table body.0))
-    → tree_at k.table whole.0 ≡ applied (tree_at m.table made.0) (trees_at m.table rest) → Some (tree_at k.table whole.0) ≡ beta_of (tree_at from.table body.0) (trees_at from.table all)
+pub beta-applied : (from m k : Module) (body x made whole : LpId) (all rest : List LpId) → Grows from m → all ≡ x ∷ rest → AreKnown from.table rest
+    → Holds m.table made.0 (put (tree_at from.table x.0) (tree_at from.table body.0))
+    → tree_at k.table whole.0 ≡ applied (tree_at m.table made.0) (trees_at m.table rest) → Some (tree_at k.table whole.0)
+    ≡ beta_of (tree_at from.table body.0) (trees_at from.table all)
 beta-applied from m k body x made whole all rest g e known h is =
-    ap Some (is ∙ ap₂ applied (Holds-tree_at m.table made.0 _ h) (trees_at-Stays g.keeps.stays rest known)) ∙ ap (λ l. beta_of (tree_at from.table body.0) (trees_at from.table l)) (sym e)
+    ap Some (is ∙ ap₂ applied (Holds-tree_at m.table made.0 _ h) (trees_at-Stays g.keeps.stays rest known))
+    ∙ ap (λ l. beta_of (tree_at from.table body.0) (trees_at from.table l)) (sym e)
 
 -- a definition's body by its number
 module _ (ts : List Tree) (decls : List Decl) where
@@ -83,7 +89,8 @@ module _ (ts : List Tree) (decls : List Decl) where
   pub body-known : (s : ℕ) (d : Decl) → AreDeclsKnown ts decls → slice_get decls s ≡ Some d → IsKnownIf ts d.body
   body-known s d h at = if-known d.body (AreDeclsKnown-slice_get ts decls s d h at).body
 
-  pub body-is : (s : ℕ) (d : Decl) → length signature ≤ s → slice_get decls (s - length signature) ≡ Some d → d.form ≡ Def → tree_if ts d.body ≡ symbol_definition (map (declaration_in ts) decls) s
+  pub body-is : (s : ℕ) (d : Decl) → length signature ≤ s → slice_get decls (s - length signature) ≡ Some d → d.form ≡ Def → tree_if ts d.body
+      ≡ symbol_definition (map (declaration_in ts) decls) s
   body-is s d le at e = if-is d.body ∙ sym (definition-is s d le at ∙ ap (λ f. definition_of f (option_map (λ id. tree_at ts id.0) d.body)) e)
 
   -- none beyond the declarations
@@ -95,7 +102,8 @@ module _ (ts : List Tree) (decls : List Decl) where
   none-of Def o h = absurd (h refl)
   none-of Thm o h = refl
 
-  pub no-body : (s : ℕ) (d : Decl) → length signature ≤ s → slice_get decls (s - length signature) ≡ Some d → (d.form ≡ Def → ⊥) → None ≡ symbol_definition (map (declaration_in ts) decls) s
+  pub no-body : (s : ℕ) (d : Decl) → length signature ≤ s → slice_get decls (s - length signature) ≡ Some d → (d.form ≡ Def → ⊥) → None
+      ≡ symbol_definition (map (declaration_in ts) decls) s
   no-body s d le at h = none-of d.form _ h ∙ sym (definition-is s d le at)
 
 none-within : (before after : List Declaration) (s : ℕ) → map (λ d. definition_of d.form d.body) before ≡ map (λ d. None) before → s < length before
@@ -114,7 +122,8 @@ pub record IsGiven (from : Module) (id : LpId) (all : List LpId) (m : Module) (b
   pub known : body.0 < length from.table
   pub front : AreKnown from.table before
   pub listed : AreKnown from.table rest
-  pub is : given (trees_at from.table before) (tree_at from.table body.0) (trees_at from.table rest) ≡ given [] (tree_at from.table id.0) (trees_at from.table all)
+  pub is : given (trees_at from.table before) (tree_at from.table body.0) (trees_at from.table rest)
+      ≡ given [] (tree_at from.table id.0) (trees_at from.table all)
 
 known-append : (ts : List Tree) (xs : List LpId) (x : LpId) → AreKnown ts xs → x.0 < length ts → AreKnown ts (xs ++ x ∷ [])
 known-append ts [] x h k = (k, tt)
@@ -124,7 +133,8 @@ trees-append : (ts : List Tree) (xs : List LpId) (x : LpId) → trees_at ts (xs 
 trees-append ts [] x = refl
 trees-append ts (y ∷ ys) x = ap (λ l. tree_at ts y.0 ∷ l) (trees-append ts ys x)
 
-pub given-more : (from m : Module) (id body inner x : LpId) (all before after rest new : List LpId) → IsGiven from id all m before body rest → rest ≡ x ∷ new → after ≡ before ++ x ∷ [] → (inner.0 < body.0) × (tree_at m.table body.0 ≡ Lam (Sym 0) (tree_at m.table inner.0))
+pub given-more : (from m : Module) (id body inner x : LpId) (all before after rest new : List LpId) → IsGiven from id all m before body rest → rest ≡ x ∷ new
+    → after ≡ before ++ x ∷ [] → (inner.0 < body.0) × (tree_at m.table body.0 ≡ Lam (Sym 0) (tree_at m.table inner.0))
     → IsGiven from id all m after inner new
 given-more from m id body inner x all before after rest new s e f h =
     let parts = subst (AreKnown from.table) e s.listed in
@@ -144,14 +154,18 @@ given-more from m id body inner x all before after rest new s e f h =
 -- what is given all its arguments, where what follows is in a table that has grown
 pub given-applied : (from m k : Module) (id body made whole : LpId) (all before rest : List LpId) → Grows from m → IsGiven from id all from before body rest
     → ((before args : List Tree) → given before (tree_at from.table body.0) args ≡ Some (applied (put_all before (tree_at from.table body.0)) args))
-    → Holds m.table made.0 (put_all (trees_at from.table before) (tree_at from.table body.0)) → tree_at k.table whole.0 ≡ applied (tree_at m.table made.0) (trees_at m.table rest)
+    → Holds m.table made.0 (put_all (trees_at from.table before) (tree_at from.table body.0)) → tree_at k.table whole.0
+    ≡ applied (tree_at m.table made.0) (trees_at m.table rest)
     → Some (tree_at k.table whole.0) ≡ given [] (tree_at from.table id.0) (trees_at from.table all)
 given-applied from m k id body made whole all before rest g s none h is =
-    ap Some (is ∙ ap₂ applied (Holds-tree_at m.table made.0 _ h) (trees_at-Stays g.keeps.stays rest s.listed)) ∙ sym (none (trees_at from.table before) (trees_at from.table rest)) ∙ s.is
+    ap Some (is ∙ ap₂ applied (Holds-tree_at m.table made.0 _ h) (trees_at-Stays g.keeps.stays rest s.listed))
+    ∙ sym (none (trees_at from.table before) (trees_at from.table rest)) ∙ s.is
 
 -- `term a -> term b`, made in five tables
-pub functions-is : (t0 t1 t2 t3 t4 t5 : List Tree) (a b term domain body lifted r : LpId) → Stays t0 t1 → Stays t1 t2 → Stays t2 t3 → Stays t3 t4 → a.0 < length t0 → b.0 < length t0
-    → Holds t1 term.0 (Sym 4) → Holds t2 domain.0 (App (tree_at t1 term.0) (tree_at t1 a.0)) → Holds t3 body.0 (App (tree_at t2 term.0) (tree_at t2 b.0)) → Holds t4 lifted.0 (lift 1 (tree_at t3 body.0))
+pub functions-is : (t0 t1 t2 t3 t4 t5 : List Tree) (a b term domain body lifted r : LpId) → Stays t0 t1 → Stays t1 t2 → Stays t2 t3 → Stays t3 t4
+    → a.0 < length t0 → b.0 < length t0
+    → Holds t1 term.0 (Sym 4) → Holds t2 domain.0 (App (tree_at t1 term.0) (tree_at t1 a.0)) → Holds t3 body.0 (App (tree_at t2 term.0) (tree_at t2 b.0))
+    → Holds t4 lifted.0 (lift 1 (tree_at t3 body.0))
     → Holds t5 r.0 (Pi (tree_at t4 domain.0) (tree_at t4 lifted.0)) → tree_at t5 r.0 ≡ functions_of (tree_at t0 a.0) (tree_at t0 b.0)
 functions-is t0 t1 t2 t3 t4 t5 a b term domain body lifted r s1 s2 s3 s4 ha hb h1 h2 h3 h4 h5 =
     Holds-tree_at t5 r.0 _ h5
@@ -166,20 +180,24 @@ IfOk-map (Ok x) f h = f x h
 IfOk-map (Err e) f h = tt
 
 -- an abstraction at arguments, at the end of the walk
-pub spine-beta : (from m : Module) (id head : LpId) (a b : Tree) (args : List LpId) → IsSpine from id m head args → Holds m.table head.0 (Lam a b) → beta_of b (trees_at m.table args) ≡ head_step (declarations_of from) (tree_at from.table id.0)
+pub spine-beta : (from m : Module) (id head : LpId) (a b : Tree) (args : List LpId) → IsSpine from id m head args → Holds m.table head.0 (Lam a b)
+    → beta_of b (trees_at m.table args) ≡ head_step (declarations_of from) (tree_at from.table id.0)
 spine-beta from m id head a b args s h =
     at_arguments (trees_at m.table args) ∙ ap (λ (k : Module). spine_step (declarations_of k) (Lam a b) (trees_at k.table args)) s.same
-    ∙ ap (λ t. spine_step (declarations_of from) t (trees_at from.table args)) (sym (Holds-tree_at from.table head.0 _ (subst (λ (k : Module). Holds k.table head.0 (Lam a b)) s.same h))) ∙ s.is
+    ∙ ap (λ t. spine_step (declarations_of from) t (trees_at from.table args))
+    (sym (Holds-tree_at from.table head.0 _ (subst (λ (k : Module). Holds k.table head.0 (Lam a b)) s.same h))) ∙ s.is
   where
     at_arguments : (xs : List Tree) → beta_of b xs ≡ spine_step (declarations_of m) (Lam a b) xs
     at_arguments [] = refl
     at_arguments (x ∷ xs) = refl
 
 -- a symbol at arguments, at the end of the walk
-pub spine-symbol : (from m : Module) (id head : LpId) (n : ℕ) (args : List LpId) → IsSpine from id m head args → Holds m.table head.0 (Sym n) → symbol_step (declarations_of m) n (trees_at m.table args) ≡ head_step (declarations_of from) (tree_at from.table id.0)
+pub spine-symbol : (from m : Module) (id head : LpId) (n : ℕ) (args : List LpId) → IsSpine from id m head args → Holds m.table head.0 (Sym n)
+    → symbol_step (declarations_of m) n (trees_at m.table args) ≡ head_step (declarations_of from) (tree_at from.table id.0)
 spine-symbol from m id head n args s h =
     ap (λ (k : Module). symbol_step (declarations_of k) n (trees_at k.table args)) s.same
-    ∙ ap (λ t. spine_step (declarations_of from) t (trees_at from.table args)) (sym (Holds-tree_at from.table head.0 _ (subst (λ (k : Module). Holds k.table head.0 (Sym n)) s.same h))) ∙ s.is
+    ∙ ap (λ t. spine_step (declarations_of from) t (trees_at from.table args))
+    (sym (Holds-tree_at from.table head.0 _ (subst (λ (k : Module). Holds k.table head.0 (Sym n)) s.same h))) ∙ s.is
 
 -- what a head step makes is reached by a chain of steps
 pub IsHeadStep-StepsTo : (old new : Module) (id : LpId) (made : Option LpId) → IsHeadStep old id new made → StepsTo old id new made

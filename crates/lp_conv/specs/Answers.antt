@@ -27,7 +27,8 @@ converting E F = Ask (Convert E F) (λ _. Say (Found E))
 
 -- the answer is that of the directed rules, where the budget fell from old to new
 abbrev pub IsAnswered : Module → LpId → LpId → ℕ → ℕ → Answer → Type 0
-IsAnswered m e f old new answer.Yes = Answered (declarations_of m) true (converting (tree_at m.table e.0) (tree_at m.table f.0)) (Found (tree_at m.table e.0)) (old - new)
+IsAnswered m e f old new answer.Yes = Answered (declarations_of m) true (converting (tree_at m.table e.0) (tree_at m.table f.0)) (Found (tree_at m.table e.0))
+    (old - new)
 IsAnswered m e f old new answer.No = Answered (declarations_of m) true (converting (tree_at m.table e.0) (tree_at m.table f.0)) No (old - new)
 IsAnswered m e f old new answer.Over = IsOver (declarations_of m) true (converting (tree_at m.table e.0) (tree_at m.table f.0)) old
 

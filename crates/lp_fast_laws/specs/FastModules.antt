@@ -57,7 +57,13 @@ module _ (r : Bool) where
           let count : length before + 0 ≡ length before = omega arith in
           let at : slice_get (before ++ d ∷ ds) (length before + 0) ≡ Some d = ap (slice_get (before ++ d ∷ ds)) count ∙ slice_get-seam before ds d in
           let front : take (length before + 0) (before ++ d ∷ ds) ≡ before = ap (λ n. take n (before ++ d ∷ ds)) count ∙ take-append_seam before (d ∷ ds) in
-          record { found = p.found; price = p.price; by = subst (λ l. Ends l r (declaration_plan d) (Found p.found) p.price) front (check-ends (before ++ d ∷ ds) (length before + 0) r (Found p.found) p.price d at p.by) }
+          record {
+            found = p.found;
+            price = p.price;
+            by =
+                subst (λ l. Ends l r (declaration_plan d) (Found p.found) p.price) front
+                (check-ends (before ++ d ∷ ds) (length before + 0) r (Found p.found) p.price d at p.by);
+          }
 
       further : (i : ℕ) → PassesBy r (before ++ d ∷ ds) (length before + suc i) → PassesBy r ((before ++ d ∷ []) ++ ds) (length (before ++ d ∷ []) + i)
       further i h =

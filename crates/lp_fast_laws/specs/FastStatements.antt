@@ -15,7 +15,8 @@ CheckerLawBy = (r : Bool) (m : List Declaration) → IsModule m → ((i : ℕ) (
 
 -- A declaration that passes passes without rechecks, at no greater price.
 abbrev pub FastPasses : Type 0
-FastPasses = (m : List Declaration) (i : ℕ) (found : Tree) (price : ℕ) → Check m i (Found found) price → (less : ℕ) × FastCheck m i (Found found) less × less ≤ price
+FastPasses = (m : List Declaration) (i : ℕ) (found : Tree) (price : ℕ) → Check m i (Found found) price → (less : ℕ) × FastCheck m i (Found found) less
+    × less ≤ price
 
 -- The check of a declaration has one reply, at one price, with rechecks or without.
 abbrev pub OneCheck : Type 0

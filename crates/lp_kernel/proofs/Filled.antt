@@ -30,21 +30,31 @@ pub sought-start : (ts : List Tree) (k : ℕ) (f : LpId) (n : ℕ) → f.0 < len
 sought-start ts k f n h = record { here = h; same = refl; further = refl }
 
 -- it is none of them
-pub sought-past : (ts : List Tree) (k : ℕ) (f : LpId) (n left : ℕ) (at : LpId) (number : ℕ) → IsSought ts k f n left at number → spine_args left (tree_at ts at.0) ≡ [] → n ≡ length (spine_args k (tree_at ts f.0)) + number
+pub sought-past : (ts : List Tree) (k : ℕ) (f : LpId) (n left : ℕ) (at : LpId) (number : ℕ) → IsSought ts k f n left at number
+    → spine_args left (tree_at ts at.0) ≡ [] → n ≡ length (spine_args k (tree_at ts f.0)) + number
 sought-past ts k f n left at number h none = omega (arith, h.further, ap length none)
 
-module _ (ts : List Tree) (k : ℕ) (f : LpId) (n left less : ℕ) (at g x : LpId) (s : left ≡ suc less) (is : Holds ts at.0 (App (tree_at ts g.0) (tree_at ts x.0))) where
+module _ (ts : List Tree) (k : ℕ) (f : LpId) (n left less : ℕ) (at g x : LpId) (s : left ≡ suc less)
+    (is : Holds ts at.0 (App (tree_at ts g.0) (tree_at ts x.0))) where
   last-first : reverse (spine_args left (tree_at ts at.0)) ≡ tree_at ts x.0 ∷ reverse (spine_args less (tree_at ts g.0))
   last-first = ap₂ (λ m t. reverse (spine_args m t)) s (Holds-tree_at ts at.0 _ is) ∙ reverse-append (spine_args less (tree_at ts g.0)) (tree_at ts x.0 ∷ [])
 
-  pub sought-found : (number : ℕ) → IsSought ts k f n left at number → number ≡ 0 → slice_get (reverse (spine_args k (tree_at ts f.0))) n ≡ Some (tree_at ts x.0)
+  pub sought-found : (number : ℕ) → IsSought ts k f n left at number → number ≡ 0 → slice_get (reverse (spine_args k (tree_at ts f.0))) n
+      ≡ Some (tree_at ts x.0)
   sought-found number h z = h.same ∙ ap₂ slice_get last-first z
 
   pub sought-more : (number fewer : ℕ) → IsSought ts k f n left at number → number ≡ suc fewer → g.0 < length ts → IsSought ts k f n less g fewer
   sought-more number fewer h m known = record {
     here = known;
     same = h.same ∙ ap₂ slice_get last-first m;
-    further = omega (arith, h.further, m, ap length last-first, length-reverse (spine_args left (tree_at ts at.0)), length-reverse (spine_args less (tree_at ts g.0)));
+    further = omega (
+      arith,
+      h.further,
+      m,
+      ap length last-first,
+      length-reverse (spine_args left (tree_at ts at.0)),
+      length-reverse (spine_args less (tree_at ts g.0)),
+    );
   }
 
 -- a type without loose variables is as it is
@@ -56,7 +66,8 @@ pub filled-same : (ts : List Tree) (b : LpId) (k : ℕ) (f found : LpId) → loo
 filled-same ts b k f found h e = ap (tree_at ts) (sym e) ∙ filled-closed ts b k f h
 
 -- a variable is the argument that is put for it
-pub filled-variable : (ts : List Tree) (b : LpId) (k : ℕ) (f found x : LpId) (n : ℕ) → Holds ts b.0 (Var n) → slice_get (reverse (spine_args k (tree_at ts f.0))) n ≡ Some (tree_at ts x.0) → x.0 ≡ found.0 → IsFilled ts b k f ts found
+pub filled-variable : (ts : List Tree) (b : LpId) (k : ℕ) (f found x : LpId) (n : ℕ) → Holds ts b.0 (Var n)
+    → slice_get (reverse (spine_args k (tree_at ts f.0))) n ≡ Some (tree_at ts x.0) → x.0 ≡ found.0 → IsFilled ts b k f ts found
 filled-variable ts b k f found x n is at e =
     let us = spine_args k (tree_at ts f.0) in
     let low : 0 ≤ n = omega arith in
@@ -69,14 +80,19 @@ filled-variable ts b k f found x n is at e =
     ∙ lift_zero (tree_at ts x.0))
 
 -- an application is that of its parts
-pub filled-application : (ts : List Tree) (b g x : LpId) (k : ℕ) (f found : LpId) → Holds ts b.0 (App (tree_at ts g.0) (tree_at ts x.0)) → tree_at ts found.0 ≡ App (put_all (spine_args k (tree_at ts f.0)) (tree_at ts g.0)) (put_all (spine_args k (tree_at ts f.0)) (tree_at ts x.0)) → IsFilled ts b k f ts found
-filled-application ts b g x k f found is e = e ∙ sym (ap (put_all (spine_args k (tree_at ts f.0))) (Holds-tree_at ts b.0 (App (tree_at ts g.0) (tree_at ts x.0)) is))
+pub filled-application : (ts : List Tree) (b g x : LpId) (k : ℕ) (f found : LpId) → Holds ts b.0 (App (tree_at ts g.0) (tree_at ts x.0)) → tree_at ts found.0
+    ≡ App (put_all (spine_args k (tree_at ts f.0)) (tree_at ts g.0)) (put_all (spine_args k (tree_at ts f.0)) (tree_at ts x.0)) → IsFilled ts b k f ts found
+filled-application ts b g x k f found is e = e ∙ sym
+    (ap (put_all (spine_args k (tree_at ts f.0))) (Holds-tree_at ts b.0 (App (tree_at ts g.0) (tree_at ts x.0)) is))
 
-pub application-of_parts : (ts : List Tree) (g x : LpId) (k : ℕ) (f found h y : LpId) → Holds ts found.0 (App (tree_at ts h.0) (tree_at ts y.0)) → IsFilled ts g k f ts h → IsFilled ts x k f ts y → tree_at ts found.0 ≡ App (put_all (spine_args k (tree_at ts f.0)) (tree_at ts g.0)) (put_all (spine_args k (tree_at ts f.0)) (tree_at ts x.0))
+pub application-of_parts : (ts : List Tree) (g x : LpId) (k : ℕ) (f found h y : LpId) → Holds ts found.0 (App (tree_at ts h.0) (tree_at ts y.0))
+    → IsFilled ts g k f ts h → IsFilled ts x k f ts y → tree_at ts found.0
+    ≡ App (put_all (spine_args k (tree_at ts f.0)) (tree_at ts g.0)) (put_all (spine_args k (tree_at ts f.0)) (tree_at ts x.0))
 application-of_parts ts g x k f found h y is a b = Holds-tree_at ts found.0 (App (tree_at ts h.0) (tree_at ts y.0)) is ∙ ap₂ App a b
 
 -- what is filled over an older table is filled over a table that has grown
-filled-Stays : (ts us vs : List Tree) → Stays ts us → (d : ℕ) (b : LpId) (k : ℕ) (f r : LpId) → b.0 < length ts → f.0 < length ts → IsFilledUnder us d b k f vs r → IsFilledUnder ts d b k f vs r
+filled-Stays : (ts us vs : List Tree) → Stays ts us → (d : ℕ) (b : LpId) (k : ℕ) (f r : LpId) → b.0 < length ts → f.0 < length ts
+    → IsFilledUnder us d b k f vs r → IsFilledUnder ts d b k f vs r
 filled-Stays ts us vs s d b k f r hb hf h = h ∙ ap₂ (λ F B. put_all_at d (spine_args k F) B) (sym (tree_at-Stays s f.0 hf)) (sym (tree_at-Stays s b.0 hb))
 
 -- a part without loose variables is as it is
@@ -84,16 +100,20 @@ pub part-closed : (ts : List Tree) (d : ℕ) (b : LpId) (k : ℕ) (f : LpId) →
 part-closed ts d b k f h = sym (put_all_at-closed d (spine_args k (tree_at ts f.0)) (tree_at ts b.0) h)
 
 -- two parts that were made one after the other
-pub parts-made : (ts us vs : List Tree) → Stays ts us → Stays us vs → (g x : LpId) (d e k : ℕ) (f h y : LpId) → x.0 < length ts → f.0 < length ts → h.0 < length us → IsFilledUnder ts d g k f us h → IsFilledUnder us e x k f vs y
+pub parts-made : (ts us vs : List Tree) → Stays ts us → Stays us vs → (g x : LpId) (d e k : ℕ) (f h y : LpId) → x.0 < length ts → f.0 < length ts
+    → h.0 < length us → IsFilledUnder ts d g k f us h → IsFilledUnder us e x k f vs y
     → IsFilledUnder ts d g k f vs h × IsFilledUnder ts e x k f vs y
 parts-made ts us vs s t g x d e k f h y hx hf hh a b = (sym (tree_at-Stays t h.0 hh) ∙ a, filled-Stays ts us vs s e x k f y hx hf b)
 
 -- and a tree of them
-pub node-made : (C : Tree → Tree → Tree) (d e : ℕ) → ((us : List Tree) (G X : Tree) → put_all_at d us (C G X) ≡ C (put_all_at d us G) (put_all_at e us X)) → (ts vs ws : List Tree) (b g x h y r : LpId) (k : ℕ) (f : LpId)
-    → Holds ts b.0 (C (tree_at ts g.0) (tree_at ts x.0)) → IsFilledUnder ts d g k f vs h × IsFilledUnder ts e x k f vs y → Holds ws r.0 (C (tree_at vs h.0) (tree_at vs y.0)) → IsFilledUnder ts d b k f ws r
+pub node-made : (C : Tree → Tree → Tree) (d e : ℕ) → ((us : List Tree) (G X : Tree) → put_all_at d us (C G X) ≡ C (put_all_at d us G) (put_all_at e us X))
+    → (ts vs ws : List Tree) (b g x h y r : LpId) (k : ℕ) (f : LpId)
+    → Holds ts b.0 (C (tree_at ts g.0) (tree_at ts x.0)) → IsFilledUnder ts d g k f vs h × IsFilledUnder ts e x k f vs y
+    → Holds ws r.0 (C (tree_at vs h.0) (tree_at vs y.0)) → IsFilledUnder ts d b k f ws r
 node-made C d e law ts vs ws b g x h y r k f at parts is =
     let us = spine_args k (tree_at ts f.0) in
-    Holds-tree_at ws r.0 (C (tree_at vs h.0) (tree_at vs y.0)) is ∙ ap₂ C parts.0 parts.1 ∙ sym (ap (put_all_at d us) (Holds-tree_at ts b.0 (C (tree_at ts g.0) (tree_at ts x.0)) at) ∙ law us (tree_at ts g.0) (tree_at ts x.0))
+    Holds-tree_at ws r.0 (C (tree_at vs h.0) (tree_at vs y.0)) is ∙ ap₂ C parts.0 parts.1
+    ∙ sym (ap (put_all_at d us) (Holds-tree_at ts b.0 (C (tree_at ts g.0) (tree_at ts x.0)) at) ∙ law us (tree_at ts g.0) (tree_at ts x.0))
 
 module _ (d : ℕ) (us : List Tree) (n m : ℕ) (low : d ≤ n) (same : m ≡ n - d) where
   -- an argument stands for a variable
@@ -114,9 +134,11 @@ module _ (d : ℕ) (us : List Tree) (n m : ℕ) (low : d ≤ n) (same : m ≡ n 
       ∙ ap Var less
 
 -- a variable that is at hand
-pub filled-further : (ts : List Tree) (b : LpId) (k : ℕ) (f found : LpId) (n m : ℕ) → Holds ts b.0 (Var n) → n ≡ length (spine_args k (tree_at ts f.0)) + m → tree_at ts found.0 ≡ Var m → IsFilled ts b k f ts found
+pub filled-further : (ts : List Tree) (b : LpId) (k : ℕ) (f found : LpId) (n m : ℕ) → Holds ts b.0 (Var n) → n ≡ length (spine_args k (tree_at ts f.0)) + m
+    → tree_at ts found.0 ≡ Var m → IsFilled ts b k f ts found
 filled-further ts b k f found n m is past at =
     let low : 0 ≤ n = omega arith in
     let same : n ≡ n - 0 = omega arith in
     let number : m ≡ m + 0 = omega arith in
-    at ∙ sym (ap (put_all (spine_args k (tree_at ts f.0))) (Holds-tree_at ts b.0 (Var n) is) ∙ put_all_at-variable 0 (spine_args k (tree_at ts f.0)) n n low same m m past number)
+    at ∙ sym (ap (put_all (spine_args k (tree_at ts f.0))) (Holds-tree_at ts b.0 (Var n) is)
+    ∙ put_all_at-variable 0 (spine_args k (tree_at ts f.0)) n n low same m m past number)

@@ -40,5 +40,6 @@ pub keyed-same : (scopes : List Scope) (s t : State) → IsSamePlace s t → IsK
 keyed-same scopes s t same h = subst (IsKey scopes t.key) (sym same.context) (subst (λ k. IsKey scopes k s.context) (sym same.key) h)
 
 -- a context with a new innermost variable
-pub keyed-pushed : (old new : List Scope) (c d : List LpId) (outer key : ℕ) (entry : LpId) → AreMore old new → IsInner new key outer entry → d ≡ entry ∷ c → IsKey old outer c → IsKey new key d
+pub keyed-pushed : (old new : List Scope) (c d : List LpId) (outer key : ℕ) (entry : LpId) → AreMore old new → IsInner new key outer entry → d ≡ entry ∷ c
+    → IsKey old outer c → IsKey new key d
 keyed-pushed old new c d outer key entry more inner e h = subst (IsKey new key) (sym e) (outer, inner, key-more old new more outer c h)

@@ -13,7 +13,8 @@ IsOnly old new f = (p : ℕ) (g : Finding) → slice_get new p ≡ Some g → sl
 
 -- where one more is put last
 pub only-append : (old now new : List Finding) (f : Finding) → IsOnly old now f → new ≡ now ++ f ∷ [] → IsOnly old new f
-only-append old now new f a e p g h = ⊎_elim (λ was. a p g was) (λ last. inr (sym last.1)) (slice_get-one_more now f g p (ap (λ xs. slice_get xs p) (sym e) ∙ h))
+only-append old now new f a e p g h = ⊎_elim (λ was. a p g was) (λ last. inr (sym last.1))
+    (slice_get-one_more now f g p (ap (λ xs. slice_get xs p) (sym e) ∙ h))
 
 -- where one is put in place of another
 pub only-set : (old now : List Finding) (place : ℕ) (f : Finding) → IsOnly old now f → place < length now → IsOnly old (slice_set now place f) f

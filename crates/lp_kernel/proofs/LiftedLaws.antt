@@ -14,7 +14,8 @@ AreLifts-nil ts ls e = record { each = λ p k h. absurd (omega (arith, slice_get
 
 -- one more is kept
 pub AreLifts-only : (ts : List Tree) (old new : List Finding) (f : Finding) → IsOnly old new f → IsLift ts f.id f.by f.found → AreLifts ts old → AreLifts ts new
-AreLifts-only ts old new f only is a = record { each = λ p g h. ⊎_elim (λ was. a.each p g was) (λ e. subst (λ (m : Finding). IsLift ts m.id m.by m.found) (sym e) is) (only p g h) }
+AreLifts-only ts old new f only is a = record
+    { each = λ p g h. ⊎_elim (λ was. a.each p g was) (λ e. subst (λ (m : Finding). IsLift ts m.id m.by m.found) (sym e) is) (only p g h) }
 
 -- all that is kept stays where a table has grown
 pub AreLifts-Keeps : {ts us : List Tree} → Keeps ts us → (ls : List Finding) → AreLifts ts ls → AreLifts us ls

@@ -48,7 +48,8 @@ module _ (old now : List ℕ) (id found : LpId) (n : ℕ) (l : IsLonger old now)
 
   pub noted_before : (t r : LpId) → IsNoted (slice_set now id.0 n) t r → IsNoted old t r ⊎ ((t ≡ id) × (r ≡ found))
   noted_before t r h = ⊎_elim
-      (λ e. let here : n ≡ suc r.0 = same_Some n (suc r.0) (sym (slice_get-set now id.0 n room) ∙ ap (slice_get (slice_set now id.0 n)) (sym e.1) ∙ h) in inr (same_id t id e.1, same_id r found (omega (arith, here, is))))
+      (λ e. let here : n ≡ suc r.0 = same_Some n (suc r.0) (sym (slice_get-set now id.0 n room) ∙ ap (slice_get (slice_set now id.0 n)) (sym e.1) ∙ h) in inr
+      (same_id t id e.1, same_id r found (omega (arith, here, is))))
       (λ e. inl (l.noted t.0 r.0 (sym (slice_get-set_other now id.0 t.0 n e.1) ∙ h)))
       (eqb_tells t.0 id.0)
 
@@ -68,8 +69,10 @@ module _ (old now : List ℕ) (i len x : ℕ) (f : IsForgotten old now i len) (r
     where
       lower : (p n : ℕ) → slice_get (slice_set now i 0) p ≡ Some (suc n) → slice_get old p ≡ Some (suc n) × (p < suc i → n < len)
       lower p n h = ⊎_elim
-          (λ e. absurd (let no : 0 ≡ suc n = same_Some 0 (suc n) (sym (slice_get-set now i 0 room) ∙ ap (slice_get (slice_set now i 0)) (sym e.1) ∙ h) in omega (arith, no)))
-          (λ e. let was = f.lower p n (sym (slice_get-set_other now i p 0 e.1) ∙ h) in (was.0, λ lt. was.1 (⊎_elim (λ less. less) (λ same. absurd (e.1 (omega (arith, same, lt)))) (cases_lt p i))))
+          (λ e. absurd (let no : 0 ≡ suc n =
+          same_Some 0 (suc n) (sym (slice_get-set now i 0 room) ∙ ap (slice_get (slice_set now i 0)) (sym e.1) ∙ h) in omega (arith, no)))
+          (λ e. let was = f.lower p n (sym (slice_get-set_other now i p 0 e.1) ∙ h) in
+          (was.0, λ lt. was.1 (⊎_elim (λ less. less) (λ same. absurd (e.1 (omega (arith, same, lt)))) (cases_lt p i))))
           (eqb_tells p i)
 
       stay : (p n : ℕ) → n < len → slice_get old p ≡ Some (suc n) → slice_get (slice_set now i 0) p ≡ Some (suc n)
@@ -81,7 +84,11 @@ module _ (old now : List ℕ) (i len x : ℕ) (f : IsForgotten old now i len) (r
   pub forgotten-small : x ≤ len → IsForgotten old now (suc i) len
   forgotten-small small = record {
     same = f.same;
-    lower = λ p n h. let was = f.lower p n h in (was.0, λ lt. ⊎_elim (λ less. was.1 less) (λ same. let here : p ≡ i = omega (arith, same, lt) in let is : x ≡ suc n = same_Some x (suc n) (sym at ∙ ap (slice_get now) (sym here) ∙ h) in omega (arith, is, small)) (cases_lt p i));
+    lower = λ p n h. let was = f.lower p n h in (
+      was.0,
+      λ lt. ⊎_elim (λ less. was.1 less) (λ same. let here : p ≡ i = omega (arith, same, lt) in let is : x ≡ suc n =
+          same_Some x (suc n) (sym at ∙ ap (slice_get now) (sym here) ∙ h) in omega (arith, is, small)) (cases_lt p i),
+    );
     stay = f.stay;
   }
 

@@ -28,7 +28,8 @@ then-found (Say No) = refl
 then-found (Ask q rest) = ap (Ask q) (fun_ext (λ t. then-found (rest t)))
 
 -- what a tree that is no product reaches
-reach-other : (ds : List Declaration) (ts : List Tree) (n : LpNode) → ((a b : LpId) → n ≡ node.Pi a b → ⊥) → reach ds (tree_of_node ts n) ≡ if_step (head_step ds (tree_of_node ts n)) (λ H. Ask (Reach H) (λ P. Say (Found P)))
+reach-other : (ds : List Declaration) (ts : List Tree) (n : LpNode) → ((a b : LpId) → n ≡ node.Pi a b → ⊥) → reach ds (tree_of_node ts n)
+    ≡ if_step (head_step ds (tree_of_node ts n)) (λ H. Ask (Reach H) (λ P. Say (Found P)))
 reach-other ds ts (node.Pi a b) h = absurd (h a b refl)
 reach-other ds ts node.SortType h = refl
 reach-other ds ts node.SortKind h = refl
@@ -43,7 +44,8 @@ pub record IsReach (from : Module) (id : LpId) (all : ℕ) (m : Module) (reached
   pub held : IsHeld m
   pub known : reached.0 < length m.table
   pub less : here ≤ all
-  pub left : Leaves (declarations_of m) true (reach (declarations_of m) (tree_at from.table id.0)) (all - here) (reach (declarations_of m) (tree_at m.table reached.0))
+  pub left : Leaves (declarations_of m) true (reach (declarations_of m) (tree_at from.table id.0)) (all - here)
+      (reach (declarations_of m) (tree_at m.table reached.0))
 
 pub start-reach : (m : Module) (id : LpId) (all : ℕ) → IsHeld m → id.0 < length m.table → IsReach m id all m id all
 start-reach m id all held known = record {
@@ -51,12 +53,15 @@ start-reach m id all held known = record {
   held = held;
   known = known;
   less = omega arith;
-  left = let z : all - all ≤ 0 = omega arith in leaves_fewer (declarations_of m) true z (leaves_all (declarations_of m) true (reach (declarations_of m) (tree_at m.table id.0)));
+  left = let z : all - all ≤ 0 = omega arith in leaves_fewer (declarations_of m) true z
+      (leaves_all (declarations_of m) true (reach (declarations_of m) (tree_at m.table id.0)));
 }
 
-module _ (from : Module) (id : LpId) (all : ℕ) (m : Module) (reached : LpId) (here : ℕ) (n : LpNode) (s : IsReach from id all m reached here) (at : Holds m.table reached.0 (tree_of_node m.table n)) where
+module _ (from : Module) (id : LpId) (all : ℕ) (m : Module) (reached : LpId) (here : ℕ) (n : LpNode) (s : IsReach from id all m reached here)
+    (at : Holds m.table reached.0 (tree_of_node m.table n)) where
   -- the end at a product
-  pub reach-product : (a b : LpId) → n ≡ node.Pi a b → IsFound true (declarations_of m) m.table (reach (declarations_of m) (tree_at from.table id.0)) all here (inferred.Found reached)
+  pub reach-product : (a b : LpId) → n ≡ node.Pi a b
+      → IsFound true (declarations_of m) m.table (reach (declarations_of m) (tree_at from.table id.0)) all here (inferred.Found reached)
   reach-product a b e =
       let is = Holds-tree_at m.table reached.0 _ at ∙ ap (tree_of_node m.table) e in
       let p = subst (λ t. Ends (declarations_of m) true (reach (declarations_of m) t) (Found t) 0) (sym is) said in
@@ -64,25 +69,31 @@ module _ (from : Module) (id : LpId) (all : ℕ) (m : Module) (reached : LpId) (
       record { price = u.0; ends = u.1; within = omega (arith, u.2) }
 
   module _ (not : (a b : LpId) → n ≡ node.Pi a b → ⊥) where
-    other : (o : Option Tree) → head_step (declarations_of m) (tree_at m.table reached.0) ≡ o → reach (declarations_of m) (tree_at m.table reached.0) ≡ if_step o (λ H. Ask (Reach H) (λ P. Say (Found P)))
+    other : (o : Option Tree) → head_step (declarations_of m) (tree_at m.table reached.0) ≡ o → reach (declarations_of m) (tree_at m.table reached.0)
+        ≡ if_step o (λ H. Ask (Reach H) (λ P. Say (Found P)))
     other o h =
         let e = Holds-tree_at m.table reached.0 _ at in
-        ap (reach (declarations_of m)) e ∙ reach-other (declarations_of m) m.table n not ∙ ap (λ t. if_step (head_step (declarations_of m) t) (λ H. Ask (Reach H) (λ P. Say (Found P)))) (sym e)
+        ap (reach (declarations_of m)) e ∙ reach-other (declarations_of m) m.table n not
+        ∙ ap (λ t. if_step (head_step (declarations_of m) t) (λ H. Ask (Reach H) (λ P. Say (Found P)))) (sym e)
         ∙ ap (λ w. if_step w (λ H. Ask (Reach H) (λ P. Say (Found P)))) h
 
     -- the end where there is no head step, in a table that may have grown
-    pub reach-none : (k : Module) → Grows m k → None ≡ head_step (declarations_of m) (tree_at m.table reached.0) → IsFound true (declarations_of k) k.table (reach (declarations_of k) (tree_at from.table id.0)) all here inferred.No
+    pub reach-none : (k : Module) → Grows m k → None ≡ head_step (declarations_of m) (tree_at m.table reached.0)
+        → IsFound true (declarations_of k) k.table (reach (declarations_of k) (tree_at from.table id.0)) all here inferred.No
     reach-none k g h =
         let p = subst (λ w. Ends (declarations_of m) true w No 0) (sym (other None (sym h))) said in
         let u = s.left.up No 0 p in
-        subst (λ ds. Answered ds true (reach ds (tree_at from.table id.0)) No (all - here)) (sym (declarations_of-Grows m k g s.held)) (record { price = u.0; ends = u.1; within = omega (arith, u.2) })
+        subst (λ ds. Answered ds true (reach ds (tree_at from.table id.0)) No (all - here)) (sym (declarations_of-Grows m k g s.held))
+        (record { price = u.0; ends = u.1; within = omega (arith, u.2) })
 
     -- a head step more
-    pub reach-more : (k : Module) (made : LpId) (there : ℕ) → Grows m k → made.0 < length k.table → Some (tree_at k.table made.0) ≡ head_step (declarations_of m) (tree_at m.table reached.0) → there ≡ here - 1 → 0 < here → IsReach from id all k made there
+    pub reach-more : (k : Module) (made : LpId) (there : ℕ) → Grows m k → made.0 < length k.table → Some (tree_at k.table made.0)
+        ≡ head_step (declarations_of m) (tree_at m.table reached.0) → there ≡ here - 1 → 0 < here → IsReach from id all k made there
     reach-more k made there g known h less pos =
         let H = tree_at k.table made.0 in
         let ds = declarations_of m in
-        let turn = leaves_then ds true (leaves_equal ds true (other (Some H) (sym h))) (leaves_then ds true (leaves_ask ds true (Reach H) (λ P. Say (Found P))) (leaves_equal ds true (then-found (reach ds H)))) in
+        let turn = leaves_then ds true (leaves_equal ds true (other (Some H) (sym h)))
+        (leaves_then ds true (leaves_ask ds true (Reach H) (λ P. Say (Found P))) (leaves_equal ds true (then-found (reach ds H)))) in
         let all-of = leaves_then ds true s.left turn in
         let le : all - there ≤ all - here + (0 + (1 + 0)) = omega (arith, less, pos, s.less) in
         record {
@@ -90,14 +101,17 @@ module _ (from : Module) (id : LpId) (all : ℕ) (m : Module) (reached : LpId) (
           held = IsHeld-Grows m k g s.held;
           known = known;
           less = omega (arith, less, s.less);
-          left = subst (λ ds. Leaves ds true (reach ds (tree_at from.table id.0)) (all - there) (reach ds H)) (sym (declarations_of-Grows m k g s.held)) (leaves_fewer ds true le all-of);
+          left = subst (λ ds. Leaves ds true (reach ds (tree_at from.table id.0)) (all - there) (reach ds H)) (sym (declarations_of-Grows m k g s.held))
+              (leaves_fewer ds true le all-of);
         }
 
     -- the end where the budget is spent
-    pub reach-over : (k : Module) (H : Tree) → Grows m k → Some H ≡ head_step (declarations_of m) (tree_at m.table reached.0) → here ≡ 0 → IsFound true (declarations_of k) k.table (reach (declarations_of k) (tree_at from.table id.0)) all here inferred.Over
+    pub reach-over : (k : Module) (H : Tree) → Grows m k → Some H ≡ head_step (declarations_of m) (tree_at m.table reached.0) → here ≡ 0
+        → IsFound true (declarations_of k) k.table (reach (declarations_of k) (tree_at from.table id.0)) all here inferred.Over
     reach-over k H g h zero-here =
         subst (λ ds. (reply : Reply) (n : ℕ) → Ends ds true (reach ds (tree_at from.table id.0)) reply n → all < n) (sym (declarations_of-Grows m k g s.held))
-        (over_leaves (declarations_of m) true s.left (omega (arith, s.less, zero-here)) (λ reply n e. positive (subst (λ w. Ends (declarations_of m) true w reply n) (other (Some H) (sym h)) e)))
+        (over_leaves (declarations_of m) true s.left (omega (arith, s.less, zero-here))
+        (λ reply n e. positive (subst (λ w. Ends (declarations_of m) true w reply n) (other (Some H) (sym h)) e)))
       where
         positive : {reply : Reply} {n : ℕ} → Ends (declarations_of m) true (Ask (Reach H) (λ P. Say (Found P))) reply n → 0 < n
         positive (refused e) = omega arith
@@ -135,22 +149,27 @@ module _ (ds : List Declaration) (r s : Bool) where
   reach-Ends F reply n h = Ends-Reaches (reach-Reaches ds F) h
 
 -- what is answered of a product that is reached, with rechecks or without
-pub reached-answered : (rechecks : Bool) (ds : List Declaration) (F : Tree) (reply : Reply) (spent : ℕ) → Answered ds true (reach ds F) reply spent → Answered ds rechecks (reach ds F) reply spent
+pub reached-answered : (rechecks : Bool) (ds : List Declaration) (F : Tree) (reply : Reply) (spent : ℕ) → Answered ds true (reach ds F) reply spent
+    → Answered ds rechecks (reach ds F) reply spent
 reached-answered rechecks ds F reply spent h = record { price = h.price; ends = reach-Ends ds true rechecks F reply h.price h.ends; within = h.within }
 
-pub reached-over : (rechecks : Bool) (ds : List Declaration) (F : Tree) (budget : ℕ) → IsOver ds true (reach ds F) budget → IsOver ds rechecks (reach ds F) budget
+pub reached-over : (rechecks : Bool) (ds : List Declaration) (F : Tree) (budget : ℕ) → IsOver ds true (reach ds F) budget
+    → IsOver ds rechecks (reach ds F) budget
 reached-over rechecks ds F budget h = λ reply n k. h reply n (reach-Ends ds rechecks true F reply n k)
 
 -- a product that is remembered is what is reached, at one step
-pub IsProductOf-IsProduct : (m : Module) (id found : LpId) (old new : ℕ) → old - new ≤ 1 → IsProductOf (declarations_of m) m.table id found → IsProduct m id m old new (inferred.Found found)
+pub IsProductOf-IsProduct : (m : Module) (id found : LpId) (old new : ℕ) → old - new ≤ 1 → IsProductOf (declarations_of m) m.table id found
+    → IsProduct m id m old new (inferred.Found found)
 IsProductOf-IsProduct m id found old new le p = record { price = p.answered.price; ends = p.answered.ends; within = omega (arith, le, p.answered.within) }
 
 -- and it is not reached where nothing is left
-pub IsProductOf-IsOver : (m : Module) (id found : LpId) (left : ℕ) → left ≡ 0 → IsProductOf (declarations_of m) m.table id found → IsOver (declarations_of m) true (reach (declarations_of m) (tree_at m.table id.0)) left
+pub IsProductOf-IsOver : (m : Module) (id found : LpId) (left : ℕ) → left ≡ 0 → IsProductOf (declarations_of m) m.table id found
+    → IsOver (declarations_of m) true (reach (declarations_of m) (tree_at m.table id.0)) left
 IsProductOf-IsOver m id found left none p = λ reply n e. omega (arith, none, (one_reply (declarations_of m) true p.answered.ends e).1, p.answered.within)
 
 -- the products that are noted stay right where the module has grown
-pub AreProducts-Grows : (m k : Module) (types : List ℕ) → IsHeld m → Grows m k → AreProducts (declarations_of m) m.table types → AreProducts (declarations_of k) k.table types
+pub AreProducts-Grows : (m k : Module) (types : List ℕ) → IsHeld m → Grows m k → AreProducts (declarations_of m) m.table types
+    → AreProducts (declarations_of k) k.table types
 AreProducts-Grows m k types held g h = record { each = each }
   where
     each : (id found : LpId) → IsNoted types id found → IsProductOf (declarations_of k) k.table id found
@@ -161,16 +180,20 @@ AreProducts-Grows m k types held g h = record { each = each }
         record {
           known = omega (arith, p.known, g.keeps.longer);
           found_known = omega (arith, p.found_known, g.keeps.longer);
-          answered = subst (λ ds. Answered ds true (reach ds (tree_at k.table id.0)) (Found (tree_at k.table found.0)) 1) (sym (declarations_of-Grows m k g held))
+          answered = subst (λ ds. Answered ds true (reach ds (tree_at k.table id.0)) (Found (tree_at k.table found.0)) 1)
+              (sym (declarations_of-Grows m k g held))
               (subst (λ t. Answered (declarations_of m) true (reach (declarations_of m) t) (Found (tree_at k.table found.0)) 1) e
               (subst (λ u. Answered (declarations_of m) true (reach (declarations_of m) (tree_at m.table id.0)) (Found u) 1) f p.answered));
         }
 
 -- and with one more that was reached, by a step at least
-pub AreProducts-noted : (m k : Module) (types more : List ℕ) (id found : LpId) (all here : ℕ) → IsHeld m → Grows m k → AreProducts (declarations_of m) m.table types → id.0 < length m.table → found.0 < length k.table → here < all → IsProduct m id k all here (inferred.Found found)
+pub AreProducts-noted : (m k : Module) (types more : List ℕ) (id found : LpId) (all here : ℕ) → IsHeld m → Grows m k
+    → AreProducts (declarations_of m) m.table types → id.0 < length m.table → found.0 < length k.table → here < all
+    → IsProduct m id k all here (inferred.Found found)
     → ((t r : LpId) → IsNoted more t r → IsNoted types t r ⊎ ((t ≡ id) × (r ≡ found))) → AreProducts (declarations_of k) k.table more
 AreProducts-noted m k types more id found all here held g h known found_known less p noted = record {
-  each = λ t r i. ⊎_elim (λ old. (AreProducts-Grows m k types held g h).each t r old) (λ new. subst (λ x. IsProductOf ds k.table x r) (sym new.0) (subst (λ y. IsProductOf ds k.table id y) (sym new.1) fact)) (noted t r i);
+  each = λ t r i. ⊎_elim (λ old. (AreProducts-Grows m k types held g h).each t r old)
+      (λ new. subst (λ x. IsProductOf ds k.table x r) (sym new.0) (subst (λ y. IsProductOf ds k.table id y) (sym new.1) fact)) (noted t r i);
 }
   where
     ds : List Declaration
@@ -180,5 +203,6 @@ AreProducts-noted m k types more id found all here held g h known found_known le
     fact = record {
       known = omega (arith, known, g.keeps.longer);
       found_known = found_known;
-      answered = subst (λ t. Answered ds true (reach ds t) (Found (tree_at k.table found.0)) 1) (tree_at-Stays g.keeps.stays id.0 known) (record { price = p.price; ends = p.ends; within = omega (arith, p.within, less) });
+      answered = subst (λ t. Answered ds true (reach ds t) (Found (tree_at k.table found.0)) 1) (tree_at-Stays g.keeps.stays id.0 known)
+          (record { price = p.price; ends = p.ends; within = omega (arith, p.within, less) });
     }

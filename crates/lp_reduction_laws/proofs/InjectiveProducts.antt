@@ -19,8 +19,10 @@ record FromPi (m : List Declaration) (a b u : Tree) : Type 0 where
 -- a product goes to a product
 Steps-Pi : {m : List Declaration} {a b u : Tree} → Steps m (Pi a b) u → FromPi m a b u
 Steps-Pi done = record { domain = _; body = _; is = refl; domain_by = done; body_by = done }
-Steps-Pi (next (pi_domain h) r) = let g = Steps-Pi r in record { domain = g.domain; body = g.body; is = g.is; domain_by = next h g.domain_by; body_by = g.body_by }
-Steps-Pi (next (pi_body h) r) = let g = Steps-Pi r in record { domain = g.domain; body = g.body; is = g.is; domain_by = g.domain_by; body_by = next h g.body_by }
+Steps-Pi (next (pi_domain h) r) = let g = Steps-Pi r in record
+    { domain = g.domain; body = g.body; is = g.is; domain_by = next h g.domain_by; body_by = g.body_by }
+Steps-Pi (next (pi_body h) r) = let g = Steps-Pi r in record
+    { domain = g.domain; body = g.body; is = g.is; domain_by = g.domain_by; body_by = next h g.body_by }
 
 -- the domain of a product
 abbrev domain_of : Tree → Tree

@@ -58,7 +58,8 @@ module _ (m : List Declaration) where
     Parallel-ren r (p_pi a b) = p_pi (Parallel-ren r a) (Parallel-ren (up r) b)
     Parallel-ren r (p_beta {d = d} {y = y} b x e) = p_beta (Parallel-ren (up r) b) (Parallel-ren r x) (sym (ren-put r y d) ∙ ap (ren r) e)
     Parallel-ren r (p_delta {s = s} {u = u} h) = p_delta (h ∙ ap Some (sym (ren_closed r u (closed.definitions s u h))))
-    Parallel-ren r (p_rule {c = c} {d = d} a b e) = p_rule (Parallel-ren r a) (Parallel-ren r b) (ap (Pi (term_of (ren r c))) (sym (ren-lift r (term_of d))) ∙ ap (ren r) e)
+    Parallel-ren r (p_rule {c = c} {d = d} a b e) =
+        p_rule (Parallel-ren r a) (Parallel-ren r b) (ap (Pi (term_of (ren r c))) (sym (ren-lift r (term_of d))) ∙ ap (ren r) e)
 
     -- lifting keeps parallel steps
     pub Parallel-lift : {t u : Tree} → Parallel m t u → Parallel m (lift 1 t) (lift 1 u)
@@ -78,9 +79,11 @@ module _ (m : List Declaration) where
     Parallel-sub s w h (p_app f x) = p_app (Parallel-sub s w h f) (Parallel-sub s w h x)
     Parallel-sub s w h (p_lam a b) = p_lam (Parallel-sub s w h a) (Parallel-sub (ups s) (ups w) (Parallel-ups s w h) b)
     Parallel-sub s w h (p_pi a b) = p_pi (Parallel-sub s w h a) (Parallel-sub (ups s) (ups w) (Parallel-ups s w h) b)
-    Parallel-sub s w h (p_beta {d = d} {y = y} b x e) = p_beta (Parallel-sub (ups s) (ups w) (Parallel-ups s w h) b) (Parallel-sub s w h x) (sym (sub-put w y d) ∙ ap (sub w) e)
+    Parallel-sub s w h (p_beta {d = d} {y = y} b x e) =
+        p_beta (Parallel-sub (ups s) (ups w) (Parallel-ups s w h) b) (Parallel-sub s w h x) (sym (sub-put w y d) ∙ ap (sub w) e)
     Parallel-sub s w h (p_delta {s = j} {u = u} k) = p_delta (k ∙ ap Some (sym (sub_closed w u (closed.definitions j u k))))
-    Parallel-sub s w h (p_rule {c = c} {d = d} a b e) = p_rule (Parallel-sub s w h a) (Parallel-sub s w h b) (ap (Pi (term_of (sub w c))) (sym (sub-lift w (term_of d))) ∙ ap (sub w) e)
+    Parallel-sub s w h (p_rule {c = c} {d = d} a b e) =
+        p_rule (Parallel-sub s w h a) (Parallel-sub s w h b) (ap (Pi (term_of (sub w c))) (sym (sub-lift w (term_of d))) ∙ ap (sub w) e)
 
     -- parallel steps of what is put for a variable
     Parallel-cons : {x y : Tree} → Parallel m x y → (n : ℕ) → Parallel m (cons x Var n) (cons y Var n)

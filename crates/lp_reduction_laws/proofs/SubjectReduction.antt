@@ -26,12 +26,15 @@ module _ (m : List Declaration) (sound : IsSound m) where
   Conv-put_step B h = Steps-Conv (Parallel-Steps (Parallel-put m closed (Step-Parallel m h) (Parallel-refl m B)))
 
   -- an argument of a symbol that takes a simple type is one, and the type of the whole fits
-  simple_argument : {G : List Tree} {s : ℕ} {x T : Tree} (B : Tree) → IsContext m G → symbol_type m s ≡ Some (Pi types B) → Typed m G (App (Sym s) x) T → Typed m G x types × Fits m G (put x B) T
+  simple_argument : {G : List Tree} {s : ℕ} {x T : Tree} (B : Tree) → IsContext m G → symbol_type m s ≡ Some (Pi types B) → Typed m G (App (Sym s) x) T
+      → Typed m G x types × Fits m G (put x B) T
   simple_argument {x = x} B c e h =
       let a = Typed-App h in
       let o = Typed-Sym a.function in
-      let p = Conv-Pi m closed (subst (λ w. Conv m w (Pi a.domain a.codomain)) (same_Some _ _ (sym o.declared ∙ e)) (Fits-Conv o.fits)) in
-      (of_conversion a.argument (Conv-sym p.0) (Typed-types m) is_type, Fits-before (Conv-put m closed x p.1) (IsSorted-codomain m sound c a.function a.argument) a.fits)
+      let p = Conv-Pi m closed (subst (λ w. Conv m w (Pi a.domain a.codomain)) (same_Some _ _ (sym o.declared ∙ e)) (Fits-Conv o.fits)) in (
+        of_conversion a.argument (Conv-sym p.0) (Typed-types m) is_type,
+        Fits-before (Conv-put m closed x p.1) (IsSorted-codomain m sound c a.function a.argument) a.fits,
+      )
 
   -- over a sound module a step keeps the type
   pub Typed-Step : {t u : Tree} → Step m t u → {G : List Tree} {T : Tree} → IsContext m G → Typed m G t T → Typed m G u T

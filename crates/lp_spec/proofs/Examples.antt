@@ -41,19 +41,25 @@ reflexivity_bound = refl
 export_bound : bound smallest export ≡ 10648000
 export_bound = refl
 
-reflexivity_text : declaration_text smallest reflexivity 13144256 ≡ codes "(; bound 13144256 ;)\nthm T0 : v0 : term bool -> proof (eq bool v0 v0) := v0 : term bool => refl bool v0.\n"
+reflexivity_text : declaration_text smallest reflexivity 13144256
+    ≡ codes "(; bound 13144256 ;)\nthm T0 : v0 : term bool -> proof (eq bool v0 v0) := v0 : term bool => refl bool v0.\n"
 unfolding digits
 reflexivity_text = refl
 
-export_text : declaration_text smallest export 10648000 ≡ codes "(; bound 10648000 ;)\nthm E0 : v0 : term bool -> proof (eq bool v0 v0) := v0 : term bool => T0 v0.\n"
+export_text : declaration_text smallest export 10648000
+    ≡ codes "(; bound 10648000 ;)\nthm E0 : v0 : term bool -> proof (eq bool v0 v0) := v0 : term bool => T0 v0.\n"
 unfolding digits
 export_text = refl
 
-sym_text : declaration_text lemmas sym_lemma 10764582912 ≡ codes "(; bound 10764582912 ;)\nthm sym : v0 : type -> v1 : term v0 -> v2 : term v0 -> v3 : proof (eq v0 v1 v2) -> proof (eq v0 v2 v1) := v0 : type => v1 : term v0 => v2 : term v0 => v3 : proof (eq v0 v1 v2) => eq_mp (eq v0 v1 v1) (eq v0 v2 v1) (app_thm v0 bool (eq v0 v1) (eq v0 v2) v1 v1 (app_thm v0 (arr v0 bool) (eq v0) (eq v0) v1 v2 (refl (arr v0 (arr v0 bool)) (eq v0)) v3) (refl v0 v1)) (refl v0 v1).\n"
+sym_text : declaration_text lemmas sym_lemma 10764582912
+    ≡ codes
+    "(; bound 10764582912 ;)\nthm sym : v0 : type -> v1 : term v0 -> v2 : term v0 -> v3 : proof (eq v0 v1 v2) -> proof (eq v0 v2 v1) := v0 : type => v1 : term v0 => v2 : term v0 => v3 : proof (eq v0 v1 v2) => eq_mp (eq v0 v1 v1) (eq v0 v2 v1) (app_thm v0 bool (eq v0 v1) (eq v0 v2) v1 v1 (app_thm v0 (arr v0 bool) (eq v0) (eq v0) v1 v2 (refl (arr v0 (arr v0 bool)) (eq v0)) v3) (refl v0 v1)) (refl v0 v1).\n"
 unfolding digits
 sym_text = refl
 
-trans_text : declaration_text lemmas trans_lemma 5451776000 ≡ codes "(; bound 5451776000 ;)\nthm trans : v0 : type -> v1 : term v0 -> v2 : term v0 -> v3 : term v0 -> v4 : proof (eq v0 v1 v2) -> v5 : proof (eq v0 v2 v3) -> proof (eq v0 v1 v3) := v0 : type => v1 : term v0 => v2 : term v0 => v3 : term v0 => v4 : proof (eq v0 v1 v2) => v5 : proof (eq v0 v2 v3) => eq_mp (eq v0 v1 v2) (eq v0 v1 v3) (app_thm v0 bool (eq v0 v1) (eq v0 v1) v2 v3 (refl (arr v0 bool) (eq v0 v1)) v5) v4.\n"
+trans_text : declaration_text lemmas trans_lemma 5451776000
+    ≡ codes
+    "(; bound 5451776000 ;)\nthm trans : v0 : type -> v1 : term v0 -> v2 : term v0 -> v3 : term v0 -> v4 : proof (eq v0 v1 v2) -> v5 : proof (eq v0 v2 v3) -> proof (eq v0 v1 v3) := v0 : type => v1 : term v0 => v2 : term v0 => v3 : term v0 => v4 : proof (eq v0 v1 v2) => v5 : proof (eq v0 v2 v3) => eq_mp (eq v0 v1 v2) (eq v0 v1 v3) (app_thm v0 bool (eq v0 v1) (eq v0 v1) v2 v3 (refl (arr v0 bool) (eq v0 v1)) v5) v4.\n"
 unfolding digits
 trans_text = refl
 

@@ -32,15 +32,18 @@ abbrev functions : Tree
 functions = arr_of bools bools
 
 -- a short name in a definition of another reads as its body
-both : read_end (read_bytes (Inside 1000 Nothing [] Between) (codes "def X0 : type := arr bool bool.\ndef X1 : type := arr X0 X0.\n")) ≡ reads (definition (codes "X0") types functions ∷ definition (codes "X1") types (arr_of functions functions) ∷ [])
+both : read_end (read_bytes (Inside 1000 Nothing [] Between) (codes "def X0 : type := arr bool bool.\ndef X1 : type := arr X0 X0.\n"))
+    ≡ reads (definition (codes "X0") types functions ∷ definition (codes "X1") types (arr_of functions functions) ∷ [])
 both = refl
 
 -- a theorem, a symbol and a name with a leading zero are symbols as ever
-no_definition : read_end (read_bytes (Inside 1000 Nothing [] Between) (codes "X0 : type. def X01 : type := X0. z : term X0 -> term X01.")) ≡ reads (symbol (codes "X0") types ∷ definition (codes "X01") types (Sym 18) ∷ symbol (codes "z") (Pi (term_of (Sym 18)) (term_of (Sym 19))) ∷ [])
+no_definition : read_end (read_bytes (Inside 1000 Nothing [] Between) (codes "X0 : type. def X01 : type := X0. z : term X0 -> term X01."))
+    ≡ reads (symbol (codes "X0") types ∷ definition (codes "X01") types (Sym 18) ∷ symbol (codes "z") (Pi (term_of (Sym 18)) (term_of (Sym 19))) ∷ [])
 no_definition = refl
 
 -- a binder hides a short name, and a short name can't be declared twice
-hidden : read_end (read_bytes (Inside 1000 Nothing [] Between) (codes "def X0 : type := arr bool bool. z : X0 : type -> term X0.")) ≡ reads (definition (codes "X0") types functions ∷ symbol (codes "z") (Pi types (term_of (Var 0))) ∷ [])
+hidden : read_end (read_bytes (Inside 1000 Nothing [] Between) (codes "def X0 : type := arr bool bool. z : X0 : type -> term X0."))
+    ≡ reads (definition (codes "X0") types functions ∷ symbol (codes "z") (Pi types (term_of (Var 0))) ∷ [])
 hidden = refl
 
 twice : read_end (read_bytes (Inside 1000 Nothing [] Between) (codes "def X0 : type := bool. X0 : type.")) ≡ refused (refusal 1023 (NameTwice (codes "X0")))
@@ -66,11 +69,13 @@ smallest = sym_lemma ∷ trans_lemma ∷ shorts ∷ reflexivity ∷ export ∷ [
 shorts_text : declaration_text smallest (shortened_declaration lemmas shorts) 0 ≡ codes "def X0 : term (arr bool (arr bool bool)) := eq bool.\n"
 shorts_text = refl
 
-reflexivity_text : declaration_text smallest (shortened_declaration (lemmas ++ shorts ∷ []) reflexivity) 13144256 ≡ codes "(; bound 13144256 ;)\nthm T0 : v0 : term bool -> proof (X0 v0 v0) := v0 : term bool => refl bool v0.\n"
+reflexivity_text : declaration_text smallest (shortened_declaration (lemmas ++ shorts ∷ []) reflexivity) 13144256
+    ≡ codes "(; bound 13144256 ;)\nthm T0 : v0 : term bool -> proof (X0 v0 v0) := v0 : term bool => refl bool v0.\n"
 unfolding digits
 reflexivity_text = refl
 
-export_text : declaration_text smallest (shortened_declaration (lemmas ++ shorts ∷ reflexivity ∷ []) export) 10648000 ≡ codes "(; bound 10648000 ;)\nthm E0 : v0 : term bool -> proof (X0 v0 v0) := v0 : term bool => T0 v0.\n"
+export_text : declaration_text smallest (shortened_declaration (lemmas ++ shorts ∷ reflexivity ∷ []) export) 10648000
+    ≡ codes "(; bound 10648000 ;)\nthm E0 : v0 : term bool -> proof (X0 v0 v0) := v0 : term bool => T0 v0.\n"
 unfolding digits
 export_text = refl
 

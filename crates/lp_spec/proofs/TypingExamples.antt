@@ -66,7 +66,8 @@ p_is_p m = of_application (of_application (of_symbol refl) (of_symbol refl) refl
 -- a variable of type y is of type bool
 y_is_bool : Typed (y ∷ []) (term_of first ∷ []) (Var 0) (term_of bools)
 y_is_bool =
-    of_conversion {A = term_of first} (of_variable refl refl) (forth (app_argument y_unfolds) same) (of_application (of_symbol refl) (of_symbol refl) refl) is_type
+    of_conversion {A = term_of first} (of_variable refl refl) (forth (app_argument y_unfolds) same) (of_application (of_symbol refl) (of_symbol refl) refl)
+    is_type
 
 -- a definition without a body is no declaration
 bodiless : IsBodyOf [] Def None types → ⊥

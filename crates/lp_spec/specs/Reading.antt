@@ -69,9 +69,14 @@ pub record IsWhole (m : List Declaration) (tokens rest : List Placed) (t : Tree)
 
 -- between the tokens stands this declaration
 pub data Declares (m : List Declaration) : List Placed → List Placed → Declaration → Type 0 where
-  symbol_declaration : {tokens rest : List Placed} {p q r : ℕ} {name : List ℕ} {ty : Tree} → IsNew m name → IsWhole m tokens (at r Dot ∷ rest) ty → Declares m (at p (Name name) ∷ at q Colon ∷ tokens) rest (record { name = name; form = Symbol; ty = ty; body = None })
-  definition : {tokens more rest : List Placed} {o p q r s : ℕ} {name : List ℕ} {ty body : Tree} → IsNew m name → IsWhole m tokens (at r Assign ∷ more) ty → IsWhole m more (at s Dot ∷ rest) body → Declares m (at o DefWord ∷ at p (Name name) ∷ at q Colon ∷ tokens) rest (record { name = name; form = Def; ty = ty; body = Some body })
-  theorem : {tokens more rest : List Placed} {o p q r s : ℕ} {name : List ℕ} {ty body : Tree} → IsNew m name → IsWhole m tokens (at r Assign ∷ more) ty → IsWhole m more (at s Dot ∷ rest) body → Declares m (at o ThmWord ∷ at p (Name name) ∷ at q Colon ∷ tokens) rest (record { name = name; form = Thm; ty = ty; body = Some body })
+  symbol_declaration : {tokens rest : List Placed} {p q r : ℕ} {name : List ℕ} {ty : Tree} → IsNew m name → IsWhole m tokens (at r Dot ∷ rest) ty
+      → Declares m (at p (Name name) ∷ at q Colon ∷ tokens) rest (record { name = name; form = Symbol; ty = ty; body = None })
+  definition : {tokens more rest : List Placed} {o p q r s : ℕ} {name : List ℕ} {ty body : Tree} → IsNew m name → IsWhole m tokens (at r Assign ∷ more) ty
+      → IsWhole m more (at s Dot ∷ rest) body → Declares m (at o DefWord ∷ at p (Name name) ∷ at q Colon ∷ tokens) rest
+      (record { name = name; form = Def; ty = ty; body = Some body })
+  theorem : {tokens more rest : List Placed} {o p q r s : ℕ} {name : List ℕ} {ty body : Tree} → IsNew m name → IsWhole m tokens (at r Assign ∷ more) ty
+      → IsWhole m more (at s Dot ∷ rest) body → Declares m (at o ThmWord ∷ at p (Name name) ∷ at q Colon ∷ tokens) rest
+      (record { name = name; form = Thm; ty = ty; body = Some body })
 
 -- the tokens declare what comes after these declarations, and all together are these
 pub data Completes : List Declaration → List Placed → List Declaration → Type 0 where

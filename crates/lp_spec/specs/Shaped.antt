@@ -113,7 +113,8 @@ pub data IsLaw (m : List Declaration) : List Tree → Tree → Tree → Type 0 w
   law_last : {G : List Tree} {h p : Tree} → 3 ≤ size h → IsLast m G h (proof_of p) → IsLaw m G h (proof_of p)
   at_close_equation : {G : List Tree} {f h l r A F B : Tree} → IsProof m true G f (Pi (proof_of (eq_of bools l r)) A) → IsTerm m G l bools → IsTerm m G r bools
       → size l + size r ≤ size f
-      → spreads m [] l + spreads m [] r ≤ spreads m (h ∷ []) f → IsLast m G h F → Close m 3 (proof_of (eq_of bools l r)) F → put h A ≡ proof_of B → IsLaw m G (App f h) (proof_of B)
+      → spreads m [] l + spreads m [] r ≤ spreads m (h ∷ []) f → IsLast m G h F → Close m 3 (proof_of (eq_of bools l r)) F → put h A ≡ proof_of B
+      → IsLaw m G (App f h) (proof_of B)
   law_under : {G : List Tree} {a t A : Tree} → IsDeclared m G a → IsLaw m (a ∷ G) t A → IsLaw m G (Lam a t) (Pi a A)
 
 -- a definition by a call under its type variables: `sub K`, `sub_abs K`, `sub_rep K`

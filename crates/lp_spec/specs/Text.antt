@@ -33,15 +33,22 @@ prelude_lines =
     ∷ SymbolLine (codes "select") (codes " : a : type -> term (arr (arr a bool) a).")
     ∷ SymbolLine (codes "proof") (codes " : term bool -> Type.")
     ∷ SymbolLine (codes "refl") (codes " : a : type -> x : term a -> proof (eq a x x).")
-    ∷ SymbolLine (codes "fun_ext") (codes " : a : type -> b : type -> f : term (arr a b) -> g : term (arr a b) -> (x : term a -> proof (eq b (f x) (g x))) -> proof (eq (arr a b) f g).")
-    ∷ SymbolLine (codes "app_thm") (codes " : a : type -> b : type -> f : term (arr a b) -> g : term (arr a b) -> x : term a -> y : term a -> proof (eq (arr a b) f g) -> proof (eq a x y) -> proof (eq b (f x) (g y)).")
+    ∷ SymbolLine (codes "fun_ext")
+    (codes " : a : type -> b : type -> f : term (arr a b) -> g : term (arr a b) -> (x : term a -> proof (eq b (f x) (g x))) -> proof (eq (arr a b) f g).")
+    ∷ SymbolLine (codes "app_thm")
+    (codes
+    " : a : type -> b : type -> f : term (arr a b) -> g : term (arr a b) -> x : term a -> y : term a -> proof (eq (arr a b) f g) -> proof (eq a x y) -> proof (eq b (f x) (g y)).")
     ∷ SymbolLine (codes "prop_ext") (codes " : p : term bool -> q : term bool -> (proof p -> proof q) -> (proof q -> proof p) -> proof (eq bool p q).")
     ∷ SymbolLine (codes "eq_mp") (codes " : p : term bool -> q : term bool -> proof (eq bool p q) -> proof p -> proof q.")
     ∷ SymbolLine (codes "sub") (codes " : a : type -> p : term (arr a bool) -> w : term a -> proof (p w) -> type.")
     ∷ SymbolLine (codes "sub_abs") (codes " : a : type -> p : term (arr a bool) -> w : term a -> h : proof (p w) -> term (arr a (sub a p w h)).")
     ∷ SymbolLine (codes "sub_rep") (codes " : a : type -> p : term (arr a bool) -> w : term a -> h : proof (p w) -> term (arr (sub a p w h) a).")
-    ∷ SymbolLine (codes "sub_abs_rep") (codes " : a : type -> p : term (arr a bool) -> w : term a -> h : proof (p w) -> x : term (sub a p w h) -> proof (eq (sub a p w h) (sub_abs a p w h (sub_rep a p w h x)) x).")
-    ∷ SymbolLine (codes "sub_rep_abs") (codes " : a : type -> p : term (arr a bool) -> w : term a -> h : proof (p w) -> x : term a -> proof (eq bool (eq a (sub_rep a p w h (sub_abs a p w h x)) x) (p x)).")
+    ∷ SymbolLine (codes "sub_abs_rep")
+    (codes
+    " : a : type -> p : term (arr a bool) -> w : term a -> h : proof (p w) -> x : term (sub a p w h) -> proof (eq (sub a p w h) (sub_abs a p w h (sub_rep a p w h x)) x).")
+    ∷ SymbolLine (codes "sub_rep_abs")
+    (codes
+    " : a : type -> p : term (arr a bool) -> w : term a -> h : proof (p w) -> x : term a -> proof (eq bool (eq a (sub_rep a p w h (sub_abs a p w h x)) x) (p x)).")
     ∷ []
 
 -- the bytes with which every module begins

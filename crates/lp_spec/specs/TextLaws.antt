@@ -61,8 +61,10 @@ pub record IsLineOf (name rest : List ℕ) (d : Declaration) : Type 0 where
 -- The two sides of a rewriting rule, over the variables a and b, read as those of the conversion rule: `term (arr a b)` becomes
 -- `term a -> term b`.
 pub record IsConversionRule (left right : List ℕ) : Type 0 where
-  pub from : Reads (prelude ++ codes "z : a : type -> b : type -> " ++ left ++ codes ".") (symbol (codes "z") (Pi types (Pi types (term_of (arr_of (Var 1) (Var 0))))) ∷ [])
-  pub to : Reads (prelude ++ codes "z : a : type -> b : type -> " ++ right ++ codes ".") (symbol (codes "z") (Pi types (Pi types (Pi (term_of (Var 1)) (lift 1 (term_of (Var 0)))))) ∷ [])
+  pub from : Reads (prelude ++ codes "z : a : type -> b : type -> " ++ left ++ codes ".")
+      (symbol (codes "z") (Pi types (Pi types (term_of (arr_of (Var 1) (Var 0))))) ∷ [])
+  pub to : Reads (prelude ++ codes "z : a : type -> b : type -> " ++ right ++ codes ".")
+      (symbol (codes "z") (Pi types (Pi types (Pi (term_of (Var 1)) (lift 1 (term_of (Var 0)))))) ∷ [])
 
 -- these lines declare these symbols, one after another, and each rule among them is that of conversion
 abbrev pub AreLinesOf : List Line → List Declaration → Type 0

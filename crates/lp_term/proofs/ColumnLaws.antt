@@ -17,13 +17,15 @@ use Rattle.lp_term.specs.Columns.{trees_from, trees_of}
 use Rattle.lp_binding_laws.specs.LookUps.{slice_get-last}
 
 -- a shape more is a tree more
-pub trees_from-append : (ts : List Tree) (ss : List Shape) (s : Shape) → trees_from ts (ss ++ s ∷ []) ≡ trees_from ts ss ++ tree_of_node (trees_from ts ss) (node_of s) ∷ []
+pub trees_from-append : (ts : List Tree) (ss : List Shape) (s : Shape) → trees_from ts (ss ++ s ∷ []) ≡ trees_from ts ss
+    ++ tree_of_node (trees_from ts ss) (node_of s) ∷ []
 trees_from-append ts [] s = refl
 trees_from-append ts (m ∷ ss) s = trees_from-append (ts ++ tree_of_node ts (node_of m) ∷ []) ss s
 
 pub length-trees_from : (ts : List Tree) (ss : List Shape) → length (trees_from ts ss) ≡ length ts + length ss
 length-trees_from ts [] = omega arith
-length-trees_from ts (s ∷ ss) = omega (arith, length-trees_from (ts ++ tree_of_node ts (node_of s) ∷ []) ss, length-append ts (tree_of_node ts (node_of s) ∷ []))
+length-trees_from ts (s ∷ ss) = omega
+    (arith, length-trees_from (ts ++ tree_of_node ts (node_of s) ∷ []) ss, length-append ts (tree_of_node ts (node_of s) ∷ []))
 
 pub length-trees_of : (ss : List Shape) → length (trees_of ss) ≡ length ss
 length-trees_of ss = omega (arith, length-trees_from [] ss)
@@ -33,7 +35,8 @@ Stays-trees_from ts [] = Stays-refl ts
 Stays-trees_from ts (s ∷ ss) = Stays-trans (Stays-append ts (tree_of_node ts (node_of s) ∷ [])) (Stays-trees_from (ts ++ tree_of_node ts (node_of s) ∷ []) ss)
 
 -- the tree of each shape is that of its parts among all trees
-node_from : (ts : List Tree) (ss : List Shape) (j : ℕ) (m : Shape) → slice_get ss j ≡ Some m → PartsBelow (length ts + j) (node_of m) → slice_get (trees_from ts ss) (length ts + j) ≡ Some (tree_of_node (trees_from ts ss) (node_of m))
+node_from : (ts : List Tree) (ss : List Shape) (j : ℕ) (m : Shape) → slice_get ss j ≡ Some m → PartsBelow (length ts + j) (node_of m)
+    → slice_get (trees_from ts ss) (length ts + j) ≡ Some (tree_of_node (trees_from ts ss) (node_of m))
 node_from ts [] j m e h = absurd (let h = slice_get_within [] j m e in omega arith)
 node_from ts (n ∷ ss) zero m e h =
     let z : length ts + 0 ≡ length ts = omega arith in
@@ -47,10 +50,12 @@ node_from ts (n ∷ ss) zero m e h =
 node_from ts (n ∷ ss) (suc j) m e h =
     let us = ts ++ tree_of_node ts (node_of n) ∷ [] in
     let z : length us + j ≡ length ts + suc j = omega (arith, length-append ts (tree_of_node ts (node_of n) ∷ [])) in
-    subst (λ w. slice_get (trees_from us ss) w ≡ Some (tree_of_node (trees_from us ss) (node_of m))) z (node_from us ss j m e (subst (λ w. PartsBelow w (node_of m)) (sym z) h))
+    subst (λ w. slice_get (trees_from us ss) w ≡ Some (tree_of_node (trees_from us ss) (node_of m))) z
+    (node_from us ss j m e (subst (λ w. PartsBelow w (node_of m)) (sym z) h))
 
 -- the tree of each shape of a table
-pub trees_of-Holds : (ss : List Shape) (i : ℕ) (s : Shape) → PartsBelow i (node_of s) → slice_get ss i ≡ Some s → Holds (trees_of ss) i (tree_of_node (trees_of ss) (node_of s))
+pub trees_of-Holds : (ss : List Shape) (i : ℕ) (s : Shape) → PartsBelow i (node_of s) → slice_get ss i ≡ Some s
+    → Holds (trees_of ss) i (tree_of_node (trees_of ss) (node_of s))
 trees_of-Holds ss i s low at =
     let r = node_from [] ss i s at (subst (λ w. PartsBelow w (node_of s)) (let z : i ≡ 0 + i = omega arith in z) low) in
     subst (λ w. slice_get (trees_of ss) w ≡ Some (tree_of_node (trees_of ss) (node_of s))) (let z : 0 + i ≡ i = omega arith in z) r
@@ -106,13 +111,17 @@ tree_at-same {ts = ts} d f g hf hg e =
     let p = d.each f.0 g.0 (tree_at ts g.0) (tree_at-Holds ts f.0 hf ∙ ap Some e) (tree_at-Holds ts g.0 hg) in
     λ i. record { 0 = p i }
 
-pub tree_of_node-same : {ts : List Tree} → IsDistinct ts → (m n : LpNode) → PartsBelow (length ts) m → PartsBelow (length ts) n → tree_of_node ts m ≡ tree_of_node ts n → m ≡ n
+pub tree_of_node-same : {ts : List Tree} → IsDistinct ts → (m n : LpNode) → PartsBelow (length ts) m → PartsBelow (length ts) n → tree_of_node ts m
+    ≡ tree_of_node ts n → m ≡ n
 unfolding left_of right_of
 tree_of_node-same d node.SortType node.SortType hm hn e = refl
 tree_of_node-same d node.SortKind node.SortKind hm hn e = refl
 tree_of_node-same d (node.Var a) (node.Var b) hm hn e = cc
 tree_of_node-same d (node.Sym a) (node.Sym b) hm hn e = cc
-tree_of_node-same d (node.App f x) (node.App g y) hm hn e = ap₂ node.App (tree_at-same d f g hm.0 hn.0 (ap left_of e)) (tree_at-same d x y hm.1 hn.1 (ap right_of e))
-tree_of_node-same d (node.Lam f x) (node.Lam g y) hm hn e = ap₂ node.Lam (tree_at-same d f g hm.0 hn.0 (ap left_of e)) (tree_at-same d x y hm.1 hn.1 (ap right_of e))
-tree_of_node-same d (node.Pi f x) (node.Pi g y) hm hn e = ap₂ node.Pi (tree_at-same d f g hm.0 hn.0 (ap left_of e)) (tree_at-same d x y hm.1 hn.1 (ap right_of e))
+tree_of_node-same d (node.App f x) (node.App g y) hm hn e =
+    ap₂ node.App (tree_at-same d f g hm.0 hn.0 (ap left_of e)) (tree_at-same d x y hm.1 hn.1 (ap right_of e))
+tree_of_node-same d (node.Lam f x) (node.Lam g y) hm hn e =
+    ap₂ node.Lam (tree_at-same d f g hm.0 hn.0 (ap left_of e)) (tree_at-same d x y hm.1 hn.1 (ap right_of e))
+tree_of_node-same d (node.Pi f x) (node.Pi g y) hm hn e =
+    ap₂ node.Pi (tree_at-same d f g hm.0 hn.0 (ap left_of e)) (tree_at-same d x y hm.1 hn.1 (ap right_of e))
 tree_of_node-same d _ _ hm hn e = absurd (cc)

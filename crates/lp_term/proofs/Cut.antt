@@ -19,7 +19,8 @@ trees_from-two ts (n ∷ a) b = trees_from-two (ts ++ tree_of_node ts (node_of n
 
 goes_on : (ts : List Tree) (ss : List Shape) → (l : List Tree) × (ts ++ l ≡ trees_from ts ss)
 goes_on ts [] = ([], append-nil ts)
-goes_on ts (n ∷ ss) = let h = goes_on (ts ++ tree_of_node ts (node_of n) ∷ []) ss in (tree_of_node ts (node_of n) ∷ h.0, sym (append_assoc ts (tree_of_node ts (node_of n) ∷ []) h.0) ∙ h.1)
+goes_on ts (n ∷ ss) = let h = goes_on (ts ++ tree_of_node ts (node_of n) ∷ []) ss in
+    (tree_of_node ts (node_of n) ∷ h.0, sym (append_assoc ts (tree_of_node ts (node_of n) ∷ []) h.0) ∙ h.1)
 
 split : (n : ℕ) (ss : List Shape) → trees_of ss ≡ trees_from (trees_of (take n ss)) (drop n ss)
 split n ss = ap trees_of (sym (take-append-drop n ss)) ∙ trees_from-two [] (take n ss) (drop n ss)

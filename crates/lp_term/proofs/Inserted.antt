@@ -24,13 +24,16 @@ IsDistinct-more ts u d absent = record {
 }
 
 -- a shape of a table is under the number of its tree
-pub Holds-found : (ss : List Shape) (ms : List Measures) (s : Shape) (i : ℕ) → IsTable ss ms → slice_get ss i ≡ Some s → Holds (trees_of ss) i (tree_of_node (trees_of ss) (node_of s))
+pub Holds-found : (ss : List Shape) (ms : List Measures) (s : Shape) (i : ℕ) → IsTable ss ms → slice_get ss i ≡ Some s
+    → Holds (trees_of ss) i (tree_of_node (trees_of ss) (node_of s))
 Holds-found ss ms s i t at = trees_of-Holds ss i s (t.lower i s at) at
 
 -- a shape that the table lacks, over parts that it has
-module _ (ss : List Shape) (ms : List Measures) (s : Shape) (t : IsTable ss ms) (p : PartsBelow (length (trees_of ss)) (node_of s)) (none : (j : ℕ) → slice_get ss j ≡ Some s → ⊥) where
+module _ (ss : List Shape) (ms : List Measures) (s : Shape) (t : IsTable ss ms) (p : PartsBelow (length (trees_of ss)) (node_of s))
+    (none : (j : ℕ) → slice_get ss j ≡ Some s → ⊥) where
   lower : (i : ℕ) (o : Shape) → slice_get (ss ++ s ∷ []) i ≡ Some o → PartsBelow i (node_of o)
-  lower i o at = ⊎_elim (λ h. t.lower i o h) (λ h. subst₂ (λ n w. PartsBelow n (node_of w)) (length-trees_of ss ∙ sym h.0) h.1 p) (slice_get-one_more ss s o i at)
+  lower i o at = ⊎_elim (λ h. t.lower i o h) (λ h. subst₂ (λ n w. PartsBelow n (node_of w)) (length-trees_of ss ∙ sym h.0) h.1 p)
+      (slice_get-one_more ss s o i at)
 
   clash : (i : ℕ) → Holds (trees_of ss) i (tree_of_node (trees_of ss) (node_of s)) → ⊥
   clash i held =
@@ -38,14 +41,20 @@ module _ (ss : List Shape) (ms : List Measures) (s : Shape) (t : IsTable ss ms) 
       let at = slice_get-get_or ss i s lt in
       let o = get_or ss i s in
       let below = t.lower i o at in
-      let same = node_of-same o s (tree_of_node-same t.distinct (node_of o) (node_of s) (PartsBelow-more (omega (arith, length-trees_of ss)) (node_of o) below) p (same_Some _ _ (sym (trees_of-Holds ss i o below at) ∙ held))) in
+      let same = node_of-same o s
+      (tree_of_node-same t.distinct (node_of o) (node_of s) (PartsBelow-more (omega (arith, length-trees_of ss)) (node_of o) below) p
+      (same_Some _ _ (sym (trees_of-Holds ss i o below at) ∙ held))) in
       none i (at ∙ ap Some same)
 
   -- with the measures of its tree it leaves a table
   pub IsTable-more : (more : List Measures) → AreMeasured more (trees_of ss ++ tree_of_node (trees_of ss) (node_of s) ∷ []) → IsTable (ss ++ s ∷ []) more
   IsTable-more more a =
       let g = sym (trees_from-append [] ss s) in
-      record { lower = lower; distinct = subst IsDistinct g (IsDistinct-more (trees_of ss) (tree_of_node (trees_of ss) (node_of s)) t.distinct clash); measured = subst (AreMeasured more) g a }
+      record {
+        lower = lower;
+        distinct = subst IsDistinct g (IsDistinct-more (trees_of ss) (tree_of_node (trees_of ss) (node_of s)) t.distinct clash);
+        measured = subst (AreMeasured more) g a;
+      }
 
 -- the last tree of a table that grew
 pub Holds-last : (ss : List Shape) (s : Shape) → Holds (trees_of (ss ++ s ∷ [])) (length ss) (tree_of_node (trees_of ss) (node_of s))

@@ -15,7 +15,8 @@ pub AreMeasured-at : (ms : List Measures) (ts : List Tree) (i : ℕ) (m : Measur
 AreMeasured-at ms ts i m a at = a.each i m (tree_at ts i) at (tree_at-Holds ts i (omega (arith, a.counted, slice_get_within ms i m at)))
 
 -- a tree more has measures more
-pub AreMeasured-more : (ms : List Measures) (ts : List Tree) (m : Measures) (t : Tree) → AreMeasured ms ts → IsMeasured m t → AreMeasured (ms ++ m ∷ []) (ts ++ t ∷ [])
+pub AreMeasured-more : (ms : List Measures) (ts : List Tree) (m : Measures) (t : Tree) → AreMeasured ms ts → IsMeasured m t
+    → AreMeasured (ms ++ m ∷ []) (ts ++ t ∷ [])
 AreMeasured-more ms ts m t a own = record {
   counted = omega (arith, a.counted, length-append ms (m ∷ []), length-append ts (t ∷ []));
   each = λ i o u at held. ⊎_elim
@@ -26,15 +27,22 @@ AreMeasured-more ms ts m t a own = record {
 
 -- an application's measures are joined of its parts'
 pub IsMeasured-App : {f x : Tree} {a b m : Measures} → IsMeasured a f → IsMeasured b x → IsJoined a b b.loose m → IsMeasured m (App f x)
-IsMeasured-App h k j = record { size = omega (arith, h.size, k.size, j.size); depth = omega (arith, h.depth, k.depth, j.depth); loose = λ l. omega (arith, l, h.loose, k.loose, j.loose) }
+IsMeasured-App h k j = record
+    { size = omega (arith, h.size, k.size, j.size); depth = omega (arith, h.depth, k.depth, j.depth); loose = λ l. omega (arith, l, h.loose, k.loose, j.loose) }
 
 -- a variable of a body is loose no more under its binder
-module _ {f x : Tree} {a b m : Measures} (n : ℕ) (known : n < 2 ^ 32 - 1 → n ≡ b.loose - 1) (unknown : b.loose ≡ 2 ^ 32 - 1 → n ≡ b.loose) (h : IsMeasured a f) (k : IsMeasured b x) (j : IsJoined a b n m) where
+module _ {f x : Tree} {a b m : Measures} (n : ℕ) (known : n < 2 ^ 32 - 1 → n ≡ b.loose - 1) (unknown : b.loose ≡ 2 ^ 32 - 1 → n ≡ b.loose) (h : IsMeasured a f)
+    (k : IsMeasured b x) (j : IsJoined a b n m) where
   loose-outside : n < 2 ^ 32 - 1 → loose x - 1 ≤ n
   loose-outside l = grind (arith, l, known, unknown, k.loose)
 
   pub IsMeasured-Lam : IsMeasured m (Lam f x)
-  IsMeasured-Lam = record { size = omega (arith, h.size, k.size, j.size); depth = omega (arith, h.depth, k.depth, j.depth); loose = λ l. omega (arith, l, h.loose, loose-outside (omega (arith, l, j.loose)), j.loose) }
+  IsMeasured-Lam = record {
+    size = omega (arith, h.size, k.size, j.size);
+    depth = omega (arith, h.depth, k.depth, j.depth);
+    loose =
+        λ l. omega (arith, l, h.loose, loose-outside (omega (arith, l, j.loose)), j.loose);
+  }
 
   pub IsMeasured-Pi : IsMeasured m (Pi f x)
   IsMeasured-Pi = record { size = IsMeasured-Lam.size; depth = IsMeasured-Lam.depth; loose = IsMeasured-Lam.loose }

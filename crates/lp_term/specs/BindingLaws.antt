@@ -34,5 +34,6 @@ Pairwise-trees table (id ∷ ids) [] h = absurd h
 Pairwise-trees table (id ∷ ids) (u ∷ us) h = ap₂ (λ x l. x ∷ l) (Holds-tree_at table id.0 u h.0) (Pairwise-trees table ids us h.1)
 
 -- where a number has what is made of the tables' trees, it has it of each reading of them
-pub Holds-put_all : (old new : List Tree) (ids : List LpId) (body r : LpId) → Holds new r.0 (put_all (trees_at old ids) (tree_at old body.0)) → (us : List Tree) (t : Tree) → Pairwise (λ id t. Holds old id.0 t) ids us → Holds old body.0 t → Holds new r.0 (put_all us t)
+pub Holds-put_all : (old new : List Tree) (ids : List LpId) (body r : LpId) → Holds new r.0 (put_all (trees_at old ids) (tree_at old body.0))
+    → (us : List Tree) (t : Tree) → Pairwise (λ id t. Holds old id.0 t) ids us → Holds old body.0 t → Holds new r.0 (put_all us t)
 Holds-put_all old new ids body r h us t p b = h ∙ ap₂ (λ xs x. Some (put_all xs x)) (Pairwise-trees old ids us p) (Holds-tree_at old body.0 t b)

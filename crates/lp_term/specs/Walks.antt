@@ -30,7 +30,8 @@ IsLeftAlone trees place = (place.change ≡ Raise 0) ⊎ (place.depth < 2 ^ 64 �
 -- what stands for the variable n of a place, whatever the arguments with these numbers
 abbrev pub IsReplaced : List LpId → Place → ℕ → Variable → Type 0
 IsReplaced ids place n (Renamed m) = (given : List Tree) → length given ≡ length ids → changed given place.change place.depth (Var n) ≡ Var m
-IsReplaced ids place n (Argument id) = (place.change ≡ Replace) × (place.depth ≤ n) × (slice_get (reverse ids) (n - place.depth) ≡ Some id) × ((i : ℕ) × (slice_get ids i ≡ Some id))
+IsReplaced ids place n (Argument id) = (place.change ≡ Replace) × (place.depth ≤ n) × (slice_get (reverse ids) (n - place.depth) ≡ Some id)
+    × ((i : ℕ) × (slice_get ids i ≡ Some id))
 
 -- a node of this kind with these parts
 abbrev pub with_parts : LpNode → LpId → LpId → LpNode
@@ -50,7 +51,8 @@ joined t _ _ = t
 abbrev pub Makes : List Tree → List Tree → List Task → List Tree → Tree → Type 0
 Makes args trees [] made goal = made ≡ goal ∷ []
 Makes args trees (Visit place ∷ rest) made goal = Makes args trees rest (wanted args trees place ∷ made) goal
-Makes args trees (Join place ∷ rest) (x ∷ f ∷ made) goal = (joined (tree_at trees place.id.0) f x ≡ wanted args trees place) × Makes args trees rest (wanted args trees place ∷ made) goal
+Makes args trees (Join place ∷ rest) (x ∷ f ∷ made) goal =
+    (joined (tree_at trees place.id.0) f x ≡ wanted args trees place) × Makes args trees rest (wanted args trees place ∷ made) goal
 Makes args trees (Join place ∷ rest) _ goal = ⊥
 
 -- the place's tree is of the table, and the binders round its parts can be counted
@@ -70,7 +72,8 @@ abbrev pub IsMemo : List Tree → List Tree → List (Place × LpId) → Type 0
 IsMemo args trees memo = (place : Place) (id : LpId) → IsNoted memo place id → (place.id.0 < length trees) × Holds trees id.0 (wanted args trees place)
 
 -- a walk with these arguments that is to make this tree
-pub record IsWalk (args : List Tree) (goal : Tree) (trees : List Tree) (ids : List LpId) (tasks : List Task) (made : List LpId) (memo : List (Place × LpId)) : Type 0 where
+pub record IsWalk (args : List Tree) (goal : Tree) (trees : List Tree) (ids : List LpId) (tasks : List Task) (made : List LpId)
+    (memo : List (Place × LpId)) : Type 0 where
   pub given : AreKnown trees ids
   pub arguments : trees_at trees ids ≡ args
   pub places : ArePlaces trees tasks

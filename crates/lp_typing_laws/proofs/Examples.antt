@@ -27,8 +27,10 @@ reflexivity = theorem (codes "T") (term_of bools ∷ []) (proof_of (eq_of bools 
 reflexivity_typed : (m : List Declaration) → IsClosed m → IsTypedAfter m reflexivity
 unfolding reflexivity
 reflexivity_typed m closed =
-    IsTypedAfter-theorem m (codes "T") (term_of bools ∷ []) (proof_of (eq_of bools (Var 0) (Var 0))) (refl_of bools (Var 0)) (Typed-term_of m (Typed-bools m), tt {0})
-    (Typed-proof_of m (Typed-eq_of m closed (Typed-bools m) (of_variable refl refl) (of_variable refl refl))) (Typed-refl_of m (Typed-bools m) (of_variable refl refl))
+    IsTypedAfter-theorem m (codes "T") (term_of bools ∷ []) (proof_of (eq_of bools (Var 0) (Var 0))) (refl_of bools (Var 0))
+    (Typed-term_of m (Typed-bools m), tt {0})
+    (Typed-proof_of m (Typed-eq_of m closed (Typed-bools m) (of_variable refl refl) (of_variable refl refl)))
+    (Typed-refl_of m (Typed-bools m) (of_variable refl refl))
 
 -- so the module of y and the theorem is well typed
 reflexivity_declared : WellTyped (y ∷ reflexivity ∷ [])

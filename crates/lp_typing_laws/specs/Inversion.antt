@@ -71,7 +71,8 @@ pub record OfApplication (m : List Declaration) (G : List Tree) (f x T : Tree) :
 -- an application is typed by its rule, up to conversion
 pub Typed-App : {m : List Declaration} {G : List Tree} {f x T : Tree} → Typed m G (App f x) T → OfApplication m G f x T
 Typed-App (of_application f a e) = record { domain = _; codomain = _; function = f; argument = a; fits = inl e }
-Typed-App (of_conversion t c b s) = let h = Typed-App t in record { domain = h.domain; codomain = h.codomain; function = h.function; argument = h.argument; fits = Fits-on h.fits c b s }
+Typed-App (of_conversion t c b s) = let h = Typed-App t in record
+    { domain = h.domain; codomain = h.codomain; function = h.function; argument = h.argument; fits = Fits-on h.fits c b s }
 
 -- what the typing of a symbol rests on
 pub record OfSymbol (m : List Declaration) (G : List Tree) (s : ℕ) (T : Tree) : Type 0 where

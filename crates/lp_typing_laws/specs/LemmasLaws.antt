@@ -56,7 +56,8 @@ module _ (m : List Declaration) (closed : IsClosed m) where
 
   -- the lemma of symmetry is typed over every closed module
   pub sym_lemma-typed : IsTypedAfter m sym_lemma
-  sym_lemma-typed = IsTypedAfter-theorem m (codes "sym") sym_domains (proof_of (eq_of (Var 3) (Var 1) (Var 2))) (sym_proof (Var 3) (Var 2) (Var 1) (Var 0)) sym_domains-typed
+  sym_lemma-typed = IsTypedAfter-theorem m (codes "sym") sym_domains (proof_of (eq_of (Var 3) (Var 1) (Var 2))) (sym_proof (Var 3) (Var 2) (Var 1) (Var 0))
+      sym_domains-typed
       (Typed-proof_of m (Typed-eq_of m closed (of_variable refl refl) (of_variable refl refl) (of_variable refl refl)))
       (sym_proof-typed (of_variable refl refl) (of_variable refl refl) (of_variable refl refl) (of_variable refl refl))
 
@@ -81,9 +82,11 @@ module _ (m : List Declaration) (closed : IsClosed m) where
 
   -- the lemma of transitivity is typed over every closed module
   pub trans_lemma-typed : IsTypedAfter m trans_lemma
-  trans_lemma-typed = IsTypedAfter-theorem m (codes "trans") trans_domains (proof_of (eq_of (Var 5) (Var 4) (Var 2))) (trans_proof (Var 5) (Var 4) (Var 3) (Var 2) (Var 1) (Var 0)) trans_domains-typed
+  trans_lemma-typed = IsTypedAfter-theorem m (codes "trans") trans_domains (proof_of (eq_of (Var 5) (Var 4) (Var 2)))
+      (trans_proof (Var 5) (Var 4) (Var 3) (Var 2) (Var 1) (Var 0)) trans_domains-typed
       (Typed-proof_of m (Typed-eq_of m closed (of_variable refl refl) (of_variable refl refl) (of_variable refl refl)))
-      (trans_proof-typed (of_variable refl refl) (of_variable refl refl) (of_variable refl refl) (of_variable refl refl) (of_variable refl refl) (of_variable refl refl))
+      (trans_proof-typed (of_variable refl refl) (of_variable refl refl) (of_variable refl refl) (of_variable refl refl) (of_variable refl refl)
+      (of_variable refl refl))
 
 -- the law of lemmas holds
 pub lemmas_typed : LemmasTyped

@@ -37,7 +37,8 @@ module _ (m : List Declaration) (sound : IsSound m) where
   -- over a sound module, in a context whose entries are types, what has a type has Kind or a type that has a sort
   pub regular : {G : List Tree} {t A : Tree} → IsContext m G → Typed m G t A → (A ≡ SortKind) ⊎ IsSorted m G A
   regular c of_type = inl refl
-  regular {G = G} c (of_variable {n = n} {A = A} at e) = inr (record { sort = SortType; is = is_type; by = subst (λ w. Typed m G w SortType) e (Typed-lift m (IsSound-closed m sound) c n A at) })
+  regular {G = G} c (of_variable {n = n} {A = A} at e) =
+      inr (record { sort = SortType; is = is_type; by = subst (λ w. Typed m G w SortType) e (Typed-lift m (IsSound-closed m sound) c n A at) })
   regular {G = G} c (of_symbol {s = s} {A = A} e) =
       let h = symbol_type-sorted m sound s A e in
       inr (record { sort = h.sort; is = h.is; by = Typed-anywhere m (IsSound-closed m sound) G (loose-IsSort h.is) h.by })

@@ -10,7 +10,8 @@ module _ (m : List Declaration) where
   -- `refl a x` proves x = x
   pub Typed-refl_of : {G : List Tree} {a x : Tree} → Typed m G a types → Typed m G x (term_of a) → Typed m G (refl_of a x) (proof_of (eq_of a x x))
   Typed-refl_of {G = G} {a = a} {x = x} ha hx =
-      let call = Typed-call m G (types ∷ term_of (Var 0) ∷ []) (a ∷ x ∷ []) refl_symbol (proof_of (eq_of (Var 1) (Var 0) (Var 0))) refl refl (ha, (simp lift_zero hx, tt {0})) in
+      let call = Typed-call m G (types ∷ term_of (Var 0) ∷ []) (a ∷ x ∷ []) refl_symbol (proof_of (eq_of (Var 1) (Var 0) (Var 0))) refl refl
+      (ha, (simp lift_zero hx, tt {0})) in
       simp lift_zero at call
 
   -- `fun_ext a b f g h` proves f = g, from h of f x = g x for each x
@@ -19,7 +20,8 @@ module _ (m : List Declaration) where
       → Typed m G h (Pi (term_of a) (proof_of (eq_of (lift 1 b) (App (lift 1 f) (Var 0)) (App (lift 1 g) (Var 0)))))
       → Typed m G (applied (Sym fun_ext_symbol) (a ∷ b ∷ f ∷ g ∷ h ∷ [])) (proof_of (eq_of (arr_of a b) f g))
   Typed-fun_ext {G = G} {a = a} {b = b} {f = f} {g = g} {h = h} ha hb hf hg hh =
-      let call = Typed-call m G (two_functions ++ pointwise_equal ∷ []) (a ∷ b ∷ f ∷ g ∷ h ∷ []) fun_ext_symbol (proof_of (eq_of (arr_of (Var 4) (Var 3)) (Var 2) (Var 1))) refl refl
+      let call = Typed-call m G (two_functions ++ pointwise_equal ∷ []) (a ∷ b ∷ f ∷ g ∷ h ∷ []) fun_ext_symbol
+      (proof_of (eq_of (arr_of (Var 4) (Var 3)) (Var 2) (Var 1))) refl refl
       (ha, (hb, (simp lift_zero hf, (simp lift_zero hg, (simp lift_zero hh, tt {0}))))) in
       simp lift_zero at call
 
@@ -29,8 +31,10 @@ module _ (m : List Declaration) where
       → Typed m G x (term_of a) → Typed m G y (term_of a) → Typed m G h (proof_of (eq_of (arr_of a b) f g)) → Typed m G k (proof_of (eq_of a x y))
       → Typed m G (applied (Sym app_thm_symbol) (a ∷ b ∷ f ∷ g ∷ x ∷ y ∷ h ∷ k ∷ [])) (proof_of (eq_of b (App f x) (App g y)))
   Typed-app_thm {G = G} {a = a} {b = b} {f = f} {g = g} {x = x} {y = y} {h = h} {k = k} ha hb hf hg hx hy hh hk =
-      let domains = two_functions ++ term_of (Var 3) ∷ term_of (Var 4) ∷ proof_of (eq_of (arr_of (Var 5) (Var 4)) (Var 3) (Var 2)) ∷ proof_of (eq_of (Var 6) (Var 2) (Var 1)) ∷ [] in
-      let call = Typed-call m G domains (a ∷ b ∷ f ∷ g ∷ x ∷ y ∷ h ∷ k ∷ []) app_thm_symbol (proof_of (eq_of (Var 6) (App (Var 5) (Var 3)) (App (Var 4) (Var 2)))) refl refl
+      let domains = two_functions ++ term_of (Var 3) ∷ term_of (Var 4) ∷ proof_of (eq_of (arr_of (Var 5) (Var 4)) (Var 3) (Var 2)) ∷ proof_of
+      (eq_of (Var 6) (Var 2) (Var 1)) ∷ [] in
+      let call = Typed-call m G domains (a ∷ b ∷ f ∷ g ∷ x ∷ y ∷ h ∷ k ∷ []) app_thm_symbol
+      (proof_of (eq_of (Var 6) (App (Var 5) (Var 3)) (App (Var 4) (Var 2)))) refl refl
       (ha, (hb, (simp lift_zero hf, (simp lift_zero hg, (simp lift_zero hx, (simp lift_zero hy, (simp lift_zero hh, (simp lift_zero hk, tt {0})))))))) in
       simp lift_zero at call
 
@@ -40,7 +44,8 @@ module _ (m : List Declaration) where
       → Typed m G (applied (Sym prop_ext_symbol) (p ∷ q ∷ h ∷ k ∷ [])) (proof_of (eq_of bools p q))
   Typed-prop_ext {G = G} {p = p} {q = q} {h = h} {k = k} hp hq hh hk =
       let domains = term_of bools ∷ term_of bools ∷ Pi (proof_of (Var 1)) (proof_of (Var 1)) ∷ Pi (proof_of (Var 1)) (proof_of (Var 3)) ∷ [] in
-      let call = Typed-call m G domains (p ∷ q ∷ h ∷ k ∷ []) prop_ext_symbol (proof_of (eq_of bools (Var 3) (Var 2))) refl refl (hp, (hq, (simp lift_zero hh, (simp lift_zero hk, tt {0})))) in
+      let call = Typed-call m G domains (p ∷ q ∷ h ∷ k ∷ []) prop_ext_symbol (proof_of (eq_of bools (Var 3) (Var 2))) refl refl
+      (hp, (hq, (simp lift_zero hh, (simp lift_zero hk, tt {0})))) in
       simp lift_zero at call
 
   -- `eq_mp p q h k` proves q, from h of p = q and k of p
@@ -49,5 +54,6 @@ module _ (m : List Declaration) where
       → Typed m G (applied (Sym eq_mp_symbol) (p ∷ q ∷ h ∷ k ∷ [])) (proof_of q)
   Typed-eq_mp {G = G} {p = p} {q = q} {h = h} {k = k} hp hq hh hk =
       let domains = term_of bools ∷ term_of bools ∷ proof_of (eq_of bools (Var 1) (Var 0)) ∷ proof_of (Var 2) ∷ [] in
-      let call = Typed-call m G domains (p ∷ q ∷ h ∷ k ∷ []) eq_mp_symbol (proof_of (Var 2)) refl refl (hp, (hq, (simp lift_zero hh, (simp lift_zero hk, tt {0})))) in
+      let call = Typed-call m G domains (p ∷ q ∷ h ∷ k ∷ []) eq_mp_symbol (proof_of (Var 2)) refl refl
+      (hp, (hq, (simp lift_zero hh, (simp lift_zero hk, tt {0})))) in
       simp lift_zero at call

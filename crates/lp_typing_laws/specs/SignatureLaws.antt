@@ -30,11 +30,13 @@ module _ (m : List Declaration) (closed : IsClosed m) where
 
   -- the type of eq
   eq_typed : Typed m [] eq_type SortType
-  eq_typed = of_product (Typed-types m) (Typed-term_of m (Typed-arr_of m (of_variable refl refl) (Typed-arr_of m (of_variable refl refl) (Typed-bools m)))) is_type
+  eq_typed = of_product (Typed-types m) (Typed-term_of m (Typed-arr_of m (of_variable refl refl) (Typed-arr_of m (of_variable refl refl) (Typed-bools m))))
+      is_type
 
   -- the type of select
   select_typed : Typed m [] select_type SortType
-  select_typed = of_product (Typed-types m) (Typed-term_of m (Typed-arr_of m (Typed-arr_of m (of_variable refl refl) (Typed-bools m)) (of_variable refl refl))) is_type
+  select_typed = of_product (Typed-types m) (Typed-term_of m (Typed-arr_of m (Typed-arr_of m (of_variable refl refl) (Typed-bools m)) (of_variable refl refl)))
+      is_type
 
   -- the type of proof
   proof_typed : Typed m [] proof_type SortKind
@@ -63,14 +65,16 @@ module _ (m : List Declaration) (closed : IsClosed m) where
       (Typed-proof_of m (Typed-eq_of m closed (of_variable refl refl)
       (Typed-apply m closed (Var 4) (Var 3) (of_variable refl refl) (of_variable refl refl) (of_variable refl refl) (of_variable refl refl))
       (Typed-apply m closed (Var 4) (Var 3) (of_variable refl refl) (of_variable refl refl) (of_variable refl refl) (of_variable refl refl)))) is_type)
-      (Typed-proof_of m (Typed-eq_of m closed (Typed-arr_of m (of_variable refl refl) (of_variable refl refl)) (of_variable refl refl) (of_variable refl refl))) is_type)
+      (Typed-proof_of m (Typed-eq_of m closed (Typed-arr_of m (of_variable refl refl) (of_variable refl refl)) (of_variable refl refl) (of_variable refl refl)))
+      is_type)
 
   -- the type of app_thm
   app_thm_typed : Typed m [] app_thm_type SortType
   app_thm_typed =
       over_functions
       (of_product (Typed-term_of m (of_variable refl refl)) (of_product (Typed-term_of m (of_variable refl refl))
-      (of_product (Typed-proof_of m (Typed-eq_of m closed (Typed-arr_of m (of_variable refl refl) (of_variable refl refl)) (of_variable refl refl) (of_variable refl refl)))
+      (of_product (Typed-proof_of m
+      (Typed-eq_of m closed (Typed-arr_of m (of_variable refl refl) (of_variable refl refl)) (of_variable refl refl) (of_variable refl refl)))
       (of_product (Typed-proof_of m (Typed-eq_of m closed (of_variable refl refl) (of_variable refl refl) (of_variable refl refl)))
       (Typed-proof_of m (Typed-eq_of m closed (of_variable refl refl)
       (Typed-apply m closed (Var 7) (Var 6) (of_variable refl refl) (of_variable refl refl) (of_variable refl refl) (of_variable refl refl))
@@ -101,29 +105,38 @@ module _ (m : List Declaration) (closed : IsClosed m) where
       of_product (Typed-types m)
       (of_product (Typed-term_of m (Typed-arr_of m (of_variable refl refl) (Typed-bools m)))
       (of_product (Typed-term_of m (of_variable refl refl))
-      (of_product (Typed-proof_of m (Typed-apply m closed (Var 2) bools (of_variable refl refl) (Typed-bools m) (of_variable refl refl) (of_variable refl refl)))
+      (of_product (Typed-proof_of m
+      (Typed-apply m closed (Var 2) bools (of_variable refl refl) (Typed-bools m) (of_variable refl refl) (of_variable refl refl)))
       h is_type) is_type) is_type) is_type
 
   -- `sub` at a type, a predicate, a term and a proof
   sub_at : Typed m part (applied (Sym sub_symbol) part_arguments) types
-  sub_at = of_application (of_application (of_application (of_application (of_symbol refl) (of_variable refl refl) refl) (of_variable refl refl) refl) (of_variable refl refl) refl) (of_variable refl refl) refl
+  sub_at = of_application
+      (of_application (of_application (of_application (of_symbol refl) (of_variable refl refl) refl) (of_variable refl refl) refl) (of_variable refl refl) refl)
+      (of_variable refl refl) refl
 
   -- these, under a further entry
   module _ {A : Tree} where
     sub_inside : Typed m (A ∷ part) (applied (Sym sub_symbol) part_arguments_inside) types
-    sub_inside = of_application (of_application (of_application (of_application (of_symbol refl) (of_variable refl refl) refl) (of_variable refl refl) refl) (of_variable refl refl) refl) (of_variable refl refl) refl
+    sub_inside = of_application
+        (of_application (of_application (of_application (of_symbol refl) (of_variable refl refl) refl) (of_variable refl refl) refl) (of_variable refl refl)
+        refl) (of_variable refl refl) refl
 
     abs_inside : {x : Tree} → Typed m (A ∷ part) x (term_of (Var 4))
         → Typed m (A ∷ part) (App (applied (Sym sub_abs_symbol) part_arguments_inside) x) (term_of (applied (Sym sub_symbol) part_arguments_inside))
     abs_inside h =
         Typed-apply m closed (Var 4) (applied (Sym sub_symbol) part_arguments_inside) (of_variable refl refl) sub_inside
-        (of_application (of_application (of_application (of_application (of_symbol refl) (of_variable refl refl) refl) (of_variable refl refl) refl) (of_variable refl refl) refl) (of_variable refl refl) refl) h
+        (of_application
+        (of_application (of_application (of_application (of_symbol refl) (of_variable refl refl) refl) (of_variable refl refl) refl) (of_variable refl refl)
+        refl) (of_variable refl refl) refl) h
 
     rep_inside : {x : Tree} → Typed m (A ∷ part) x (term_of (applied (Sym sub_symbol) part_arguments_inside))
         → Typed m (A ∷ part) (App (applied (Sym sub_rep_symbol) part_arguments_inside) x) (term_of (Var 4))
     rep_inside h =
         Typed-apply m closed (applied (Sym sub_symbol) part_arguments_inside) (Var 4) sub_inside (of_variable refl refl)
-        (of_application (of_application (of_application (of_application (of_symbol refl) (of_variable refl refl) refl) (of_variable refl refl) refl) (of_variable refl refl) refl) (of_variable refl refl) refl) h
+        (of_application
+        (of_application (of_application (of_application (of_symbol refl) (of_variable refl refl) refl) (of_variable refl refl) refl) (of_variable refl refl)
+        refl) (of_variable refl refl) refl) h
 
   -- the types of the five symbols of parts
   sub_typed : Typed m [] sub_type SortType
@@ -169,7 +182,22 @@ module _ (m : List Declaration) (closed : IsClosed m) where
                     type_sorted refl_typed,
                     (
                       type_sorted fun_ext_typed,
-                      (type_sorted app_thm_typed, (type_sorted prop_ext_typed, (type_sorted eq_mp_typed, (type_sorted sub_typed, (type_sorted sub_abs_typed, (type_sorted sub_rep_typed, (type_sorted sub_abs_rep_typed, (type_sorted sub_rep_abs_typed, tt {0})))))))),
+                      (
+                        type_sorted app_thm_typed,
+                        (
+                          type_sorted prop_ext_typed,
+                          (
+                            type_sorted eq_mp_typed,
+                            (
+                              type_sorted sub_typed,
+                              (
+                                type_sorted sub_abs_typed,
+                                (type_sorted sub_rep_typed, (type_sorted sub_abs_rep_typed, (type_sorted sub_rep_abs_typed, tt {0}))),
+                              ),
+                            ),
+                          ),
+                        ),
+                      ),
                     ),
                   ),
                 ),
@@ -183,15 +211,22 @@ module _ (m : List Declaration) (closed : IsClosed m) where
 
 -- each declared type of the signature is closed
 types_closed : AllByRecursion (λ (d : Declaration). loose d.ty ≡ 0) signature
-types_closed = (refl, (refl, (refl, (refl, (refl, (refl, (refl, (refl, (refl, (refl, (refl, (refl, (refl, (refl, (refl, (refl, (refl, (refl, tt {0}))))))))))))))))))
+types_closed = (
+  refl,
+  (refl, (refl, (refl, (refl, (refl, (refl, (refl, (refl, (refl, (refl, (refl, (refl, (refl, (refl, (refl, (refl, (refl, tt {0}))))))))))))))))),
+)
 
 -- no symbol of the signature has a body
 bodies_absent : AllByRecursion (λ (d : Declaration). IsBodyOf [] d.form d.body d.ty) signature
-bodies_absent = (refl, (refl, (refl, (refl, (refl, (refl, (refl, (refl, (refl, (refl, (refl, (refl, (refl, (refl, (refl, (refl, (refl, (refl, tt {0}))))))))))))))))))
+bodies_absent = (
+  refl,
+  (refl, (refl, (refl, (refl, (refl, (refl, (refl, (refl, (refl, (refl, (refl, (refl, (refl, (refl, (refl, (refl, (refl, tt {0}))))))))))))))))),
+)
 
 -- no symbol of the signature stands for a body
 definitions_absent : AllByRecursion (λ (d : Declaration). definition_of d.form d.body ≡ None) signature
-definitions_absent = (refl, (refl, (refl, (refl, (refl, (refl, (refl, (refl, (refl, (refl, (refl, (refl, (refl, (refl, (refl, (refl, (refl, (refl, tt {0}))))))))))))))))))
+definitions_absent =
+    (refl, (refl, (refl, (refl, (refl, (refl, (refl, (refl, (refl, (refl, (refl, (refl, (refl, (refl, (refl, (refl, (refl, (refl, tt {0}))))))))))))))))))
 
 -- the signature alone is closed
 signature_closed : IsClosed []

@@ -33,11 +33,13 @@ Typed-definition_of m Thm b A t e h = absurd (cc)
 module _ (m : List Declaration) (sound : IsSound m) where
   -- a declared type has a sort
   pub symbol_type-sorted : (s : ℕ) (A : Tree) → symbol_type m s ≡ Some A → IsSorted m [] A
-  symbol_type-sorted s A e = let h = option_map-some (λ (d : Declaration). d.ty) (symbol_declaration m s) A e in subst (IsSorted m []) h.2 (sound.each s h.0 h.1).sorted
+  symbol_type-sorted s A e = let h = option_map-some (λ (d : Declaration). d.ty) (symbol_declaration m s) A e in subst (IsSorted m []) h.2
+      (sound.each s h.0 h.1).sorted
 
   -- a declared type is closed
   pub symbol_type-closed : (s : ℕ) (A : Tree) → symbol_type m s ≡ Some A → loose A ≡ 0
-  symbol_type-closed s A e = let h = option_map-some (λ (d : Declaration). d.ty) (symbol_declaration m s) A e in subst (λ w. loose w ≡ 0) h.2 (sound.each s h.0 h.1).closed
+  symbol_type-closed s A e = let h = option_map-some (λ (d : Declaration). d.ty) (symbol_declaration m s) A e in subst (λ w. loose w ≡ 0) h.2
+      (sound.each s h.0 h.1).closed
 
   -- what a symbol stands for has its declared type
   pub symbol_definition-typed : (s : ℕ) (t A : Tree) → symbol_definition m s ≡ Some t → symbol_type m s ≡ Some A → Typed m [] t A
@@ -66,14 +68,16 @@ IsBodyOf-append m more Thm (Some t) A h = Typed-append m more h
 
 -- further declarations keep a declaration sound
 IsSoundDeclaration-append : (m more : List Declaration) (d : Declaration) → IsSoundDeclaration m d → IsSoundDeclaration (m ++ more) d
-IsSoundDeclaration-append m more d h = record { closed = h.closed; sorted = IsSorted-append m more h.sorted; body = IsBodyOf-append m more d.form d.body d.ty h.body }
+IsSoundDeclaration-append m more d h = record
+    { closed = h.closed; sorted = IsSorted-append m more h.sorted; body = IsBodyOf-append m more d.form d.body d.ty h.body }
 
 -- a typed declaration after a sound module leaves it sound
 pub IsSound-after : (m : List Declaration) (d : Declaration) → IsSound m → IsTypedAfter m d → IsSound (m ++ d ∷ [])
 IsSound-after m d sound h = record { each = go }
   where
     own : IsSoundDeclaration (m ++ d ∷ []) d
-    own = IsSoundDeclaration-append m (d ∷ []) d (record { closed = Typed-closed h.ty; sorted = record { sort = SortType; is = is_type; by = h.ty }; body = h.body })
+    own = IsSoundDeclaration-append m (d ∷ []) d
+        (record { closed = Typed-closed h.ty; sorted = record { sort = SortType; is = is_type; by = h.ty }; body = h.body })
 
     go : (s : ℕ) (e : Declaration) → symbol_declaration (m ++ d ∷ []) s ≡ Some e → IsSoundDeclaration (m ++ d ∷ []) e
     go s e at = ⊎_elim

@@ -27,7 +27,8 @@ module _ (m : List Declaration) where
       → Typed m (under G domains) t A
       → Typed m G (abstractions domains t) (products domains A)
   Typed-abstractions [] h hA ht = ht
-  Typed-abstractions (a ∷ domains) h hA ht = of_abstraction (of_product h.0 (Typed-products domains h.1 hA) is_type) is_type (Typed-abstractions domains h.1 hA ht)
+  Typed-abstractions (a ∷ domains) h hA ht = of_abstraction (of_product h.0 (Typed-products domains h.1 hA) is_type) is_type
+      (Typed-abstractions domains h.1 hA ht)
 
   -- a context is one under further domains
   pub IsContext-under : {G : List Tree} (domains : List Tree) → IsContext m G → AreDomains m G domains → IsContext m (under G domains)

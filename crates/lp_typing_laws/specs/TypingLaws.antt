@@ -67,7 +67,8 @@ Moves-up {r = r} {G = G} {D = D} {A = A} m = record { each = go }
         let h = m.each n B e in (
           h.0,
           h.1,
-          sym (suc_lift (suc (r n)) h.0) ∙ ap (ren suc) h.2 ∙ ren_ren suc r (lift (suc n) B) ∙ sym (ren_ren (up r) suc (lift (suc n) B)) ∙ ap (ren (up r)) (suc_lift (suc n) B),
+          sym (suc_lift (suc (r n)) h.0) ∙ ap (ren suc) h.2 ∙ ren_ren suc r (lift (suc n) B) ∙ sym (ren_ren (up r) suc (lift (suc n) B))
+              ∙ ap (ren (up r)) (suc_lift (suc n) B),
         )
 
 -- the substitution puts for each variable of the context G a tree of its type in D
@@ -80,7 +81,8 @@ module _ (m : List Declaration) (closed : IsClosed m) where
   Typed-ren r v of_type = of_type
   Typed-ren r v (of_variable {n = n} {A = A} at e) = let h = v.each n A at in of_variable h.1 (h.2 ∙ ap (ren r) e)
   Typed-ren r v (of_symbol {s = s} {A = A} e) = of_symbol (e ∙ ap Some (sym (ren_closed r A (closed.types s A e))))
-  Typed-ren r {D = D} v (of_product a b s) = subst (Typed m D _) (ren-IsSort (up r) r s) (of_product (Typed-ren r v a) (Typed-ren (up r) (Moves-up v) b) (IsSort-ren (up r) s))
+  Typed-ren r {D = D} v (of_product a b s) = subst (Typed m D _) (ren-IsSort (up r) r s)
+      (of_product (Typed-ren r v a) (Typed-ren (up r) (Moves-up v) b) (IsSort-ren (up r) s))
   Typed-ren r v (of_abstraction p s b) = of_abstraction (Typed-ren r v p) (IsSort-ren r s) (Typed-ren (up r) (Moves-up v) b)
   Typed-ren r v (of_application {x = x} {B = B} f a e) = of_application (Typed-ren r v f) (Typed-ren r v a) (sym (ren-put r x B) ∙ ap (ren r) e)
   Typed-ren r v (of_conversion t c b s) = of_conversion (Typed-ren r v t) (Conv-ren m closed r c) (Typed-ren r v b) (IsSort-ren r s)
@@ -116,7 +118,8 @@ module _ (m : List Declaration) (closed : IsClosed m) where
   Typed-sub s p of_type = of_type
   Typed-sub s {D = D} p (of_variable {n = n} {A = A} at e) = subst (Typed m D (s n)) (ap (sub s) e) (p.each n A at)
   Typed-sub s p (of_symbol {s = k} {A = A} e) = of_symbol (e ∙ ap Some (sym (sub_closed s A (closed.types k A e))))
-  Typed-sub s {D = D} p (of_product a b o) = subst (Typed m D _) (sub-IsSort (ups s) s o) (of_product (Typed-sub s p a) (Typed-sub (ups s) (Puts-ups p) b) (IsSort-sub (ups s) o))
+  Typed-sub s {D = D} p (of_product a b o) = subst (Typed m D _) (sub-IsSort (ups s) s o)
+      (of_product (Typed-sub s p a) (Typed-sub (ups s) (Puts-ups p) b) (IsSort-sub (ups s) o))
   Typed-sub s p (of_abstraction q o b) = of_abstraction (Typed-sub s p q) (IsSort-sub s o) (Typed-sub (ups s) (Puts-ups p) b)
   Typed-sub s p (of_application {x = x} {B = B} f a e) = of_application (Typed-sub s p f) (Typed-sub s p a) (sym (sub-put s x B) ∙ ap (sub s) e)
   Typed-sub s p (of_conversion t c b o) = of_conversion (Typed-sub s p t) (Conv-sub m closed s c) (Typed-sub s p b) (IsSort-sub s o)
@@ -128,7 +131,8 @@ module _ (m : List Declaration) (closed : IsClosed m) where
     where
       go : (n : ℕ) (C : Tree) → slice_get (A ∷ G) n ≡ Some C → Typed m G (cons x Var n) (sub (cons x Var) (lift (suc n) C))
       go zero C e = subst (Typed m G x) (sym (put-lift x A) ∙ put_is x (lift 1 A) ∙ ap (λ o. sub (cons x Var) (lift 1 o)) (same_Some _ _ e)) hx
-      go (suc n) C e = of_variable e (sym (sub_var (lift (suc n) C)) ∙ sym (sub_ren (cons x Var) suc (lift (suc n) C)) ∙ ap (sub (cons x Var)) (suc_lift (suc n) C))
+      go (suc n) C e = of_variable e
+          (sym (sub_var (lift (suc n) C)) ∙ sym (sub_ren (cons x Var) suc (lift (suc n) C)) ∙ ap (sub (cons x Var)) (suc_lift (suc n) C))
 
   -- what is typed under an entry is typed under one that is convertible to it
   pub Typed-entry : {G : List Tree} {a c t B : Tree} → Conv m a c → Typed m G a SortType → Typed m (a ∷ G) t B → Typed m (c ∷ G) t B

@@ -78,8 +78,10 @@ spent-sum total spent z domain o count s arg et lz ed ec ls ea =
     flat ∙ stops ∙ ap saturated same
 
 -- a head with an argument that the next product takes
-pub after-product : (m : Module) (head : Head) (body : LpId) (a b u : Tree) (spent domain count arg : ℕ) → tree_at m.table head.rest.0 ≡ Pi a b → tree_at m.table body.0 ≡ b → body.0 < length m.table
-    → domain ≡ saturated (size a) → count ≡ saturated (occurrences 0 b) → arg ≡ saturated (size u) → spent ≡ saturated (saturated (head.spent + domain) + saturated (count * (arg - 1)))
+pub after-product : (m : Module) (head : Head) (body : LpId) (a b u : Tree) (spent domain count arg : ℕ) → tree_at m.table head.rest.0 ≡ Pi a b
+    → tree_at m.table body.0 ≡ b → body.0 < length m.table
+    → domain ≡ saturated (size a) → count ≡ saturated (occurrences 0 b) → arg ≡ saturated (size u) → spent
+    ≡ saturated (saturated (head.spent + domain) + saturated (count * (arg - 1)))
     → (t : Tree) → IsAfter m t head → IsAfter m (App t u) (record { rest = body; spent = spent })
 after-product m head body a b u spent domain count arg is at known ed ec ea es t h = record {
   known = known;
@@ -87,12 +89,14 @@ after-product m head body a b u spent domain count arg is at known ed ec ea es t
   spent = es ∙ spent-sum h.total head.spent (size a) domain (occurrences 0 b) count (size u) arg h.spent (size-positive a) ed ec (size-positive u) ea;
   spread = λ args.
       let step = h.spread (u ∷ args) ∙ ap (λ w. h.total + spread_by (u ∷ args) w) is in
-      let flat : h.total + (size a + occurrences 0 b * (size u - 1) + spread_by args b) ≡ h.total + (size a + occurrences 0 b * (size u - 1)) + spread_by args b = omega arith in
+      let flat : h.total + (size a + occurrences 0 b * (size u - 1) + spread_by args b)
+      ≡ h.total + (size a + occurrences 0 b * (size u - 1)) + spread_by args b = omega arith in
       step ∙ flat ∙ ap (λ w. h.total + (size a + occurrences 0 b * (size u - 1)) + spread_by args w) (sym at);
 }
 
 -- a type that isn't a product takes no argument
-spread_by-leaf : (ts : List Tree) (n : LpNode) → ((a b : LpId) → n ≡ node.Pi a b → ⊥) → (u : Tree) (us : List Tree) → spread_by (u ∷ us) (tree_of_node ts n) ≡ spread_by us (tree_of_node ts n)
+spread_by-leaf : (ts : List Tree) (n : LpNode) → ((a b : LpId) → n ≡ node.Pi a b → ⊥) → (u : Tree) (us : List Tree) → spread_by (u ∷ us) (tree_of_node ts n)
+    ≡ spread_by us (tree_of_node ts n)
 spread_by-leaf ts node.SortType h u [] = refl
 spread_by-leaf ts node.SortType h u (v ∷ us) = refl
 spread_by-leaf ts node.SortKind h u [] = refl
@@ -107,16 +111,19 @@ spread_by-leaf ts (node.Lam a b) h u [] = refl
 spread_by-leaf ts (node.Lam a b) h u (v ∷ us) = refl
 spread_by-leaf ts (node.Pi a b) h u us = absurd (h a b refl)
 
-pub after-leaf : (m : Module) (head : Head) (n : LpNode) (u : Tree) → tree_at m.table head.rest.0 ≡ tree_of_node m.table n → ((a b : LpId) → n ≡ node.Pi a b → ⊥) → (t : Tree) → IsAfter m t head → IsAfter m (App t u) head
+pub after-leaf : (m : Module) (head : Head) (n : LpNode) (u : Tree) → tree_at m.table head.rest.0 ≡ tree_of_node m.table n
+    → ((a b : LpId) → n ≡ node.Pi a b → ⊥) → (t : Tree) → IsAfter m t head → IsAfter m (App t u) head
 after-leaf m head n u is leaf t h = record {
   known = h.known;
   total = h.total;
   spent = h.spent;
-  spread = λ args. h.spread (u ∷ args) ∙ ap (λ k. h.total + k) (ap (spread_by (u ∷ args)) is ∙ spread_by-leaf m.table n leaf u args ∙ ap (spread_by args) (sym is));
+  spread = λ args. h.spread (u ∷ args) ∙ ap (λ k. h.total + k)
+      (ap (spread_by (u ∷ args)) is ∙ spread_by-leaf m.table n leaf u args ∙ ap (spread_by args) (sym is));
 }
 
 -- a symbol alone
-pub symbol-front : (m : Module) (s : ℕ) (rest : LpId) → rest.0 < length m.table → symbol_type (declarations_of m) s ≡ Some (tree_at m.table rest.0) → IsFront m (Sym s) (Symbol (record { rest = rest; spent = 0 }))
+pub symbol-front : (m : Module) (s : ℕ) (rest : LpId) → rest.0 < length m.table → symbol_type (declarations_of m) s ≡ Some (tree_at m.table rest.0)
+    → IsFront m (Sym s) (Symbol (record { rest = rest; spent = 0 }))
 symbol-front m s rest known is = record {
   known = known;
   total = 0;
@@ -143,10 +150,13 @@ pub front-known : (m : Module) (t : Tree) (head : Head) → IsFront m t (Symbol 
 front-known m t head h = h.known
 
 -- the spreads of all symbols of a tree
-pub plain-spreads : (m : Module) (t : Tree) (s : Spread) (count : ℕ) → IsSpread m t s → s.front ≡ Plain count → s.inner ≡ saturated (spreads (declarations_of m) [] t)
-plain-spreads m t s count is e = let plain : IsPlain m t count = subst (IsFront m t) e is.front in omega (arith, is.inner, plain.none [], spreads-split (declarations_of m) [] t)
+pub plain-spreads : (m : Module) (t : Tree) (s : Spread) (count : ℕ) → IsSpread m t s → s.front ≡ Plain count → s.inner
+    ≡ saturated (spreads (declarations_of m) [] t)
+plain-spreads m t s count is e = let plain : IsPlain m t count =
+    subst (IsFront m t) e is.front in omega (arith, is.inner, plain.none [], spreads-split (declarations_of m) [] t)
 
-pub head-spreads : (m : Module) (t : Tree) (s : Spread) (head : Head) (z n : ℕ) → IsSpread m t s → s.front ≡ Symbol head → z ≡ saturated (size (tree_at m.table head.rest.0)) → n ≡ saturated (saturated (s.inner + head.spent) + z)
+pub head-spreads : (m : Module) (t : Tree) (s : Spread) (head : Head) (z n : ℕ) → IsSpread m t s → s.front ≡ Symbol head → z
+    ≡ saturated (size (tree_at m.table head.rest.0)) → n ≡ saturated (saturated (s.inner + head.spent) + z)
     → n ≡ saturated (spreads (declarations_of m) [] t)
 head-spreads m t s head z n is e ez en =
     let h : IsAfter m t head = subst (IsFront m t) e is.front in
@@ -173,12 +183,15 @@ last-or (y ∷ xs) s zero x h = inl h
 last-or (y ∷ xs) s (suc i) x h = ⊎_elim (λ a. inl a) (λ b. inr (ap suc b.0, b.1)) (last-or xs s i x h)
 
 -- a column with the next spread
-pub column-more : (m : Module) (column : List Spread) (s : Spread) → IsColumn m column → IsSpread m (tree_at m.table (length column)) s → IsColumn m (column ++ s ∷ [])
+pub column-more : (m : Module) (column : List Spread) (s : Spread) → IsColumn m column → IsSpread m (tree_at m.table (length column)) s
+    → IsColumn m (column ++ s ∷ [])
 column-more m column s h is =
-    λ i x e. ⊎_elim (λ old. h i x old) (λ new. subst (IsSpread m (tree_at m.table i)) (sym new.1) (subst (λ k. IsSpread m (tree_at m.table k) s) (sym new.0) is)) (last-or column s i x e)
+    λ i x e. ⊎_elim (λ old. h i x old)
+    (λ new. subst (IsSpread m (tree_at m.table i)) (sym new.1) (subst (λ k. IsSpread m (tree_at m.table k) s) (sym new.0) is)) (last-or column s i x e)
 
 -- the spreads of an application
-pub spread-app : (m : Module) (t u : Tree) (function : Spread) (front : Front) (argument n : ℕ) → IsSpread m t function → argument ≡ saturated (spreads (declarations_of m) [] u) → n ≡ saturated (function.inner + argument) → IsFront m (App t u) front
+pub spread-app : (m : Module) (t u : Tree) (function : Spread) (front : Front) (argument n : ℕ) → IsSpread m t function → argument
+    ≡ saturated (spreads (declarations_of m) [] u) → n ≡ saturated (function.inner + argument) → IsFront m (App t u) front
     → IsSpread m (App t u) (record { front = front; inner = n })
 spread-app m t u function front argument n is ea en h = record { front = h; inner = omega (arith, is.inner, ea, en) }
 

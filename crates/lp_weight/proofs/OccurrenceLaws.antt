@@ -14,13 +14,15 @@ variable-below : (d : ℕ) (us : List Tree) (n : ℕ) → n < d → size (put_al
 variable-below d us n l = grind (arith, l)
 
 -- what an argument more, the last, adds at a variable
-at_variable : (d : ℕ) (us : List Tree) (u : Tree) (n : ℕ) → size (put_all_var d (us ++ u ∷ []) n) + occurrences d (Var n) ≡ size (put_all_var (suc d) us n) + occurrences d (Var n) * size u
+at_variable : (d : ℕ) (us : List Tree) (u : Tree) (n : ℕ) → size (put_all_var d (us ++ u ∷ []) n) + occurrences d (Var n)
+    ≡ size (put_all_var (suc d) us n) + occurrences d (Var n) * size u
 at_variable d us u n = go (nat_lt n d) refl (nat_eq n d) refl
   where
     reversed : reverse (us ++ u ∷ []) ≡ u ∷ reverse us
     reversed = reverse-append us (u ∷ [])
 
-    go : (b : Bool) → nat_lt n d ≡ b → (e : Bool) → nat_eq n d ≡ e → size (put_all_var d (us ++ u ∷ []) n) + (if nat_eq n d then 1 else 0) ≡ size (put_all_var (suc d) us n) + (if nat_eq n d then 1 else 0) * size u
+    go : (b : Bool) → nat_lt n d ≡ b → (e : Bool) → nat_eq n d ≡ e → size (put_all_var d (us ++ u ∷ []) n) + (if nat_eq n d then 1 else 0)
+        ≡ size (put_all_var (suc d) us n) + (if nat_eq n d then 1 else 0) * size u
     go true l true e = absurd (grind (arith, l, e))
     go true l false e =
         let low : n < d = grind (arith, l) in
@@ -36,7 +38,8 @@ at_variable d us u n = go (nat_lt n d) refl (nat_eq n d) refl
     go false l false e =
         let above : suc d ≤ n = grind (arith, l, e) in
         let le : d ≤ n = omega (arith, above) in
-        let at : slice_get (reverse (us ++ u ∷ [])) (n - d) ≡ slice_get (reverse us) (n - suc d) = let z : n - d ≡ suc (n - suc d) = omega (arith, above) in rw (z, reversed) refl in
+        let at : slice_get (reverse (us ++ u ∷ [])) (n - d) ≡ slice_get (reverse us) (n - suc d) = let z : n - d ≡ suc (n - suc d) =
+        omega (arith, above) in rw (z, reversed) refl in
         let more = size-variable d (us ++ u ∷ []) n (slice_get (reverse us) (n - suc d)) at le in
         let less = size-variable (suc d) us n (slice_get (reverse us) (n - suc d)) refl above in
         rw e (omega (arith, more, less))
@@ -45,7 +48,8 @@ at_variable d us u n = go (nat_lt n d) refl (nat_eq n d) refl
 more-sum : (a b oa ob pa pb u : ℕ) → a + oa ≡ pa + oa * u → b + ob ≡ pb + ob * u → 1 + a + b + (oa + ob) ≡ 1 + pa + pb + (oa + ob) * u
 more-sum a b oa ob pa pb u ha hb = omega (arith, ha, hb)
 
-pub size-put_all-more : (d : ℕ) (us : List Tree) (u t : Tree) → size (put_all_at d (us ++ u ∷ []) t) + occurrences d t ≡ size (put_all_at (suc d) us t) + occurrences d t * size u
+pub size-put_all-more : (d : ℕ) (us : List Tree) (u t : Tree) → size (put_all_at d (us ++ u ∷ []) t) + occurrences d t
+    ≡ size (put_all_at (suc d) us t) + occurrences d t * size u
 size-put_all-more d us u SortType = omega arith
 size-put_all-more d us u SortKind = omega arith
 size-put_all-more d us u (Var n) = at_variable d us u n
@@ -74,7 +78,8 @@ spread_after-by before (u ∷ us) (Sym s) = refl
 spread_after-by before (u ∷ us) (App f x) = refl
 spread_after-by before (u ∷ us) (Lam a b) = refl
 spread_after-by before (u ∷ us) (Pi a b) =
-    product-sum (size a) (size b) (size (put_all before a)) (size (put_all_at 1 before b)) (size (put_all (before ++ u ∷ []) b)) (occurrences 0 b) (size u) (spread_after (before ++ u ∷ []) us b) (spread_by us b)
+    product-sum (size a) (size b) (size (put_all before a)) (size (put_all_at 1 before b)) (size (put_all (before ++ u ∷ []) b)) (occurrences 0 b) (size u)
+    (spread_after (before ++ u ∷ []) us b) (spread_by us b)
     (size-positive u) (size-put_all-more 0 before u b) (spread_after-by (before ++ u ∷ []) us b)
 
 -- the spread of a type at arguments, by occurrences

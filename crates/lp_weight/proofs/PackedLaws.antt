@@ -11,20 +11,25 @@ use Rattle.lp_weight.specs.Packed.{IsCode, amount_of, front_in, spread_in, AreEn
 pub amount_of-more : (large more : List ℕ) (code : ℕ) → IsCode (length large) code → amount_of (large ++ more) code ≡ amount_of large code
 amount_of-more large more code h = go (nat_lt code (2 ^ 31)) refl
   where
-    go : (b : Bool) → nat_lt code (2 ^ 31) ≡ b → (if nat_lt code (2 ^ 31) then code else get_or (large ++ more) (code - 2 ^ 31) 0) ≡ (if nat_lt code (2 ^ 31) then code else get_or large (code - 2 ^ 31) 0)
+    go : (b : Bool) → nat_lt code (2 ^ 31) ≡ b → (if nat_lt code (2 ^ 31) then code else get_or (large ++ more) (code - 2 ^ 31) 0)
+        ≡ (if nat_lt code (2 ^ 31) then code else get_or large (code - 2 ^ 31) 0)
     go true e = rw e refl
     go false e = let above : 2 ^ 31 ≤ code = grind (arith, e) in rw e (get_or_append_left large more 0 (code - 2 ^ 31) (omega (arith, above, h)))
 
 -- the spread of an entry stays
-spread_in-more : (large more : List ℕ) (entry : Entry) → IsCode (length large) entry.front → IsCode (length large) entry.inner → spread_in (large ++ more) entry ≡ spread_in large entry
+spread_in-more : (large more : List ℕ) (entry : Entry) → IsCode (length large) entry.front → IsCode (length large) entry.inner → spread_in (large ++ more) entry
+    ≡ spread_in large entry
 spread_in-more large more entry front inner =
-    ap₂ (λ (a b : ℕ). record { front = front_in entry.rest a; inner = b }) (amount_of-more large more entry.front front) (amount_of-more large more entry.inner inner)
+    ap₂ (λ (a b : ℕ). record { front = front_in entry.rest a; inner = b }) (amount_of-more large more entry.front front)
+    (amount_of-more large more entry.inner inner)
 
 -- the spreads of entries stay
-map-spread_in : (large more : List ℕ) (entries : List Entry) → AreEntries (length large) entries → map (spread_in (large ++ more)) entries ≡ map (spread_in large) entries
+map-spread_in : (large more : List ℕ) (entries : List Entry) → AreEntries (length large) entries → map (spread_in (large ++ more)) entries
+    ≡ map (spread_in large) entries
 map-spread_in large more [] h = refl
 map-spread_in large more (e ∷ es) h =
-    ap₂ (λ (a : Spread) (b : List Spread). a ∷ b) (spread_in-more large more e (h.front 0 e refl) (h.inner 0 e refl)) (map-spread_in large more es (record { front = λ i. h.front (suc i); inner = λ i. h.inner (suc i) }))
+    ap₂ (λ (a : Spread) (b : List Spread). a ∷ b) (spread_in-more large more e (h.front 0 e refl) (h.inner 0 e refl))
+    (map-spread_in large more es (record { front = λ i. h.front (suc i); inner = λ i. h.inner (suc i) }))
 
 -- a list that has grown is longer
 pub grown-longer : (old new : List ℕ) → IsGrown old new → length old ≤ length new
@@ -62,14 +67,16 @@ last-or (y ∷ xs) s zero x h = inl h
 last-or (y ∷ xs) s (suc i) x h = last-or xs s i x h
 
 -- entries with one more
-pub entries-more : (count : ℕ) (entries : List Entry) (entry : Entry) → AreEntries count entries → IsCode count entry.front → IsCode count entry.inner → AreEntries count (entries ++ entry ∷ [])
+pub entries-more : (count : ℕ) (entries : List Entry) (entry : Entry) → AreEntries count entries → IsCode count entry.front → IsCode count entry.inner
+    → AreEntries count (entries ++ entry ∷ [])
 entries-more count entries entry h front inner = record {
   front = λ i e w. ⊎_elim (λ old. h.front i e old) (λ new. subst (λ (k : Entry). IsCode count k.front) (sym new) front) (last-or entries entry i e w);
   inner = λ i e w. ⊎_elim (λ old. h.inner i e old) (λ new. subst (λ (k : Entry). IsCode count k.inner) (sym new) inner) (last-or entries entry i e w);
 }
 
 -- the spreads of entries with one more
-pub spreads-more : (old new : List ℕ) (entries : List Entry) (entry : Entry) (spread : Spread) → IsGrown old new → AreEntries (length old) entries → spread_in new entry ≡ spread → map (spread_in new) (entries ++ entry ∷ []) ≡ map (spread_in old) entries ++ spread ∷ []
+pub spreads-more : (old new : List ℕ) (entries : List Entry) (entry : Entry) (spread : Spread) → IsGrown old new → AreEntries (length old) entries
+    → spread_in new entry ≡ spread → map (spread_in new) (entries ++ entry ∷ []) ≡ map (spread_in old) entries ++ spread ∷ []
 spreads-more old new entries entry spread g h is =
     map-append (spread_in new) entries (entry ∷ [])
     ∙ ap₂ (λ (a : List Spread) (b : Spread). a ++ b ∷ []) (ap (λ w. map (spread_in w) entries) g.1 ∙ map-spread_in old g.0 entries h) is

@@ -26,10 +26,12 @@ spreads-split m args (Lam a b) = omega arith
 spreads-split m args (Pi a b) = omega arith
 
 -- the size of what stands for a variable
-pub size-variable : (d : ℕ) (us : List Tree) (n : ℕ) (o : Option Tree) → slice_get (reverse us) (n - d) ≡ o → d ≤ n → size (put_all_var d us n) ≡ option_map_or size o 1
+pub size-variable : (d : ℕ) (us : List Tree) (n : ℕ) (o : Option Tree) → slice_get (reverse us) (n - d) ≡ o → d ≤ n → size (put_all_var d us n)
+    ≡ option_map_or size o 1
 size-variable d us n o e le = go (nat_lt n d) refl
   where
-    go : (b : Bool) → nat_lt n d ≡ b → size (if b then Var n else option_map_or (lift d) (slice_get (reverse us) (n - d)) (Var (n - length us))) ≡ option_map_or size o 1
+    go : (b : Bool) → nat_lt n d ≡ b → size (if b then Var n else option_map_or (lift d) (slice_get (reverse us) (n - d)) (Var (n - length us)))
+        ≡ option_map_or size o 1
     go true h = absurd (grind (arith, h, le))
     go false h = ap (λ w. size (option_map_or (lift d) w (Var (n - length us)))) e ∙ either o
       where
@@ -38,14 +40,18 @@ size-variable d us n o e le = go (nat_lt n d) refl
         either (Some t) = size-lift d t
 
 -- the weight of a declaration by number
-pub weight_at-decl : (m : Module) (i : ℕ) (d : Decl) → slice_get m.decls i ≡ Some d → weight_at (declarations_of m) i ≡ weight (declarations_of m) (declaration_in m.table d)
-weight_at-decl m i d e = ap (λ o. option_map_or (weight (declarations_of m)) o 0) (slice_get-map (declaration_in m.table) m.decls i ∙ ap (option_map (declaration_in m.table)) e)
+pub weight_at-decl : (m : Module) (i : ℕ) (d : Decl) → slice_get m.decls i ≡ Some d → weight_at (declarations_of m) i
+    ≡ weight (declarations_of m) (declaration_in m.table d)
+weight_at-decl m i d e = ap (λ o. option_map_or (weight (declarations_of m)) o 0)
+    (slice_get-map (declaration_in m.table) m.decls i ∙ ap (option_map (declaration_in m.table)) e)
 
 -- a body's weight
-pub body-weight : (ds : List Declaration) (ts : List Tree) (body : Option LpId) (b : LpId) → body ≡ Some b → option_map_or (tree_weight ds) (option_map (λ id. tree_at ts id.0) body) 0 ≡ tree_weight ds (tree_at ts b.0)
+pub body-weight : (ds : List Declaration) (ts : List Tree) (body : Option LpId) (b : LpId) → body ≡ Some b
+    → option_map_or (tree_weight ds) (option_map (λ id. tree_at ts id.0) body) 0 ≡ tree_weight ds (tree_at ts b.0)
 body-weight ds ts body b e = ap (λ o. option_map_or (tree_weight ds) (option_map (λ (id : LpId). tree_at ts id.0) o) 0) e
 
-pub no_body-weight : (ds : List Declaration) (ts : List Tree) (body : Option LpId) → body ≡ None → option_map_or (tree_weight ds) (option_map (λ id. tree_at ts id.0) body) 0 ≡ 0
+pub no_body-weight : (ds : List Declaration) (ts : List Tree) (body : Option LpId) → body ≡ None
+    → option_map_or (tree_weight ds) (option_map (λ id. tree_at ts id.0) body) 0 ≡ 0
 no_body-weight ds ts body e = ap (λ o. option_map_or (tree_weight ds) (option_map (λ (id : LpId). tree_at ts id.0) o) 0) e
 
 -- no argument put in leaves a tree alone

@@ -15,7 +15,8 @@ saturated-sum a b = omega arith
 
 module _ (amount : Place → ℕ) (trees : List Tree) (place : Place) (tasks : List Task) (amounts : List ℕ) (memo : List (Place × ℕ)) where
   -- a visit that gives the amount
-  pub visit_given : (n : ℕ) → n ≡ saturated (amount place) → (goal : ℕ) → IsWalk amount trees goal (Visit place ∷ tasks) amounts memo → IsWalk amount trees goal tasks (n ∷ amounts) memo
+  pub visit_given : (n : ℕ) → n ≡ saturated (amount place) → (goal : ℕ) → IsWalk amount trees goal (Visit place ∷ tasks) amounts memo
+      → IsWalk amount trees goal tasks (n ∷ amounts) memo
   visit_given n e goal w = record {
     places = w.places.1;
     noted = w.noted;
@@ -27,7 +28,8 @@ module _ (amount : Place → ℕ) (trees : List Tree) (place : Place) (tasks : L
 
   -- a visit that sets out the parts
   module _ (first second : Place) (two : AreTwo amount trees place first second) where
-    pub set_out_walk : (goal : ℕ) → IsWalk amount trees goal (Visit place ∷ tasks) amounts memo → IsWalk amount trees goal (Visit first ∷ Visit second ∷ Join place ∷ tasks) amounts memo
+    pub set_out_walk : (goal : ℕ) → IsWalk amount trees goal (Visit place ∷ tasks) amounts memo
+        → IsWalk amount trees goal (Visit first ∷ Visit second ∷ Join place ∷ tasks) amounts memo
     set_out_walk goal w = record {
       places = (two.first_place, (two.second_place, w.places.1));
       noted = w.noted;
@@ -38,9 +40,11 @@ module _ (amount : Place → ℕ) (trees : List Tree) (place : Place) (tasks : L
     set_out_less = omega (arith, two.smaller)
 
 -- a join whose parts are summed
-pub join_walk : (place : Place) (n first second : ℕ) (tasks : List Task) (amounts rest : List ℕ) (memo noted : List (Place × ℕ)) → amounts ≡ second ∷ first ∷ rest → n ≡ saturated (first + second)
+pub join_walk : (place : Place) (n first second : ℕ) (tasks : List Task) (amounts rest : List ℕ) (memo noted : List (Place × ℕ)) → amounts
+    ≡ second ∷ first ∷ rest → n ≡ saturated (first + second)
     → ((p : Place) (k : ℕ) → IsNoted noted p k → IsNoted memo p k ⊎ ((p ≡ place) × (k ≡ n)))
-    → (amount : Place → ℕ) (trees : List Tree) (goal : ℕ) → IsWalk amount trees goal (Join place ∷ tasks) amounts memo → IsWalk amount trees goal tasks (n ∷ rest) noted
+    → (amount : Place → ℕ) (trees : List Tree) (goal : ℕ) → IsWalk amount trees goal (Join place ∷ tasks) amounts memo
+    → IsWalk amount trees goal tasks (n ∷ rest) noted
 join_walk place n first second tasks amounts rest memo noted em en notes amount trees goal w =
     let makes = subst (λ l. Makes amount (Join place ∷ tasks) l goal) em w.makes in
     let is : n ≡ saturated (amount place) = en ∙ makes.0 in
@@ -51,7 +55,8 @@ join_walk place n first second tasks amounts rest memo noted em en notes amount 
     }
 
 -- a join has two amounts on top
-pub join_length : (amount : Place → ℕ) (trees : List Tree) (goal : ℕ) (place : Place) (tasks : List Task) (amounts : List ℕ) (memo : List (Place × ℕ)) → IsWalk amount trees goal (Join place ∷ tasks) amounts memo → 1 < length amounts
+pub join_length : (amount : Place → ℕ) (trees : List Tree) (goal : ℕ) (place : Place) (tasks : List Task) (amounts : List ℕ) (memo : List (Place × ℕ))
+    → IsWalk amount trees goal (Join place ∷ tasks) amounts memo → 1 < length amounts
 join_length amount trees goal place tasks amounts memo w = go amounts w.makes
   where
     go : (l : List ℕ) → Makes amount (Join place ∷ tasks) l goal → 1 < length l
@@ -60,7 +65,8 @@ join_length amount trees goal place tasks amounts memo w = go amounts w.makes
     go (x ∷ y ∷ l) h = omega arith
 
 -- a walk at its beginning
-pub walk_begins : (amount : Place → ℕ) (trees : List Tree) (place : Place) (memo : List (Place × ℕ)) → IsPlace trees place → IsMemo amount memo → IsWalk amount trees (amount place) (Visit place ∷ []) [] memo
+pub walk_begins : (amount : Place → ℕ) (trees : List Tree) (place : Place) (memo : List (Place × ℕ)) → IsPlace trees place → IsMemo amount memo
+    → IsWalk amount trees (amount place) (Visit place ∷ []) [] memo
 walk_begins amount trees place memo p noted = record {
   places = (p, tt);
   noted = noted;
@@ -68,5 +74,6 @@ walk_begins amount trees place memo p noted = record {
 }
 
 -- where no task is left, the amount on top is the one that is wanted
-pub walk_done : (amount : Place → ℕ) (trees : List Tree) (goal : ℕ) (amounts : List ℕ) (memo : List (Place × ℕ)) → IsWalk amount trees goal [] amounts memo → amounts ≡ saturated goal ∷ []
+pub walk_done : (amount : Place → ℕ) (trees : List Tree) (goal : ℕ) (amounts : List ℕ) (memo : List (Place × ℕ)) → IsWalk amount trees goal [] amounts memo
+    → amounts ≡ saturated goal ∷ []
 walk_done amount trees goal amounts memo w = w.makes

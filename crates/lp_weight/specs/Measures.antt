@@ -42,7 +42,8 @@ IsPart amount trees place (parts.Two first second) = AreTwo amount trees place f
 abbrev pub Makes : (Place → ℕ) → List Task → List ℕ → ℕ → Type 0
 Makes amount [] amounts goal = amounts ≡ saturated goal ∷ []
 Makes amount (Visit place ∷ rest) amounts goal = Makes amount rest (saturated (amount place) ∷ amounts) goal
-Makes amount (Join place ∷ rest) (second ∷ first ∷ amounts) goal = (saturated (first + second) ≡ saturated (amount place)) × Makes amount rest (saturated (amount place) ∷ amounts) goal
+Makes amount (Join place ∷ rest) (second ∷ first ∷ amounts) goal =
+    (saturated (first + second) ≡ saturated (amount place)) × Makes amount rest (saturated (amount place) ∷ amounts) goal
 Makes amount (Join place ∷ rest) _ goal = ⊥
 
 -- each place that is to be visited is one of the table

@@ -20,7 +20,8 @@ digits-packed zero [] h a = refl
 digits-packed (suc count) [] h a = refl
 digits-packed zero (b ∷ bs) h a = absurd (omega (arith, h))
 digits-packed (suc count) (b ∷ bs) h a =
-    ap₂ (λ c l. c ∷ l) (mod-mul-add (packed bs) 256 b a.0) (ap (digits count) (div-mul-add (packed bs) 256 b a.0) ∙ digits-packed count bs (omega (arith, h)) a.1)
+    ap₂ (λ c l. c ∷ l) (mod-mul-add (packed bs) 256 b a.0)
+    (ap (digits count) (div-mul-add (packed bs) 256 b a.0) ∙ digits-packed count bs (omega (arith, h)) a.1)
 
 -- a number has at most so many digits, and each is a byte
 pub length-digits : (count n : ℕ) → length (digits count n) ≤ count
@@ -70,10 +71,12 @@ front-last (x ∷ y ∷ xs) (suc n) h = ap (λ l. x ∷ l) (front-last (y ∷ xs
 
 -- one more byte of a name is counted in
 pub move_last : (name left back : List ℕ) → name ≡ left ++ back → 1 ≤ length left → name ≡ take (length left - 1) left ++ get_or left (length left - 1) 0 ∷ back
-move_last name left back e h = e ∙ ap (λ l. l ++ back) (front-last left (length left - 1) (omega (arith, h))) ∙ append_assoc (take (length left - 1) left) (get_or left (length left - 1) 0 ∷ []) back
+move_last name left back e h = e ∙ ap (λ l. l ++ back) (front-last left (length left - 1) (omega (arith, h))) ∙ append_assoc (take (length left - 1) left)
+    (get_or left (length left - 1) 0 ∷ []) back
 
 -- the number so far leaves room for one more byte, which is one
-pub room : (name left back : List ℕ) (n : ℕ) → AreBytes name → name ≡ left ++ back → n ≡ packed back → length name ≤ 15 → 1 ≤ length left → (255 * n + 256 ≤ 2 ^ 120) × (get_or left (length left - 1) 0 < 256)
+pub room : (name left back : List ℕ) (n : ℕ) → AreBytes name → name ≡ left ++ back → n ≡ packed back → length name ≤ 15 → 1 ≤ length left
+    → (255 * n + 256 ≤ 2 ^ 120) × (get_or left (length left - 1) 0 < 256)
 room name left back n a e m h l =
     let f = move_last name left back e l in
     let r = AreBytes-append (take (length left - 1) left) (get_or left (length left - 1) 0 ∷ back) (subst AreBytes f a) in
@@ -86,7 +89,8 @@ nothing_left name [] back e h = e
 nothing_left name (x ∷ left) back e h = absurd (omega (arith, h))
 
 -- the digits that are to come, where some are left
-pub digits_left : (all front back : List ℕ) (n : ℕ) → all ≡ front ++ back → n ≡ packed back → AreBytes back → 0 < n → (rest : List ℕ) × (all ≡ (front ++ (n - 1) % 256 ∷ []) ++ rest) × ((n - 1) / 256 ≡ packed rest) × AreBytes rest
+pub digits_left : (all front back : List ℕ) (n : ℕ) → all ≡ front ++ back → n ≡ packed back → AreBytes back → 0 < n → (rest : List ℕ)
+    × (all ≡ (front ++ (n - 1) % 256 ∷ []) ++ rest) × ((n - 1) / 256 ≡ packed rest) × AreBytes rest
 digits_left all front [] n e m a h = absurd (omega (arith, m, h))
 digits_left all front (b ∷ bs) n e m a h =
     let p : n - 1 ≡ packed bs * 256 + b = omega (arith, m) in

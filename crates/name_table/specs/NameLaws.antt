@@ -49,7 +49,8 @@ pub number_of-push_other : (names : List (List ℕ)) (y x : List ℕ) → bytes_
 number_of-push_other names y x e = go (first (λ n. bytes_eq n x) names) refl
   where
     go : (o : Option ℕ) → first (λ n. bytes_eq n x) names ≡ o → number_of (names ++ y ∷ []) x ≡ number_of names x
-    go (Some n) h = position-first (λ n. bytes_eq n x) (names ++ y ∷ []) ∙ first-append-Some (λ n. bytes_eq n x) names (y ∷ []) n h ∙ sym h ∙ sym (position-first (λ n. bytes_eq n x) names)
+    go (Some n) h = position-first (λ n. bytes_eq n x) (names ++ y ∷ []) ∙ first-append-Some (λ n. bytes_eq n x) names (y ∷ []) n h ∙ sym h
+        ∙ sym (position-first (λ n. bytes_eq n x) names)
     go None h =
         position-first (λ n. bytes_eq n x) (names ++ y ∷ []) ∙ first-append-None (λ n. bytes_eq n x) names (y ∷ []) h
         ∙ ap (option_map (λ k. length names + k)) (last (bytes_eq y x) e) ∙ sym h ∙ sym (position-first (λ n. bytes_eq n x) names)
@@ -57,12 +58,14 @@ number_of-push_other names y x e = go (first (λ n. bytes_eq n x) names) refl
 -- a name that has a number keeps it
 pub number_of-push_old : (names : List (List ℕ)) (y x : List ℕ) (n : ℕ) → number_of names x ≡ Some n → number_of (names ++ y ∷ []) x ≡ Some n
 number_of-push_old names y x n e =
-    position-first (λ n. bytes_eq n x) (names ++ y ∷ []) ∙ first-append-Some (λ n. bytes_eq n x) names (y ∷ []) n (sym (position-first (λ n. bytes_eq n x) names) ∙ e)
+    position-first (λ n. bytes_eq n x) (names ++ y ∷ [])
+    ∙ first-append-Some (λ n. bytes_eq n x) names (y ∷ []) n (sym (position-first (λ n. bytes_eq n x) names) ∙ e)
 
 -- a new name has the next number
 pub number_of-push_new : (names : List (List ℕ)) (x : List ℕ) → number_of names x ≡ None → number_of (names ++ x ∷ []) x ≡ Some (length names)
 number_of-push_new names x e =
-    position-first (λ n. bytes_eq n x) (names ++ x ∷ []) ∙ first-append-None (λ n. bytes_eq n x) names (x ∷ []) (sym (position-first (λ n. bytes_eq n x) names) ∙ e)
+    position-first (λ n. bytes_eq n x) (names ++ x ∷ [])
+    ∙ first-append-None (λ n. bytes_eq n x) names (x ∷ []) (sym (position-first (λ n. bytes_eq n x) names) ∙ e)
     ∙ ap (λ b. option_map (λ k. length names + k) (cond b (Some 0) (option_map suc None))) (nat_list_eq_equiv.refl x)
     ∙ ap Some (let h : length names + 0 ≡ length names = omega arith in h)
 

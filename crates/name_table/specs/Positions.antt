@@ -59,4 +59,5 @@ first-map p f (x ∷ xs) = ap (λ o. cond (p (f x)) (Some 0) (option_map suc o))
 
 pub first-same : {X : Type 0} (p q : X → Bool) → ((x : X) → p x ≡ q x) → (xs : List X) → first p xs ≡ first q xs
 first-same p q h [] = refl
-first-same p q h (x ∷ xs) = ap (λ b. cond b (Some 0) (option_map suc (first p xs))) (h x) ∙ ap (λ o. cond (q x) (Some 0) (option_map suc o)) (first-same p q h xs)
+first-same p q h (x ∷ xs) = ap (λ b. cond b (Some 0) (option_map suc (first p xs))) (h x) ∙ ap (λ o. cond (q x) (Some 0) (option_map suc o))
+    (first-same p q h xs)

@@ -24,18 +24,21 @@ same_id-Decides : (p q : TermId) → Decides (same_id p q) (p ≡ q)
 same_id-Decides p q = Decides-like (same_id p q) (λ e i. record { 0 = e i }) (ap (λ (id : TermId). id.0)) (Decides-eqb p.0 q.0)
 
 same_id-sym : (p q : TermId) → same_id p q ≡ same_id q p
-same_id-sym p q = same_from_decides (same_id p q) (same_id q p) (same_id-Decides p q) (Decides-like (same_id q p) (λ e. sym e) (λ e. sym e) (same_id-Decides q p))
+same_id-sym p q = same_from_decides (same_id p q) (same_id q p) (same_id-Decides p q)
+    (Decides-like (same_id q p) (λ e. sym e) (λ e. sym e) (same_id-Decides q p))
 
 -- hypotheses are those that occur first
 distinct-ids : (ids : List TermId) → HasNoRepeats same_id ids → distinct same_id ids ≡ ids
 distinct-ids ids h = distinct-itself same_id (λ p q e. same_id-sym q p ∙ e) ids h
 
 -- hypotheses that are taken one after the other
-pub united_in_turn : (a b fst snd found more : List TermId) → HasNoRepeats same_id a → fst ≡ a → snd ≡ b → found ≡ distinct same_id fst → more ≡ union same_id found snd → more ≡ union same_id a b
+pub united_in_turn : (a b fst snd found more : List TermId) → HasNoRepeats same_id a → fst ≡ a → snd ≡ b → found ≡ distinct same_id fst → more
+    ≡ union same_id found snd → more ≡ union same_id a b
 united_in_turn a b fst snd found more n p q e f = f ∙ ap₂ (λ l m. union same_id l m) (e ∙ ap (distinct same_id) p ∙ distinct-ids a n) q
 
 -- what was kept of hypotheses, when none is left
-pub kept_all : (ids items found : List TermId) (i : ℕ) (p : TermId) → length items ≤ i → HasNoRepeats same_id ids → union same_id found (without same_id (drop i items) p) ≡ distinct same_id (without same_id ids p) → found ≡ without same_id ids p
+pub kept_all : (ids items found : List TermId) (i : ℕ) (p : TermId) → length items ≤ i → HasNoRepeats same_id ids
+    → union same_id found (without same_id (drop i items) p) ≡ distinct same_id (without same_id ids p) → found ≡ without same_id ids p
 kept_all ids items found i p h n e =
     ap (λ l. union same_id found (without same_id l p)) (sym (drop_all i items h)) ∙ e
     ∙ distinct-ids (without same_id ids p) (IsDistinct-filter same_id (λ q. not (same_id p q)) ids n)
@@ -74,7 +77,8 @@ pub ids_equal : (xs ys : List TermId) (r : Bool) → r ≡ pointwise same_id xs 
 ids_equal xs ys r e t = (slice_eq-Decides same_id-Decides xs ys r e).0 t
 
 -- hypotheses that are these numbers already are the numbers, each where it occurs first
-pub again-numbers : (own ids slice : List TermId) (r : Bool) → slice ≡ own → HasNoRepeats same_id own → r ≡ pointwise same_id slice ids → r ≡ true → own ≡ distinct same_id ids
+pub again-numbers : (own ids slice : List TermId) (r : Bool) → slice ≡ own → HasNoRepeats same_id own → r ≡ pointwise same_id slice ids → r ≡ true → own
+    ≡ distinct same_id ids
 again-numbers own ids slice r e n f t = sym (ap (distinct same_id) (sym (ids_equal slice ids r f t) ∙ e) ∙ distinct-ids own n)
 
 abbrev IsOf : Trees → TermId → Type 0
@@ -104,20 +108,25 @@ module _ (trees : Trees) (d : IsDistinct trees.terms) where
       (Decides-like (same_id p q) (ap (λ (id : TermId). term_at trees id.0)) (term_in-same d p q h k) (same_id-Decides p q))
 
   -- the trees of a union are the union of the trees
-  pub terms_at-union : (xs ys : List TermId) → AreKnown trees xs → AreKnown trees ys → terms_at trees (union same_id xs ys) ≡ union term_eq (terms_at trees xs) (terms_at trees ys)
+  pub terms_at-union : (xs ys : List TermId) → AreKnown trees xs → AreKnown trees ys → terms_at trees (union same_id xs ys)
+      ≡ union term_eq (terms_at trees xs) (terms_at trees ys)
   terms_at-union xs ys k l = union-map (λ id. term_at trees id.0) same_id term_eq (IsOf trees) term_eq-at ys xs (each_known trees xs k) (each_known trees ys l)
 
   -- the trees of what is left are what is left of the trees
-  pub terms_at-without : (ids : List TermId) (p : TermId) → AreKnown trees ids → p.0 < length trees.terms → terms_at trees (without same_id ids p) ≡ without term_eq (terms_at trees ids) (term_at trees p.0)
+  pub terms_at-without : (ids : List TermId) (p : TermId) → AreKnown trees ids → p.0 < length trees.terms → terms_at trees (without same_id ids p)
+      ≡ without term_eq (terms_at trees ids) (term_at trees p.0)
   terms_at-without ids p k h = without-map (λ id. term_at trees id.0) same_id term_eq (IsOf trees) term_eq-at ids p (each_known trees ids k) h
 
   -- some trees are among others exactly where their numbers are
-  all_in-at : (xs ys : List TermId) → AreKnown trees xs → AreKnown trees ys → list_all (λ t. is_in term_eq t (terms_at trees ys)) (terms_at trees xs) ≡ list_all (λ id. is_in same_id id ys) xs
+  all_in-at : (xs ys : List TermId) → AreKnown trees xs → AreKnown trees ys → list_all (λ t. is_in term_eq t (terms_at trees ys)) (terms_at trees xs)
+      ≡ list_all (λ id. is_in same_id id ys) xs
   all_in-at [] ys k l = refl
-  all_in-at (x ∷ xs) ys k l = ap₂ (λ a b. a && b) (is_in-map (λ id. term_at trees id.0) same_id term_eq (IsOf trees) term_eq-at x ys k.0 (each_known trees ys l)) (all_in-at xs ys k.1 l)
+  all_in-at (x ∷ xs) ys k l = ap₂ (λ a b. a && b)
+      (is_in-map (λ id. term_at trees id.0) same_id term_eq (IsOf trees) term_eq-at x ys k.0 (each_known trees ys l)) (all_in-at xs ys k.1 l)
 
   -- a sequent is within another where its hypotheses and its conclusion are
-  pub within-at : (a b : Sequent) → IsKnown trees a → IsKnown trees b → within (sequent_at trees a) (sequent_at trees b) ≡ (list_all (λ id. is_in same_id id b.hyps) a.hyps && same_id a.concl b.concl)
+  pub within-at : (a b : Sequent) → IsKnown trees a → IsKnown trees b → within (sequent_at trees a) (sequent_at trees b)
+      ≡ (list_all (λ id. is_in same_id id b.hyps) a.hyps && same_id a.concl b.concl)
   within-at a b k l = ap₂ (λ x y. x && y) (all_in-at a.hyps b.hyps k.0 l.0) (term_eq-at a.concl b.concl k.1 l.1)
 
 pub and_then : (a b c : Bool) → a ≡ true → b ≡ c → b ≡ (a && c)

@@ -20,11 +20,14 @@ use Rattle.sequent.specs.Closed.{first, firsts, behind, closed_types_of, no_type
 use Rattle.sequent.specs.Closing.{IsTypeWalk, IsWalk, type_work}
 
 -- types that stand first are all taken as arguments, and those behind are left
-closed_types_of-firsts : (trees : List HolType) (names : List Name) (ids : List TypeId) (rest : List ClosedType) → closed_types_of (firsts no_type (length ids) (map (close_type names) (types_at trees ids) ++ rest)) ≡ close_types names (types_of (types_at trees ids))
+closed_types_of-firsts : (trees : List HolType) (names : List Name) (ids : List TypeId) (rest : List ClosedType)
+    → closed_types_of (firsts no_type (length ids) (map (close_type names) (types_at trees ids) ++ rest)) ≡ close_types names (types_of (types_at trees ids))
 closed_types_of-firsts trees names [] rest = refl
-closed_types_of-firsts trees names (id ∷ ids) rest = ap (form.ClosedTypes.more (close_type names (tree_at trees id.0))) (closed_types_of-firsts trees names ids rest)
+closed_types_of-firsts trees names (id ∷ ids) rest =
+    ap (form.ClosedTypes.more (close_type names (tree_at trees id.0))) (closed_types_of-firsts trees names ids rest)
 
-behind-listed : (trees : List HolType) (names : List Name) (ids : List TypeId) (rest : List ClosedType) → behind (length ids) (map (close_type names) (types_at trees ids) ++ rest) ≡ rest
+behind-listed : (trees : List HolType) (names : List Name) (ids : List TypeId) (rest : List ClosedType)
+    → behind (length ids) (map (close_type names) (types_at trees ids) ++ rest) ≡ rest
 behind-listed trees names [] rest = refl
 behind-listed trees names (id ∷ ids) rest = behind-listed trees names ids rest
 
@@ -33,7 +36,8 @@ AreKnown-append : (trees : List HolType) (ids more : List TypeId) → AreKnown t
 AreKnown-append trees [] more h k = k
 AreKnown-append trees (id ∷ ids) more h k = (h.0, AreKnown-append trees ids more h.1 k)
 
-closed-append : (trees : List HolType) (names : List Name) (ids more : List TypeId) → map (close_type names) (types_at trees (ids ++ more)) ≡ map (close_type names) (types_at trees ids) ++ map (close_type names) (types_at trees more)
+closed-append : (trees : List HolType) (names : List Name) (ids more : List TypeId) → map (close_type names) (types_at trees (ids ++ more))
+    ≡ map (close_type names) (types_at trees ids) ++ map (close_type names) (types_at trees more)
 closed-append trees names [] more = refl
 closed-append trees names (id ∷ ids) more = ap (λ l. close_type names (tree_at trees id.0) ∷ l) (closed-append trees names ids more)
 
@@ -43,17 +47,20 @@ module _ (trees : List HolType) (names : List Name) where
   closed_at ids = map (close_type names) (types_at trees ids)
 
   -- an operator is visited, and then its arguments
-  pub operator_turn : (root : ClosedType) (id : TypeId) (m n : Name) (args tasks : List TypeId) (nodes : List TypeNode) → m ≡ n → Holds trees id.0 (operator n (types_of (types_at trees args))) → AreBelow id.0 args
+  pub operator_turn : (root : ClosedType) (id : TypeId) (m n : Name) (args tasks : List TypeId) (nodes : List TypeNode) → m ≡ n
+      → Holds trees id.0 (operator n (types_of (types_at trees args))) → AreBelow id.0 args
       → IsTypeWalk trees names root (id ∷ tasks) nodes → IsTypeWalk trees names root (args ++ tasks) (nodes ++ TypeNode.Operator m (length args) ∷ [])
   operator_turn root id m n args tasks nodes e h low w =
       let node = TypeNode.Operator m (length args) in
       let is : type_step node (closed_at args ++ closed_at tasks) ≡ closed_at (id ∷ tasks) =
       ap₂ (λ t ts. t ∷ ts)
-      (ap₂ form.ClosedType.operator e (closed_types_of-firsts trees names args (closed_at tasks)) ∙ ap (close_type names) (sym (Holds-tree_at trees id.0 (operator n (types_of (types_at trees args))) h)))
+      (ap₂ form.ClosedType.operator e (closed_types_of-firsts trees names args (closed_at tasks))
+      ∙ ap (close_type names) (sym (Holds-tree_at trees id.0 (operator n (types_of (types_at trees args))) h)))
       (behind-listed trees names args (closed_at tasks)) in
       record {
         known = AreKnown-append trees args tasks (AreBelow-known trees id.0 args (let l = w.known.0 in omega (arith, l)) low) w.known.1;
-        spells = λ later d. ap spelled_types (append_assoc nodes (node ∷ []) later) ∙ w.spells (node ∷ later) (ap (type_step node) (d ∙ closed-append trees names args tasks) ∙ is);
+        spells = λ later d. ap spelled_types (append_assoc nodes (node ∷ []) later)
+            ∙ w.spells (node ∷ later) (ap (type_step node) (d ∙ closed-append trees names args tasks) ∙ is);
       }
 
   -- the work of arguments is less than that of their type
@@ -61,7 +68,8 @@ module _ (trees : List HolType) (names : List Name) where
   type_work-append [] more = omega arith
   type_work-append (id ∷ ids) more = let h = type_work-append ids more in omega (arith, h)
 
-  pub operator_less : (id : TypeId) (n : Name) (args tasks : List TypeId) → Holds trees id.0 (operator n (types_of (types_at trees args))) → type_work trees (args ++ tasks) < type_work trees (id ∷ tasks)
+  pub operator_less : (id : TypeId) (n : Name) (args tasks : List TypeId) → Holds trees id.0 (operator n (types_of (types_at trees args)))
+      → type_work trees (args ++ tasks) < type_work trees (id ∷ tasks)
   operator_less id n args tasks h =
       let e = ap type_size (Holds-tree_at trees id.0 (operator n (types_of (types_at trees args))) h) in
       let l = type_work-append args tasks in
@@ -74,11 +82,13 @@ module _ (trees : List HolType) (names : List Name) where
 -- Walks that close a term.
 module _ (trees : Trees) (names : List Name) (variables : List Variable) (root : ClosedTerm) where
   -- a free variable is visited
-  pub free_turn : (id : TermId) (place : ℕ) (tasks : List TermId) (nodes : List TermNode) → form.ClosedTerm.parameter place ≡ close_term names variables (term_at trees id.0)
+  pub free_turn : (id : TermId) (place : ℕ) (tasks : List TermId) (nodes : List TermNode) → form.ClosedTerm.parameter place
+      ≡ close_term names variables (term_at trees id.0)
       → IsWalk trees names variables root (id ∷ tasks) nodes → IsWalk trees names variables root tasks (nodes ++ TermNode.Parameter place ∷ [])
   free_turn id place tasks nodes e w = record {
     known = w.known.1;
-    spells = λ later h. ap spelled_terms (append_assoc nodes (TermNode.Parameter place ∷ []) later) ∙ w.spells (TermNode.Parameter place ∷ later) (ap₂ (λ t ts. t ∷ ts) e h);
+    spells = λ later h. ap spelled_terms (append_assoc nodes (TermNode.Parameter place ∷ []) later)
+        ∙ w.spells (TermNode.Parameter place ∷ later) (ap₂ (λ t ts. t ∷ ts) e h);
   }
 
   -- at the end the nodes spell the root

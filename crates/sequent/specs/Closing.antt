@@ -19,9 +19,11 @@ pub record IsTypeWalk (trees : List HolType) (names : List Name) (root : ClosedT
   pub known : type.AreKnown trees tasks
   pub spells : (later : List TypeNode) → spelled_types later ≡ map (close_type names) (types_at trees tasks) → spelled_types (nodes ++ later) ≡ root ∷ []
 
-pub record IsWalk (trees : Trees) (names : List Name) (variables : List Variable) (root : ClosedTerm) (tasks : List TermId) (nodes : List TermNode) : Type 0 where
-  pub known : AreKnown trees tasks
-  pub spells : (later : List TermNode) → spelled_terms later ≡ map (close_term names variables) (terms_at trees tasks) → spelled_terms (nodes ++ later) ≡ root ∷ []
+pub record IsWalk (trees : Trees) (names : List Name) (variables : List Variable) (root : ClosedTerm) (tasks : List TermId) (nodes : List TermNode) : Type 0
+  where
+    pub known : AreKnown trees tasks
+    pub spells : (later : List TermNode) → spelled_terms later ≡ map (close_term names variables) (terms_at trees tasks) → spelled_terms (nodes ++ later)
+        ≡ root ∷ []
 
 -- how many turns they take at most
 abbrev pub type_work : List HolType → List TypeId → ℕ

@@ -62,7 +62,8 @@ mutual
 
 -- a type with these nodes is the type
 view-flat_type : (t : form.ClosedType) (c : ClosedType) → c.nodes.items ≡ flat_type t → closed_type_view c ≡ t
-view-flat_type t c e = ap (λ nodes. first no_type (spelled_types nodes)) (e ∙ sym (append-nil (flat_type t))) ∙ ap (first no_type) (spelled_types-flat_type t [])
+view-flat_type t c e = ap (λ nodes. first no_type (spelled_types nodes)) (e ∙ sym (append-nil (flat_type t))) ∙ ap (first no_type)
+    (spelled_types-flat_type t [])
 
 -- the nodes of a term spell it before what the nodes behind spell
 pub spelled_terms-IsFlat : (t : form.ClosedTerm) (nodes rest : List TermNode) → IsFlat t nodes → spelled_terms (nodes ++ rest) ≡ t ∷ spelled_terms rest

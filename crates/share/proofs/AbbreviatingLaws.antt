@@ -18,13 +18,17 @@ use Rattle.share.proofs.AskingLaws.{declarations-after}
 pub closed-question : (m : List Declaration) (new : List Tree) (q : LpId) (t : Tree) → Holds new q.0 (Pi SortType t) → IsQuestion m new q
 closed-question m new q t e = (Holds-within new q.0 (Pi SortType t) e, subst (IsAsked m) (sym (Holds-tree_at new q.0 (Pi SortType t) e)) tt)
 
-pub closed-told : (old : Module) (mid new : List Tree) (q id : LpId) (r : Option LpId) → Keeps old.table mid → IsHeld old → Holds mid q.0 (Pi SortType (tree_at old.table id.0))
-    → Tells new r (answer (declarations_of (record { table = mid; decls = old.decls })) (tree_at mid q.0)) → Tells new r (term_type (declarations_of old) [] (tree_at old.table id.0))
+pub closed-told : (old : Module) (mid new : List Tree) (q id : LpId) (r : Option LpId) → Keeps old.table mid → IsHeld old
+    → Holds mid q.0 (Pi SortType (tree_at old.table id.0))
+    → Tells new r (answer (declarations_of (record { table = mid; decls = old.decls })) (tree_at mid q.0))
+    → Tells new r (term_type (declarations_of old) [] (tree_at old.table id.0))
 closed-told old mid new q id r k h e t =
     let d = declarations-after old (record { table = mid; decls = old.decls }) refl k h in
-    subst (λ m. Tells new r (answer m (Pi SortType (tree_at old.table id.0)))) d (subst (λ y. Tells new r (answer (declarations_of (record { table = mid; decls = old.decls })) y)) (Holds-tree_at mid q.0 _ e) t)
+    subst (λ m. Tells new r (answer m (Pi SortType (tree_at old.table id.0)))) d
+    (subst (λ y. Tells new r (answer (declarations_of (record { table = mid; decls = old.decls })) y)) (Holds-tree_at mid q.0 _ e) t)
 
-pub terms-told : (new made : List Tree) (o : Option Tree) (ty terms : LpId) (r : Option LpId) → r ≡ Some ty → Tells new r o → Holds made terms.0 (term_of (tree_at new ty.0)) → Tells made (Some terms) (option_map term_of o)
+pub terms-told : (new made : List Tree) (o : Option Tree) (ty terms : LpId) (r : Option LpId) → r ≡ Some ty → Tells new r o
+    → Holds made terms.0 (term_of (tree_at new ty.0)) → Tells made (Some terms) (option_map term_of o)
 terms-told new made o ty terms r s t e =
     let w : Tells new (Some ty) o = subst (λ y. Tells new y o) s t in
     (Holds-within made terms.0 _ e, ap Some (Holds-tree_at made terms.0 _ e) ∙ ap (option_map term_of) w.1)
@@ -54,7 +58,8 @@ constant-asked m (Lam f x) e = tt
 constant-asked m (Pi f x) e = absurd (cc)
 
 -- a simple type
-pub types-told : (m : List Declaration) (ts : List Tree) (t : Tree) (r : Option LpId) (b : Bool) → is_product t ≡ false → Tells ts r (answer m t) → b ≡ is_types_told (told ts r) → b ≡ true → Tells ts r (type_of_abbreviation m t)
+pub types-told : (m : List Declaration) (ts : List Tree) (t : Tree) (r : Option LpId) (b : Bool) → is_product t ≡ false → Tells ts r (answer m t) → b
+    ≡ is_types_told (told ts r) → b ≡ true → Tells ts r (type_of_abbreviation m t)
 types-told m ts t r b p h e f =
     let c : told ts r ≡ constant_type m [] t = h.1 ∙ constant-answer m t p in
     let s : is_simple m [] t ≡ true = sym (ap is_types_told c) ∙ sym e ∙ f in
@@ -69,9 +74,11 @@ types-told m ts t r b p h e f =
     at (Some t) i = here t (tree_eq t types) refl i
 
 -- or a term of one
-pub term-told : (old mid : Module) (new : List Tree) (id : LpId) (r s : Option LpId) (b : Bool) → mid.decls ≡ old.decls → Keeps old.table mid.table → IsHeld old → id.0 < length old.table → is_product (tree_at old.table id.0) ≡ false
+pub term-told : (old mid : Module) (new : List Tree) (id : LpId) (r s : Option LpId) (b : Bool) → mid.decls ≡ old.decls → Keeps old.table mid.table → IsHeld old
+    → id.0 < length old.table → is_product (tree_at old.table id.0) ≡ false
     → Tells mid.table r (answer (declarations_of old) (tree_at old.table id.0)) → b ≡ is_types_told (told mid.table r) → b ≡ false
-    → Tells new s (option_map term_of (term_type (declarations_of mid) [] (tree_at mid.table id.0))) → Tells new s (type_of_abbreviation (declarations_of old) (tree_at old.table id.0))
+    → Tells new s (option_map term_of (term_type (declarations_of mid) [] (tree_at mid.table id.0)))
+    → Tells new s (type_of_abbreviation (declarations_of old) (tree_at old.table id.0))
 term-told old mid new id r s b d k h l p a e f t =
     let m = declarations_of old in
     let u = tree_at old.table id.0 in

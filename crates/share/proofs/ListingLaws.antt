@@ -75,8 +75,10 @@ AreListed-append count n k [] e h i = (i, tt)
 AreListed-append count n k (x ∷ xs) e h i = (h.0, AreListed-append count n k xs e h.1 i)
 
 -- the first of them, and one more
-pub AreListed-next : (count n a b i : ℕ) (es : List Listed) (e : Listed) → slice_get es i ≡ Some e → a ≤ b → AreListed count n a (take i es) → IsListed count n b e → AreListed count n b (take (i + 1) es)
-AreListed-next count n a b i es e f l h k = subst (AreListed count n b) (sym (take-next es i e f)) (AreListed-append count n b (take i es) e (AreListed-wider count n a b (take i es) l h) k)
+pub AreListed-next : (count n a b i : ℕ) (es : List Listed) (e : Listed) → slice_get es i ≡ Some e → a ≤ b → AreListed count n a (take i es)
+    → IsListed count n b e → AreListed count n b (take (i + 1) es)
+AreListed-next count n a b i es e f l h k = subst (AreListed count n b) (sym (take-next es i e f))
+    (AreListed-append count n b (take i es) e (AreListed-wider count n a b (take i es) l h) k)
 
 pub AreListed-all : (count n k i : ℕ) (es : List Listed) → length es ≤ i → AreListed count n k (take i es) → AreListed count n k es
 AreListed-all count n k i es l h = subst (AreListed count n k) (take-past es i l) h
@@ -92,15 +94,19 @@ AreIdsBelow-at n (x ∷ xs) zero id h f = subst (λ (y : LpId). y.0 < n) (same_S
 AreIdsBelow-at n (x ∷ xs) (suc i) id h f = AreIdsBelow-at n xs i id h.1 f
 
 -- A grown table
-entry-stays : (m : List Declaration) (old new : List Tree) (count n : ℕ) (e : Listed) → Keeps old new → n ≤ length old → IsListed count n (length old) e → entry_in m new e ≡ entry_in m old e
+entry-stays : (m : List Declaration) (old new : List Tree) (count n : ℕ) (e : Listed) → Keeps old new → n ≤ length old → IsListed count n (length old) e
+    → entry_in m new e ≡ entry_in m old e
 entry-stays m old new count n (listed.Kept i) k l h = refl
-entry-stays m old new count n (listed.Abbreviated body ty) k l h = ap₂ abbreviated (sym (tree_at-Stays k.stays body.0 (omega (arith, h.0, l)))) (sym (tree_at-Stays k.stays ty.0 h.1))
+entry-stays m old new count n (listed.Abbreviated body ty) k l h =
+    ap₂ abbreviated (sym (tree_at-Stays k.stays body.0 (omega (arith, h.0, l)))) (sym (tree_at-Stays k.stays ty.0 h.1))
 
-pub entries-stay : (m : List Declaration) (old new : List Tree) (count n : ℕ) (es : List Listed) → Keeps old new → n ≤ length old → AreListed count n (length old) es → entries_in m new es ≡ entries_in m old es
+pub entries-stay : (m : List Declaration) (old new : List Tree) (count n : ℕ) (es : List Listed) → Keeps old new → n ≤ length old
+    → AreListed count n (length old) es → entries_in m new es ≡ entries_in m old es
 entries-stay m old new count n [] k l h = refl
 entries-stay m old new count n (e ∷ es) k l h = ap₂ (λ x xs. x ∷ xs) (entry-stays m old new count n e k l h.0) (entries-stay m old new count n es k l h.1)
 
-pub Agrees-Keeps : (old new : List Tree) (counts : List ℕ) (c : Tree → ℕ) → Keeps old new → length counts ≤ length old → Agrees old counts c → Agrees new counts c
+pub Agrees-Keeps : (old new : List Tree) (counts : List ℕ) (c : Tree → ℕ) → Keeps old new → length counts ≤ length old → Agrees old counts c
+    → Agrees new counts c
 Agrees-Keeps old new counts c k l a i t h m =
     let here : Holds old i (tree_at old i) = tree_at-Holds old i (omega (arith, m, l)) in
     let same : tree_at old i ≡ t = same_Some _ _ (sym (k.stays.each i (tree_at old i) here) ∙ h) in
@@ -115,10 +121,12 @@ two-counted (suc (suc n)) = let e : min 2 (suc (suc n)) ≡ 2 = omega arith in a
     many : (n : ℕ) → nat_le 2 (suc (suc n)) ≡ true
     many n = grind arith
 
-twice-places : (ts : List Tree) (counts : List ℕ) (all : List Tree) (id : LpId) (b r : Bool) → length counts ≤ length ts → id.0 < length counts → r ≡ nat_le 2 (get_or counts id.0 0) → r ≡ b → Agrees ts counts (counted all)
+twice-places : (ts : List Tree) (counts : List ℕ) (all : List Tree) (id : LpId) (b r : Bool) → length counts ≤ length ts → id.0 < length counts → r
+    ≡ nat_le 2 (get_or counts id.0 0) → r ≡ b → Agrees ts counts (counted all)
     → nat_le 2 (places (tree_at ts id.0) all) ≡ b
 twice-places ts counts all id b r l m e f a =
-    sym (two-counted (places (tree_at ts id.0) all)) ∙ ap (nat_le 2) (sym (a id.0 (tree_at ts id.0) (tree_at-Holds ts id.0 (omega (arith, l, m))) m)) ∙ sym e ∙ f
+    sym (two-counted (places (tree_at ts id.0) all)) ∙ ap (nat_le 2) (sym (a id.0 (tree_at ts id.0) (tree_at-Holds ts id.0 (omega (arith, l, m))) m)) ∙ sym e
+    ∙ f
 
 shared-is : (m : List Declaration) (all : List Tree) (t : Tree) (o : Option Tree) (b : Bool) → abbreviation m t ≡ o → nat_le 2 (places t all) ≡ b
     → shared_in m all (t ∷ []) ≡ abbreviations m (if is_some o && b then t ∷ [] else [])
@@ -134,33 +142,41 @@ shared-not m all t f = shared-is m all t (abbreviation m t) false refl f ∙ go 
 shared-none : (m : List Declaration) (all : List Tree) (t : Tree) → abbreviation m t ≡ None → shared_in m all (t ∷ []) ≡ []
 shared-none m all t e = shared-is m all t None (nat_le 2 (places t all)) e refl
 
-shared-some : (m : List Declaration) (all : List Tree) (t a : Tree) → abbreviation m t ≡ Some a → nat_le 2 (places t all) ≡ true → shared_in m all (t ∷ []) ≡ abbreviated t a ∷ []
+shared-some : (m : List Declaration) (all : List Tree) (t a : Tree) → abbreviation m t ≡ Some a → nat_le 2 (places t all) ≡ true → shared_in m all (t ∷ [])
+    ≡ abbreviated t a ∷ []
 shared-some m all t a e f = shared-is m all t (Some a) true e f ∙ ap (λ o. abbreviated t (unwrap_or o types) ∷ []) e
 
-pub lists-nothing : (m : List Declaration) (old new : List Tree) (es : List Listed) (xs : List Entry) → entries_in m new es ≡ entries_in m old es → xs ≡ [] → entries_in m new es ≡ entries_in m old es ++ xs
+pub lists-nothing : (m : List Declaration) (old new : List Tree) (es : List Listed) (xs : List Entry) → entries_in m new es ≡ entries_in m old es → xs ≡ []
+    → entries_in m new es ≡ entries_in m old es ++ xs
 lists-nothing m old new es xs s e = s ∙ sym (append-nil (entries_in m old es)) ∙ ap (λ l. entries_in m old es ++ l) (sym e)
 
 -- a tree that isn't twice there
-pub lists-not : (m : List Declaration) (ts : List Tree) (es : List Listed) (counts : List ℕ) (id : LpId) (r : Bool) → length counts ≤ length ts → id.0 < length counts → r ≡ nat_le 2 (get_or counts id.0 0) → r ≡ false → (all : List Tree) → Agrees ts counts (counted all)
+pub lists-not : (m : List Declaration) (ts : List Tree) (es : List Listed) (counts : List ℕ) (id : LpId) (r : Bool) → length counts ≤ length ts
+    → id.0 < length counts → r ≡ nat_le 2 (get_or counts id.0 0) → r ≡ false → (all : List Tree) → Agrees ts counts (counted all)
     → entries_in m ts es ≡ entries_in m ts es ++ shared_in m all (tree_at ts id.0 ∷ [])
-lists-not m ts es counts id r l k e f all a = lists-nothing m ts ts es (shared_in m all (tree_at ts id.0 ∷ [])) refl (shared-not m all (tree_at ts id.0) (twice-places ts counts all id false r l k e f a))
+lists-not m ts es counts id r l k e f all a = lists-nothing m ts ts es (shared_in m all (tree_at ts id.0 ∷ [])) refl
+    (shared-not m all (tree_at ts id.0) (twice-places ts counts all id false r l k e f a))
 
 -- what is told of its abbreviation is added
 pub adds-none : (new : List Tree) (es : List Listed) (id : LpId) (o : Option LpId) (a : Option Tree) → o ≡ None → Tells new o a → AddsOne new es es id a
 adds-none new es id o a e t = subst (AddsOne new es es id) (sym (ap (told new) e) ∙ t.1) refl
 
-pub adds-some : (new : List Tree) (es es' : List Listed) (id ty : LpId) (o : Option LpId) (a : Option Tree) → o ≡ Some ty → Tells new o a → es' ≡ es ++ listed.Abbreviated id ty ∷ [] → AddsOne new es es' id a
+pub adds-some : (new : List Tree) (es es' : List Listed) (id ty : LpId) (o : Option LpId) (a : Option Tree) → o ≡ Some ty → Tells new o a → es' ≡ es
+    ++ listed.Abbreviated id ty ∷ [] → AddsOne new es es' id a
 adds-some new es es' id ty o a e t f =
     let w : Tells new (Some ty) a = subst (λ (y : Option LpId). Tells new y a) e t in
     subst (AddsOne new es es' id) w.1 (ty, w.0, refl, f)
 
 -- a tree that is twice there
-pub lists-one : (m : List Declaration) (old new : List Tree) (es es' : List Listed) (counts : List ℕ) (id : LpId) (r : Bool) → Keeps old new → length counts ≤ length old → id.0 < length counts → entries_in m new es ≡ entries_in m old es
-    → r ≡ nat_le 2 (get_or counts id.0 0) → r ≡ true → AddsOne new es es' id (abbreviation m (tree_at old id.0)) → (all : List Tree) → Agrees old counts (counted all)
+pub lists-one : (m : List Declaration) (old new : List Tree) (es es' : List Listed) (counts : List ℕ) (id : LpId) (r : Bool) → Keeps old new
+    → length counts ≤ length old → id.0 < length counts → entries_in m new es ≡ entries_in m old es
+    → r ≡ nat_le 2 (get_or counts id.0 0) → r ≡ true → AddsOne new es es' id (abbreviation m (tree_at old id.0)) → (all : List Tree)
+    → Agrees old counts (counted all)
     → entries_in m new es' ≡ entries_in m old es ++ shared_in m all (tree_at old id.0 ∷ [])
 lists-one m old new es es' counts id r k l n s g h adds all a = go (abbreviation m (tree_at old id.0)) refl adds
   where
-    go : (o : Option Tree) → abbreviation m (tree_at old id.0) ≡ o → AddsOne new es es' id o → entries_in m new es' ≡ entries_in m old es ++ shared_in m all (tree_at old id.0 ∷ [])
+    go : (o : Option Tree) → abbreviation m (tree_at old id.0) ≡ o → AddsOne new es es' id o → entries_in m new es' ≡ entries_in m old es
+        ++ shared_in m all (tree_at old id.0 ∷ [])
     go None e f = ap (entries_in m new) f ∙ lists-nothing m old new es (shared_in m all (tree_at old id.0 ∷ [])) s (shared-none m all (tree_at old id.0) e)
     go (Some t) e f =
         ap (entries_in m new) f.3
@@ -168,38 +184,49 @@ lists-one m old new es es' counts id r k l n s g h adds all a = go (abbreviation
         ∙ ap₂ (λ x y. x ++ y ∷ []) s (ap₂ abbreviated (sym (tree_at-Stays k.stays id.0 (omega (arith, n, l)))) f.2)
         ∙ ap (λ l. entries_in m old es ++ l) (sym (shared-some m all (tree_at old id.0) t e (twice-places old counts all id true r l n g h a)))
 
-pub listed-one : (count n : ℕ) (old new : List Tree) (es es' : List Listed) (id : LpId) (a : Option Tree) → Keeps old new → id.0 < n → AreListed count n (length old) es → AddsOne new es es' id a → AreListed count n (length new) es'
-listed-one count n old new es es' id None k l h adds = subst (AreListed count n (length new)) (sym adds) (AreListed-wider count n (length old) (length new) es k.longer h)
+pub listed-one : (count n : ℕ) (old new : List Tree) (es es' : List Listed) (id : LpId) (a : Option Tree) → Keeps old new → id.0 < n
+    → AreListed count n (length old) es → AddsOne new es es' id a → AreListed count n (length new) es'
+listed-one count n old new es es' id None k l h adds =
+    subst (AreListed count n (length new)) (sym adds) (AreListed-wider count n (length old) (length new) es k.longer h)
 listed-one count n old new es es' id (Some t) k l h adds =
-    subst (AreListed count n (length new)) (sym adds.3) (AreListed-append count n (length new) es (listed.Abbreviated id adds.0) (AreListed-wider count n (length old) (length new) es k.longer h) (l, adds.1))
+    subst (AreListed count n (length new)) (sym adds.3)
+    (AreListed-append count n (length new) es (listed.Abbreviated id adds.0) (AreListed-wider count n (length old) (length new) es k.longer h) (l, adds.1))
 
-pub listing-after : (old new : Module) (n : ℕ) (before after : Listing) (id : LpId) (a : Option Tree) → new.decls ≡ old.decls → Keeps old.table new.table → id.0 < n → IsListing old n before → IsAsking new (get nat_eq after.answers) after.waiting
+pub listing-after : (old new : Module) (n : ℕ) (before after : Listing) (id : LpId) (a : Option Tree) → new.decls ≡ old.decls → Keeps old.table new.table
+    → id.0 < n → IsListing old n before → IsAsking new (get nat_eq after.answers) after.waiting
     → AddsOne new.table before.entries.items after.entries.items id a → IsListing new n after
 listing-after old new n before after id a e k l h asking adds = record {
   asking = asking;
   within = (let w = h.within in let g = k.longer in omega (arith, w, g));
-  known = subst (λ ds. AreListed (length ds) n (length new.table) after.entries.items) (sym e) (listed-one (length old.decls) n old.table new.table before.entries.items after.entries.items id a k l h.known adds);
+  known = subst (λ ds. AreListed (length ds) n (length new.table) after.entries.items) (sym e)
+      (listed-one (length old.decls) n old.table new.table before.entries.items after.entries.items id a k l h.known adds);
 }
 
 -- Trees in order
 pub shared-append : (m : List Declaration) (all xs ys : List Tree) → shared_in m all (xs ++ ys) ≡ shared_in m all xs ++ shared_in m all ys
-shared-append m all xs ys = ap (abbreviations m) (filter-append (is_shared m all) xs ys) ∙ map-append (λ t. abbreviated t (unwrap_or (abbreviation m t) types)) (filter (is_shared m all) xs) (filter (is_shared m all) ys)
+shared-append m all xs ys = ap (abbreviations m) (filter-append (is_shared m all) xs ys) ∙ map-append (λ t. abbreviated t (unwrap_or (abbreviation m t) types))
+    (filter (is_shared m all) xs) (filter (is_shared m all) ys)
 
 -- one more of them
-pub lists-next : (first old new : Module) (start before after : List Listed) (counts : List ℕ) (ids : List LpId) (i from : ℕ) (id : LpId) (all : List Tree) → old.decls ≡ first.decls → Keeps first.table old.table → IsHeld first → length counts ≤ length first.table
+pub lists-next : (first old new : Module) (start before after : List Listed) (counts : List ℕ) (ids : List LpId) (i from : ℕ) (id : LpId) (all : List Tree)
+    → old.decls ≡ first.decls → Keeps first.table old.table → IsHeld first → length counts ≤ length first.table
     → slice_get ids i ≡ Some id → id.0 < length counts → Agrees first.table counts (counted all)
     → (Agrees old.table counts (counted all) → ListsMore old new before after (shared_in (declarations_of old) all (tree_at old.table id.0 ∷ [])))
-    → entries_in (declarations_of first) old.table before ++ shared_in (declarations_of first) all (trees_at first.table (drop i ids)) ≡ entries_in (declarations_of first) first.table start ++ shared_in (declarations_of first) all (trees_at first.table (drop from ids))
-    → entries_in (declarations_of first) new.table after ++ shared_in (declarations_of first) all (trees_at first.table (drop (i + 1) ids)) ≡ entries_in (declarations_of first) first.table start ++ shared_in (declarations_of first) all (trees_at first.table (drop from ids))
+    → entries_in (declarations_of first) old.table before ++ shared_in (declarations_of first) all (trees_at first.table (drop i ids))
+    ≡ entries_in (declarations_of first) first.table start ++ shared_in (declarations_of first) all (trees_at first.table (drop from ids))
+    → entries_in (declarations_of first) new.table after ++ shared_in (declarations_of first) all (trees_at first.table (drop (i + 1) ids))
+    ≡ entries_in (declarations_of first) first.table start ++ shared_in (declarations_of first) all (trees_at first.table (drop from ids))
 lists-next first old new start before after counts ids i from id all d k h l e n a step done =
     let m = declarations_of first in
     let same : declarations_of old ≡ m = declarations-after first old d k h in
     let stays : tree_at old.table id.0 ≡ tree_at first.table id.0 = sym (tree_at-Stays k.stays id.0 (omega (arith, n, l))) in
     let one : entries_in m new.table after ≡ entries_in m old.table before ++ shared_in m all (tree_at first.table id.0 ∷ []) =
     subst (λ y. entries_in m new.table after ≡ entries_in m old.table before ++ shared_in m all (y ∷ [])) stays
-    (subst (λ w. entries_in w new.table after ≡ entries_in w old.table before ++ shared_in w all (tree_at old.table id.0 ∷ [])) same (step (Agrees-Keeps first.table old.table counts (counted all) k l a))) in
+    (subst (λ w. entries_in w new.table after ≡ entries_in w old.table before ++ shared_in w all (tree_at old.table id.0 ∷ [])) same
+    (step (Agrees-Keeps first.table old.table counts (counted all) k l a))) in
     let next : suc i ≡ i + 1 = omega arith in
-    let split : trees_at first.table (drop i ids) ≡ tree_at first.table id.0 ∷ trees_at first.table (drop (i + 1) ids) = ap (trees_at first.table) (drop-next ids i id e) ∙ ap (λ j. tree_at first.table id.0 ∷ trees_at first.table (drop j ids)) next in
+    let split : trees_at first.table (drop i ids) ≡ tree_at first.table id.0 ∷ trees_at first.table (drop (i + 1) ids) =
+    ap (trees_at first.table) (drop-next ids i id e) ∙ ap (λ j. tree_at first.table id.0 ∷ trees_at first.table (drop j ids)) next in
     let rest = trees_at first.table (drop (i + 1) ids) in
     ap (λ x. x ++ shared_in m all rest) one
     ∙ append_assoc (entries_in m old.table before) (shared_in m all (tree_at first.table id.0 ∷ [])) (shared_in m all rest)
@@ -208,25 +235,34 @@ lists-next first old new start before after counts ids i from id all d k h l e n
 
 -- after the last of them
 pub lists-last : (m : List Declaration) (old new : List Tree) (start after : List Listed) (ids : List LpId) (i from : ℕ) (all : List Tree) → length ids ≤ i
-    → entries_in m new after ++ shared_in m all (trees_at old (drop i ids)) ≡ entries_in m old start ++ shared_in m all (trees_at old (drop from ids)) → entries_in m new after ≡ entries_in m old start ++ shared_in m all (trees_at old (drop from ids))
-lists-last m old new start after ids i from all l e = sym (append-nil (entries_in m new after)) ∙ ap (λ x. entries_in m new after ++ shared_in m all (trees_at old x)) (sym (drop-past ids i l)) ∙ e
+    → entries_in m new after ++ shared_in m all (trees_at old (drop i ids)) ≡ entries_in m old start ++ shared_in m all (trees_at old (drop from ids))
+    → entries_in m new after ≡ entries_in m old start ++ shared_in m all (trees_at old (drop from ids))
+lists-last m old new start after ids i from all l e =
+    sym (append-nil (entries_in m new after)) ∙ ap (λ x. entries_in m new after ++ shared_in m all (trees_at old x)) (sym (drop-past ids i l)) ∙ e
 
 -- DECLARATIONS: those before a number are listed, over trees that were met and are alike
 abbrev pub ListedTo : Module → Module → List Listed → List Listed → List ℕ → List LpId → ℕ → ℕ → Type 0
 ListedTo first now start listing counts order from i =
     let m = declarations_of first in
-    IsModule m → (all : List Tree) → Agrees first.table counts (counted all) → (met : List Tree) × Alike (trees_at now.table order) met × IsClosed met × (entries_in m now.table listing ++ entries (take i m) all met (drop i m) ≡ entries_in m first.table start ++ listed_from m all from)
+    IsModule m → (all : List Tree) → Agrees first.table counts (counted all) → (met : List Tree) × Alike (trees_at now.table order) met × IsClosed met
+    × (entries_in m now.table listing ++ entries (take i m) all met (drop i m) ≡ entries_in m first.table start ++ listed_from m all from)
 
-pub listed-first : (first : Module) (start : List Listed) (counts : List ℕ) (order : List LpId) (from : ℕ) → order ≡ [] → ListedTo first first start start counts order from from
+pub listed-first : (first : Module) (start : List Listed) (counts : List ℕ) (order : List LpId) (from : ℕ) → order ≡ []
+    → ListedTo first first start start counts order from from
 listed-first first start counts order from e a all g = ([], subst (λ o. Alike (trees_at first.table o) []) (sym e) (λ w. refl), none-closed, refl)
 
 whole : (m : List Declaration) (i : ℕ) (d : Declaration) → slice_get m i ≡ Some d → take i m ++ d ∷ drop (i + 1) m ≡ m
-whole m i d e = let n : suc i ≡ i + 1 = omega arith in ap (λ j. take i m ++ d ∷ drop j m) (sym n) ∙ ap (λ l. take i m ++ l) (sym (drop-next m i d e)) ∙ take-append-drop i m
+whole m i d e = let n : suc i ≡ i + 1 = omega arith in ap (λ j. take i m ++ d ∷ drop j m) (sym n) ∙ ap (λ l. take i m ++ l) (sym (drop-next m i d e))
+    ∙ take-append-drop i m
 
 -- one more of them
-pub listed-next : (first old new : Module) (start before after : List Listed) (counts : List ℕ) (order order' : List LpId) (from i : ℕ) → old.decls ≡ first.decls → Keeps first.table old.table → IsHeld first → length counts ≤ length first.table → i < length first.decls
-    → ((all met : List Tree) (d : Declaration) → Agrees old.table counts (counted all) → Alike (trees_at old.table order) met → IsClosed met → slice_get (declarations_of old) i ≡ Some d → ListsMore old new before after (shared_in (declarations_of old) all (firsts met (parts_in d)) ++ kept d ∷ []))
-    → ((met : List Tree) (d : Declaration) → Alike (trees_at old.table order) met → IsClosed met → slice_get (declarations_of old) i ≡ Some d → Alike (trees_at new.table order') (met ++ parts_in d))
+pub listed-next : (first old new : Module) (start before after : List Listed) (counts : List ℕ) (order order' : List LpId) (from i : ℕ) → old.decls
+    ≡ first.decls → Keeps first.table old.table → IsHeld first → length counts ≤ length first.table → i < length first.decls
+    → ((all met : List Tree) (d : Declaration) → Agrees old.table counts (counted all) → Alike (trees_at old.table order) met → IsClosed met
+    → slice_get (declarations_of old) i ≡ Some d → ListsMore old new before after
+    (shared_in (declarations_of old) all (firsts met (parts_in d)) ++ kept d ∷ []))
+    → ((met : List Tree) (d : Declaration) → Alike (trees_at old.table order) met → IsClosed met → slice_get (declarations_of old) i ≡ Some d
+    → Alike (trees_at new.table order') (met ++ parts_in d))
     → ListedTo first old start before counts order from i → ListedTo first new start after counts order' from (i + 1)
 listed-next first old new start before after counts order order' from i e k h l n more alike listed a all g =
     let m = declarations_of first in
@@ -248,7 +284,8 @@ listed-next first old new start before after counts order order' from i e k h l 
     (more all met d (Agrees-Keeps first.table old.table counts (counted all) k l g) so_far.1 so_far.2 at')) in
     let more_entries = entries (before' ++ d ∷ []) all (met ++ parts_in d) rest in
     let j : suc i ≡ i + 1 = omega arith in
-    let split : entries before' all met (drop i m) ≡ news ++ kept d ∷ more_entries = ap (entries before' all met) (drop-next m i d at ∙ ap (λ q. d ∷ drop q m) j) in (
+    let split : entries before' all met (drop i m) ≡ news ++ kept d ∷ more_entries =
+    ap (entries before' all met) (drop-next m i d at ∙ ap (λ q. d ∷ drop q m) j) in (
       met ++ parts_in d,
       alike met d so_far.1 so_far.2 at',
       closed-declaration met d so_far.2,
@@ -264,8 +301,10 @@ listed-next first old new start before after counts order order' from i e k h l 
     at-number (x ∷ xs) (suc i) l = at-number xs i (omega (arith, l))
 
 -- after the last of them
-pub listed-last : (first now : Module) (start listing : List Listed) (counts : List ℕ) (order : List LpId) (from i : ℕ) → length first.decls ≤ i → ListedTo first now start listing counts order from i
-    → IsModule (declarations_of first) → (all : List Tree) → Agrees first.table counts (counted all) → ListsMore first now start listing (listed_from (declarations_of first) all from)
+pub listed-last : (first now : Module) (start listing : List Listed) (counts : List ℕ) (order : List LpId) (from i : ℕ) → length first.decls ≤ i
+    → ListedTo first now start listing counts order from i
+    → IsModule (declarations_of first) → (all : List Tree) → Agrees first.table counts (counted all)
+    → ListsMore first now start listing (listed_from (declarations_of first) all from)
 listed-last first now start listing counts order from i l h a all g =
     let m = declarations_of first in
     let so_far = h a all g in
@@ -273,22 +312,29 @@ listed-last first now start listing counts order from i l h a all g =
     sym (append-nil (entries_in m now.table listing)) ∙ ap (λ x. entries_in m now.table listing ++ entries (take i m) all so_far.0 x) (sym none) ∙ so_far.3
 
 -- A declaration: its trees, and itself
-pub declaration-listed : (first new : Module) (start before after : List Listed) (all met : List Tree) (order order' : List LpId) (number from : ℕ) (d : Declaration) (x : Decl)
-    → slice_get first.decls number ≡ Some x → slice_get (declarations_of first) number ≡ Some d → Alike (trees_at first.table order) met → IsClosed met → from ≡ length order → trees_at first.table order' ≡ visited_in (trees_at first.table order) (declaration_in first.table x)
-    → ListsMore first new start before (shared_in (declarations_of first) all (trees_at first.table (drop from order'))) → after ≡ before ++ listed.Kept number ∷ [] → ListsMore first new start after (shared_in (declarations_of first) all (firsts met (parts_in d)) ++ kept d ∷ [])
+pub declaration-listed : (first new : Module) (start before after : List Listed) (all met : List Tree) (order order' : List LpId) (number from : ℕ)
+    (d : Declaration) (x : Decl)
+    → slice_get first.decls number ≡ Some x → slice_get (declarations_of first) number ≡ Some d → Alike (trees_at first.table order) met → IsClosed met → from
+    ≡ length order → trees_at first.table order' ≡ visited_in (trees_at first.table order) (declaration_in first.table x)
+    → ListsMore first new start before (shared_in (declarations_of first) all (trees_at first.table (drop from order'))) → after ≡ before
+    ++ listed.Kept number ∷ [] → ListsMore first new start after (shared_in (declarations_of first) all (firsts met (parts_in d)) ++ kept d ∷ [])
 declaration-listed first new start before after all met order order' number from d x e f h c n v more g =
     let m = declarations_of first in
     let ts = first.table in
     let same : declaration_in ts x ≡ d = same_declaration ts first.decls number x d e f in
-    let seen : trees_at ts order' ≡ trees_at ts order ++ firsts met (parts_in d) = v ∙ ap (visited_in (trees_at ts order)) same ∙ visited-declaration (trees_at ts order) met d h c in
-    let news : trees_at ts (drop from order') ≡ firsts met (parts_in d) = drop-trees ts from order' ∙ ap (drop from) seen ∙ drop-front (trees_at ts order) (firsts met (parts_in d)) from (n ∙ sym (length-map order (λ (id : LpId). tree_at ts id.0))) in
+    let seen : trees_at ts order' ≡ trees_at ts order ++ firsts met (parts_in d) =
+    v ∙ ap (visited_in (trees_at ts order)) same ∙ visited-declaration (trees_at ts order) met d h c in
+    let news : trees_at ts (drop from order') ≡ firsts met (parts_in d) =
+    drop-trees ts from order' ∙ ap (drop from) seen ∙ drop-front (trees_at ts order) (firsts met (parts_in d)) from
+    (n ∙ sym (length-map order (λ (id : LpId). tree_at ts id.0))) in
     ap (entries_in m new.table) g
     ∙ map-append (entry_in m new.table) before (listed.Kept number ∷ [])
     ∙ ap₂ (λ a o. a ++ kept (unwrap_or o (symbol [] SortType)) ∷ []) more f
     ∙ append_assoc (entries_in m ts start) (shared_in m all (trees_at ts (drop from order'))) (kept d ∷ [])
     ∙ ap (λ w. entries_in m ts start ++ (shared_in m all w ++ kept d ∷ [])) news
   where
-    same_declaration : (ts : List Tree) (ds : List Decl) (i : ℕ) (x : Decl) (d : Declaration) → slice_get ds i ≡ Some x → slice_get (map (declaration_in ts) ds) i ≡ Some d → declaration_in ts x ≡ d
+    same_declaration : (ts : List Tree) (ds : List Decl) (i : ℕ) (x : Decl) (d : Declaration) → slice_get ds i ≡ Some x
+        → slice_get (map (declaration_in ts) ds) i ≡ Some d → declaration_in ts x ≡ d
     same_declaration ts ds i x d e f = same_Some _ _ (sym (slice_get-map (declaration_in ts) ds i ∙ ap (option_map (declaration_in ts)) e) ∙ f)
 
     drop-trees : (ts : List Tree) (n : ℕ) (ids : List LpId) → trees_at ts (drop n ids) ≡ drop n (trees_at ts ids)
@@ -304,15 +350,19 @@ declaration-listed first new start before after all met order order' number from
     drop-front (x ∷ xs) ys (suc n) e = drop-front xs ys n (omega (arith, e))
 
 pub declaration-met : (first : Module) (new met : List Tree) (n : ℕ) (order order' : List LpId) (number : ℕ) (d : Declaration) (x : Decl)
-    → slice_get first.decls number ≡ Some x → slice_get (declarations_of first) number ≡ Some d → Alike (trees_at first.table order) met → IsClosed met → trees_at first.table order' ≡ visited_in (trees_at first.table order) (declaration_in first.table x)
+    → slice_get first.decls number ≡ Some x → slice_get (declarations_of first) number ≡ Some d → Alike (trees_at first.table order) met → IsClosed met
+    → trees_at first.table order' ≡ visited_in (trees_at first.table order) (declaration_in first.table x)
     → Keeps first.table new → n ≤ length first.table → AreIdsBelow n order' → Alike (trees_at new order') (met ++ parts_in d)
 declaration-met first new met n order order' number d x e f h c v k l b =
     let ts = first.table in
-    let same : declaration_in ts x ≡ d = same_Some _ _ (sym (slice_get-map (declaration_in ts) first.decls number ∙ ap (option_map (declaration_in ts)) e) ∙ f) in
-    subst (λ w. Alike w (met ++ parts_in d)) (sym (trees-stay ts new n order' k l b ∙ v ∙ ap (visited_in (trees_at ts order)) same)) (alike-declaration (trees_at ts order) met d h c)
+    let same : declaration_in ts x ≡ d = same_Some _ _ (sym (slice_get-map (declaration_in ts) first.decls number ∙ ap (option_map (declaration_in ts)) e) ∙ f)
+    in
+    subst (λ w. Alike w (met ++ parts_in d)) (sym (trees-stay ts new n order' k l b ∙ v ∙ ap (visited_in (trees_at ts order)) same))
+    (alike-declaration (trees_at ts order) met d h c)
 
 -- The first declarations
-pub kept-next : (m : List Declaration) (ts : List Tree) (i : ℕ) (es es' : List Listed) → es' ≡ es ++ listed.Kept i ∷ [] → i + 1 ≤ length m → entries_in m ts es ≡ map kept (take i m) → entries_in m ts es' ≡ map kept (take (i + 1) m)
+pub kept-next : (m : List Declaration) (ts : List Tree) (i : ℕ) (es es' : List Listed) → es' ≡ es ++ listed.Kept i ∷ [] → i + 1 ≤ length m → entries_in m ts es
+    ≡ map kept (take i m) → entries_in m ts es' ≡ map kept (take (i + 1) m)
 kept-next m ts i es es' e l h =
     let at = slice_get-get_or m i (symbol [] SortType) (omega (arith, l)) in
     let is : declaration_at m i ≡ get_or m i (symbol [] SortType) = ap (λ o. unwrap_or o (symbol [] SortType)) at in
@@ -322,7 +372,8 @@ kept-next m ts i es es' e l h =
     ∙ sym (map-append kept (take i m) (get_or m i (symbol [] SortType) ∷ []))
     ∙ ap (map kept) (sym (take-next m i (get_or m i (symbol [] SortType)) at))
 
-pub kept-known : (n bodies types i : ℕ) (es es' : List Listed) → es' ≡ es ++ listed.Kept i ∷ [] → i + 1 ≤ n → AreListed n bodies types es → AreListed n bodies types es'
+pub kept-known : (n bodies types i : ℕ) (es es' : List Listed) → es' ≡ es ++ listed.Kept i ∷ [] → i + 1 ≤ n → AreListed n bodies types es
+    → AreListed n bodies types es'
 kept-known n bodies types i es es' e l h = subst (AreListed n bodies types) (sym e) (AreListed-append n bodies types es (listed.Kept i) h (omega (arith, l)))
 
 pub on_ok_both : {T E : Type 0} (r : Result T E) (A B : Type 0) → OnOk r A → OnOk r B → OnOk r (A × B)

@@ -76,7 +76,8 @@ ids-more n k [] id e l h = (omega (arith, e, l), tt)
 ids-more n k (x ∷ xs) id e l h = (omega (arith, e, h.0), ids-more n k xs id e l h.1)
 
 -- a tree that is left is met
-pub left-meeting : (ts : List Tree) (met met' : List Bool) (order order' : List LpId) (id : LpId) → id.0 < length met → met' ≡ set met id.0 true → order' ≡ order ++ id ∷ [] → IsMeeting ts met order → IsMeeting ts met' order'
+pub left-meeting : (ts : List Tree) (met met' : List Bool) (order order' : List LpId) (id : LpId) → id.0 < length met → met' ≡ set met id.0 true → order'
+    ≡ order ++ id ∷ [] → IsMeeting ts met order → IsMeeting ts met' order'
 left-meeting ts met met' order order' id l e f m =
     subst (λ xs. IsMeeting ts xs order') (sym e) (subst (λ xs. IsMeeting ts (set met id.0 true) xs) (sym f) record {
       distinct = m.distinct;
@@ -84,15 +85,20 @@ left-meeting ts met met' order order' id l e f m =
       known = ids-more (length met) (length (set met id.0 true)) order id (omega (arith, length-set met id.0 true)) l m.known;
       flags = λ i t h k.
           let k' : i < length met = omega (arith, k, length-set met id.0 true) in
-          let held : is_in t (trees_at ts (order ++ id ∷ [])) ≡ (is_in t (trees_at ts order) || (tree_eq t (tree_at ts id.0) || false)) = ap (is_in t) (map-append (λ (x : LpId). tree_at ts x.0) order (id ∷ [])) ∙ is_in-append t (trees_at ts order) (tree_at ts id.0 ∷ []) in
+          let held : is_in t (trees_at ts (order ++ id ∷ [])) ≡ (is_in t (trees_at ts order) || (tree_eq t (tree_at ts id.0) || false)) =
+          ap (is_in t) (map-append (λ (x : LpId). tree_at ts x.0) order (id ∷ [])) ∙ is_in-append t (trees_at ts order) (tree_at ts id.0 ∷ []) in
           go i t h (m.flags i t h k') (tree_eq t (tree_at ts id.0)) refl ∙ sym held;
     })
   where
-    go : (i : ℕ) (t : Tree) → Holds ts i t → get_or met i false ≡ is_in t (trees_at ts order) → (b : Bool) → tree_eq t (tree_at ts id.0) ≡ b → get_or (set met id.0 true) i false ≡ (is_in t (trees_at ts order) || (tree_eq t (tree_at ts id.0) || false))
+    go : (i : ℕ) (t : Tree) → Holds ts i t → get_or met i false ≡ is_in t (trees_at ts order) → (b : Bool) → tree_eq t (tree_at ts id.0) ≡ b
+        → get_or (set met id.0 true) i false ≡ (is_in t (trees_at ts order) || (tree_eq t (tree_at ts id.0) || false))
     go i t h g true p =
-        let same : i ≡ id.0 = m.distinct.each i id.0 t h (tree_at-Holds ts id.0 (let w = m.within in omega (arith, l, w)) ∙ ap Some (sym (tree_eq-true t (tree_at ts id.0) p))) in
-        ap (λ j. get_or (set met id.0 true) j false) same ∙ get_or-set_same met id.0 true false l ∙ sym (ap (λ b. is_in t (trees_at ts order) || (b || false)) p ∙ or-true (is_in t (trees_at ts order)))
-    go i t h g false p = get_or-set_other met id.0 i true false (λ s. apart s) ∙ g ∙ sym (ap (λ b. is_in t (trees_at ts order) || (b || false)) p ∙ or-false (is_in t (trees_at ts order)))
+        let same : i ≡ id.0 = m.distinct.each i id.0 t h
+        (tree_at-Holds ts id.0 (let w = m.within in omega (arith, l, w)) ∙ ap Some (sym (tree_eq-true t (tree_at ts id.0) p))) in
+        ap (λ j. get_or (set met id.0 true) j false) same ∙ get_or-set_same met id.0 true false l
+        ∙ sym (ap (λ b. is_in t (trees_at ts order) || (b || false)) p ∙ or-true (is_in t (trees_at ts order)))
+    go i t h g false p = get_or-set_other met id.0 i true false (λ s. apart s) ∙ g ∙ sym
+        (ap (λ b. is_in t (trees_at ts order) || (b || false)) p ∙ or-false (is_in t (trees_at ts order)))
       where
         apart : i ≡ id.0 → ⊥
         apart s =
@@ -101,7 +107,8 @@ left-meeting ts met met' order order' id l e f m =
             cc
 
 -- the trees in order, once one is left
-pub left-order : (ts : List Tree) (order order' : List LpId) (id : LpId) → order' ≡ order ++ id ∷ [] → trees_at ts order' ≡ trees_at ts order ++ tree_at ts id.0 ∷ []
+pub left-order : (ts : List Tree) (order order' : List LpId) (id : LpId) → order' ≡ order ++ id ∷ [] → trees_at ts order' ≡ trees_at ts order
+    ++ tree_at ts id.0 ∷ []
 left-order ts order order' id f = ap (trees_at ts) f ∙ map-append (λ (x : LpId). tree_at ts x.0) order (id ∷ [])
 
 any-default : {X : Type 0} (xs : List X) (i : ℕ) (d e : X) → i < length xs → get_or xs i d ≡ get_or xs i e
@@ -110,8 +117,10 @@ any-default (x ∷ xs) zero d e l = refl
 any-default (x ∷ xs) (suc i) d e l = any-default xs i d e (omega arith)
 
 -- a flag tells whether the tree was met
-pub flag-met : (ts : List Tree) (met : List Bool) (order : List LpId) (i : ℕ) (b r : Bool) → IsMeeting ts met order → i < length met → r ≡ get_or met i r → r ≡ b → is_in (tree_at ts i) (trees_at ts order) ≡ b
-flag-met ts met order i b r m l e f = sym (m.flags i (tree_at ts i) (tree_at-Holds ts i (let w = m.within in omega (arith, l, w))) l) ∙ any-default met i false r l ∙ sym e ∙ f
+pub flag-met : (ts : List Tree) (met : List Bool) (order : List LpId) (i : ℕ) (b r : Bool) → IsMeeting ts met order → i < length met → r ≡ get_or met i r → r
+    ≡ b → is_in (tree_at ts i) (trees_at ts order) ≡ b
+flag-met ts met order i b r m l e f = sym (m.flags i (tree_at ts i) (tree_at-Holds ts i (let w = m.within in omega (arith, l, w))) l) ∙ any-default met i false
+    r l ∙ sym e ∙ f
 
 -- A declaration's trees
 pub visited-declaration : (done met : List Tree) (d : Declaration) → Alike done met → IsClosed met → visited_in done d ≡ done ++ firsts met (parts_in d)
@@ -133,7 +142,8 @@ alike-declaration done met d h c = body d.body
   where
     body : (o : Option Tree) → Alike (option_map_or (visit (visit done d.ty)) o (visit done d.ty)) (met ++ (parts d.ty ++ option_map_or parts o []))
     body None = subst (λ l. Alike (visit done d.ty) (met ++ l)) (sym (append-nil (parts d.ty))) (visited-alike d.ty done met h c)
-    body (Some t) = subst (λ l. Alike (visit (visit done d.ty) t) l) (append_assoc met (parts d.ty) (parts t)) (visited-alike t (visit done d.ty) (met ++ parts d.ty) (visited-alike d.ty done met h c) (closed-more met d.ty c))
+    body (Some t) = subst (λ l. Alike (visit (visit done d.ty) t) l) (append_assoc met (parts d.ty) (parts t))
+        (visited-alike t (visit done d.ty) (met ++ parts d.ty) (visited-alike d.ty done met h c) (closed-more met d.ty c))
 
 pub closed-declaration : (met : List Tree) (d : Declaration) → IsClosed met → IsClosed (met ++ parts_in d)
 closed-declaration met d c = body d.body
@@ -159,7 +169,8 @@ meeting-after old new met order k m = record {
 }
 
 -- Nothing is met at first
-pub none-met : (ts : List Tree) (met : List Bool) (order : List LpId) → IsDistinct ts → length met ≤ length ts → met ≡ replicate (length met) false → order ≡ [] → IsMeeting ts met order
+pub none-met : (ts : List Tree) (met : List Bool) (order : List LpId) → IsDistinct ts → length met ≤ length ts → met ≡ replicate (length met) false → order ≡ []
+    → IsMeeting ts met order
 none-met ts met order d l e f = subst (λ o. IsMeeting ts met o) (sym f) record {
   distinct = d;
   within = l;
@@ -201,7 +212,8 @@ visited-longer done d = body d.body
     body None = visit-longer d.ty done
     body (Some t) = omega (arith, visit-longer d.ty done, visit-longer t (visit done d.ty))
 
-pub order-longer : (ts : List Tree) (order order' : List LpId) (d : Declaration) → trees_at ts order' ≡ visited_in (trees_at ts order) d → length order ≤ length order'
+pub order-longer : (ts : List Tree) (order order' : List LpId) (d : Declaration) → trees_at ts order' ≡ visited_in (trees_at ts order) d
+    → length order ≤ length order'
 order-longer ts order order' d e =
     let a = length-map order (λ (id : LpId). tree_at ts id.0) in
     let b = length-map order' (λ (id : LpId). tree_at ts id.0) in

@@ -19,7 +19,8 @@ use Rattle.share.proofs.CountLaws.{drop-next, drop-past}
 places-split : (es : List Listed) (i : ℕ) (e : Listed) → slice_get es i ≡ Some e → kept_places i (drop i es) ≡ kept_places i (e ∷ drop (i + 1) es)
 places-split es i e f = ap (kept_places i) (drop-next es i e f ∙ (let n : suc i ≡ i + 1 = omega arith in ap (λ j. e ∷ drop j es) n))
 
-pub places-kept : (es : List Listed) (i j : ℕ) (e : Listed) (places places' all : List ℕ) → slice_get es i ≡ Some e → e ≡ listed.Kept j → places' ≡ places ++ i ∷ [] → places ++ kept_places i (drop i es) ≡ all → places' ++ kept_places (i + 1) (drop (i + 1) es) ≡ all
+pub places-kept : (es : List Listed) (i j : ℕ) (e : Listed) (places places' all : List ℕ) → slice_get es i ≡ Some e → e ≡ listed.Kept j → places' ≡ places
+    ++ i ∷ [] → places ++ kept_places i (drop i es) ≡ all → places' ++ kept_places (i + 1) (drop (i + 1) es) ≡ all
 places-kept es i j e places places' all f is g h =
     let rest = drop (i + 1) es in
     let n : i + 1 ≡ suc i = omega arith in
@@ -29,7 +30,8 @@ places-kept es i j e places places' all f is g h =
     ∙ ap (λ x. places ++ x) (sym (places-split es i e f))
     ∙ h
 
-pub places-abbreviated : (es : List Listed) (i : ℕ) (body ty : LpId) (e : Listed) (places all : List ℕ) → slice_get es i ≡ Some e → e ≡ listed.Abbreviated body ty → places ++ kept_places i (drop i es) ≡ all → places ++ kept_places (i + 1) (drop (i + 1) es) ≡ all
+pub places-abbreviated : (es : List Listed) (i : ℕ) (body ty : LpId) (e : Listed) (places all : List ℕ) → slice_get es i ≡ Some e → e
+    ≡ listed.Abbreviated body ty → places ++ kept_places i (drop i es) ≡ all → places ++ kept_places (i + 1) (drop (i + 1) es) ≡ all
 places-abbreviated es i body ty e places all f is h =
     let rest = drop (i + 1) es in
     let n : i + 1 ≡ suc i = omega arith in
@@ -66,7 +68,8 @@ module _ (m : List Declaration) (ts : List Tree) where
   pub entries-count : (es : List Listed) → entries_in m ts es ≡ entries_of m → length m ≤ length es
   entries-count es e = let n = ap length (kept_of-entries_of m) in let s = ap (λ l. length (kept_of l)) e in omega (arith, fewer-kept es, n, s)
 
-  pub place_by-place_in : (es : List Listed) (places : List ℕ) (more : ℕ) → entries_in m ts es ≡ entries_of m → places ≡ kept_places 0 es → more + length m ≡ length es → (i : ℕ) → place_by places more i ≡ place_in (entries_of m) i
+  pub place_by-place_in : (es : List Listed) (places : List ℕ) (more : ℕ) → entries_in m ts es ≡ entries_of m → places ≡ kept_places 0 es → more + length m
+      ≡ length es → (i : ℕ) → place_by places more i ≡ place_in (entries_of m) i
   place_by-place_in es places more e f g i = ap (λ x. place_by x more i) f ∙ go (nat_lt i (length (kept_places 0 es))) refl ∙ ap (λ x. place_in x i) e
     where
       count : length (kept_places 0 es) ≡ length m
@@ -93,5 +96,6 @@ moved-same g h e (App f x) = ap₂ App (moved-same g h e f) (moved-same g h e x)
 moved-same g h e (Lam a b) = ap₂ Lam (moved-same g h e a) (moved-same g h e b)
 moved-same g h e (Pi a b) = ap₂ Pi (moved-same g h e a) (moved-same g h e b)
 
-pub made-same : (g h : ℕ → ℕ) (source target : List Tree) (made : List LpId) → ((i : ℕ) → g i ≡ h i) → AreMade g source target made → AreMade h source target made
+pub made-same : (g h : ℕ → ℕ) (source target : List Tree) (made : List LpId) → ((i : ℕ) → g i ≡ h i) → AreMade g source target made
+    → AreMade h source target made
 made-same g h source target made e a i id f = let p = a i id f in (p.0, p.1 ∙ moved-same g h e _)

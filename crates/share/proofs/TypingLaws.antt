@@ -94,7 +94,8 @@ module _ (m : List Declaration) where
   simple-constant : (a : Tree) → is_simple m [] a ≡ true → constant_type m [] a ≡ Some types
   simple-constant a e = go (constant_type m [] a) refl e
     where
-      go : (o : Option Tree) → constant_type m [] a ≡ o → is_some (option_and_then (λ t. provided (tree_eq t types) t) o) ≡ true → constant_type m [] a ≡ Some types
+      go : (o : Option Tree) → constant_type m [] a ≡ o → is_some (option_and_then (λ t. provided (tree_eq t types) t) o) ≡ true → constant_type m [] a
+          ≡ Some types
       go None i h = absurd (cc)
       go (Some t) i h = i ∙ ap Some (at (tree_eq t types) refl h)
         where
@@ -128,10 +129,12 @@ module _ (m : List Declaration) where
 
   value-simple : (a b : Tree) → is_simple m [] (arr_of a b) ≡ true → is_simple m [] b ≡ true
   value-simple a b e =
-      let c = and_then-Some (λ t. if tree_eq t types then at_a_type (constant_type m [] (App (Sym arr_symbol) a)) b else None) (constant_type m [] b) types (simple-constant (arr_of a b) e) in
+      let c = and_then-Some (λ t. if tree_eq t types then at_a_type (constant_type m [] (App (Sym arr_symbol) a)) b else None) (constant_type m [] b) types
+      (simple-constant (arr_of a b) e) in
       constant-simple b (c.1 ∙ ap Some (at c.0 (tree_eq c.0 types) refl c.2))
     where
-      at : (t : Tree) (d : Bool) → tree_eq t types ≡ d → (if d then at_a_type (constant_type m [] (App (Sym arr_symbol) a)) b else None) ≡ Some types → t ≡ types
+      at : (t : Tree) (d : Bool) → tree_eq t types ≡ d → (if d then at_a_type (constant_type m [] (App (Sym arr_symbol) a)) b else None) ≡ Some types → t
+          ≡ types
       at t true i j = tree_eq-true t types i
       at t false i j = absurd (cc)
 
@@ -176,9 +179,12 @@ module _ (m : List Declaration) where
   pub term-simple : (c t a : Tree) → IsContext m c → term_type m (context c) t ≡ Some a → is_simple m [] a ≡ true
   term-simple c (Var n) a h e = entry-simple c a n h (sym (term-variable c n h) ∙ e)
   term-simple c (Sym s) a h e = constant_part-simple (Sym s) a (sym (constant_part-plain c (Sym s)) ∙ e)
-  term-simple c (App f x) a h e = go (constant_part m (App f x)) refl (sym (ap (λ o. or_else o (option_and_then (λ t. option_and_then (value_type t) (term_type m (context c) x)) (term_type m (context c) f))) (constant_part-plain c (App f x))) ∙ e) (λ t i. term-simple c f t h i)
+  term-simple c (App f x) a h e = go (constant_part m (App f x)) refl
+      (sym (ap (λ o. or_else o (option_and_then (λ t. option_and_then (value_type t) (term_type m (context c) x)) (term_type m (context c) f)))
+      (constant_part-plain c (App f x))) ∙ e) (λ t i. term-simple c f t h i)
     where
-      go : (o : Option Tree) → constant_part m (App f x) ≡ o → or_else o (option_and_then (λ t. option_and_then (value_type t) (term_type m (context c) x)) (term_type m (context c) f)) ≡ Some a
+      go : (o : Option Tree) → constant_part m (App f x) ≡ o
+          → or_else o (option_and_then (λ t. option_and_then (value_type t) (term_type m (context c) x)) (term_type m (context c) f)) ≡ Some a
           → ((t : Tree) → term_type m (context c) f ≡ Some t → is_simple m [] t ≡ true) → is_simple m [] a ≡ true
       go (Some b) i j k = constant_part-simple (App f x) a (i ∙ j)
       go None i j k =
@@ -197,8 +203,10 @@ module _ (m : List Declaration) where
   term-simple c (Pi d b) a h e = absurd (cc)
 
   -- The type of an application
-  pub term-application : (c f x : Tree) → term_type m (context c) (App f x) ≡ or_else (constant_part m (App f x)) (option_and_then (λ t. option_and_then (value_type t) (term_type m (context c) x)) (term_type m (context c) f))
-  term-application c f x = ap (λ o. or_else o (option_and_then (λ t. option_and_then (value_type t) (term_type m (context c) x)) (term_type m (context c) f))) (constant_part-plain c (App f x))
+  pub term-application : (c f x : Tree) → term_type m (context c) (App f x)
+      ≡ or_else (constant_part m (App f x)) (option_and_then (λ t. option_and_then (value_type t) (term_type m (context c) x)) (term_type m (context c) f))
+  term-application c f x = ap (λ o. or_else o (option_and_then (λ t. option_and_then (value_type t) (term_type m (context c) x)) (term_type m (context c) f)))
+      (constant_part-plain c (App f x))
 
   -- The type of an abstraction
   function-arr : (c a v : Tree) → is_simple m [] v ≡ true → function_type m (context c) a v ≡ Some (arr_of a v)
@@ -208,14 +216,19 @@ module _ (m : List Declaration) where
       ∙ ap₂ (λ s t. provided (tree_eq s v && t) (arr_of a v)) (simple-lift v 1 e) (simple-plain c v ∙ e)
       ∙ ap (λ b. provided (b && true) (arr_of a v)) (tree_eq-refl v)
 
-  pub term-abstraction : (c d t : Tree) → IsContext m c → term_type m (context c) (Lam d t) ≡ option_and_then (λ a. option_map (arr_of a) (term_type m (context (Pi a c)) t)) (simple_part m [] d)
-  term-abstraction c d t h = ap (λ o. option_and_then (λ a. option_and_then (function_type m (context c) a) (term_type m (term_of a ∷ context c) t)) o) (part-plain c d) ∙ go (simple_part m [] d) refl
+  pub term-abstraction : (c d t : Tree) → IsContext m c → term_type m (context c) (Lam d t)
+      ≡ option_and_then (λ a. option_map (arr_of a) (term_type m (context (Pi a c)) t)) (simple_part m [] d)
+  term-abstraction c d t h = ap (λ o. option_and_then (λ a. option_and_then (function_type m (context c) a) (term_type m (term_of a ∷ context c) t)) o)
+      (part-plain c d) ∙ go (simple_part m [] d) refl
     where
-      under : (a : Tree) → is_simple m [] a ≡ true → (o : Option Tree) → term_type m (context (Pi a c)) t ≡ o → option_and_then (function_type m (context c) a) o ≡ option_map (arr_of a) o
+      under : (a : Tree) → is_simple m [] a ≡ true → (o : Option Tree) → term_type m (context (Pi a c)) t ≡ o
+          → option_and_then (function_type m (context c) a) o ≡ option_map (arr_of a) o
       under a s None i = refl
       under a s (Some v) i = function-arr c a v (term-simple (Pi a c) t v (s, h) i)
 
-      go : (o : Option Tree) → simple_part m [] d ≡ o → option_and_then (λ a. option_and_then (function_type m (context c) a) (term_type m (term_of a ∷ context c) t)) o ≡ option_and_then (λ a. option_map (arr_of a) (term_type m (context (Pi a c)) t)) o
+      go : (o : Option Tree) → simple_part m [] d ≡ o
+          → option_and_then (λ a. option_and_then (function_type m (context c) a) (term_type m (term_of a ∷ context c) t)) o
+          ≡ option_and_then (λ a. option_map (arr_of a) (term_type m (context (Pi a c)) t)) o
       go None i = refl
       go (Some a) i = under a (simple_part-simple d a i) (term_type m (context (Pi a c)) t) refl
 
@@ -232,13 +245,17 @@ module _ (m : List Declaration) where
   term-agrees k c d (Sym s) g h a l = constant_part-plain c (Sym s) ∙ sym (constant_part-plain d (Sym s))
   term-agrees k c d (App f x) g h a l =
       term-application c f x
-      ∙ ap₂ (λ p q. or_else (constant_part m (App f x)) (option_and_then (λ t. option_and_then (value_type t) q) p)) (term-agrees k c d f g h a (omega (arith, l))) (term-agrees k c d x g h a (omega (arith, l)))
+      ∙ ap₂ (λ p q. or_else (constant_part m (App f x)) (option_and_then (λ t. option_and_then (value_type t) q) p))
+      (term-agrees k c d f g h a (omega (arith, l))) (term-agrees k c d x g h a (omega (arith, l)))
       ∙ sym (term-application d f x)
   term-agrees k c d (Lam e t) g h a l =
-      term-abstraction c e t g ∙ go (simple_part m [] e) refl (λ b s. term-agrees (suc k) (Pi b c) (Pi b d) t (s, g) (s, h) (agree-under k b c d a) (omega (arith, l))) ∙ sym (term-abstraction d e t h)
+      term-abstraction c e t g ∙ go (simple_part m [] e) refl
+      (λ b s. term-agrees (suc k) (Pi b c) (Pi b d) t (s, g) (s, h) (agree-under k b c d a) (omega (arith, l))) ∙ sym (term-abstraction d e t h)
     where
-      go : (o : Option Tree) → simple_part m [] e ≡ o → ((b : Tree) → is_simple m [] b ≡ true → term_type m (context (Pi b c)) t ≡ term_type m (context (Pi b d)) t)
-          → option_and_then (λ b. option_map (arr_of b) (term_type m (context (Pi b c)) t)) o ≡ option_and_then (λ b. option_map (arr_of b) (term_type m (context (Pi b d)) t)) o
+      go : (o : Option Tree) → simple_part m [] e ≡ o
+          → ((b : Tree) → is_simple m [] b ≡ true → term_type m (context (Pi b c)) t ≡ term_type m (context (Pi b d)) t)
+          → option_and_then (λ b. option_map (arr_of b) (term_type m (context (Pi b c)) t)) o
+          ≡ option_and_then (λ b. option_map (arr_of b) (term_type m (context (Pi b d)) t)) o
       go None i same = refl
       go (Some b) i same = ap (option_map (arr_of b)) (same b (simple_part-simple e b i))
   term-agrees k c d SortType g h a l = refl

@@ -29,7 +29,8 @@ Agrees trees counts count = (i : ℕ) (t : Tree) → Holds trees i t → i < len
 
 -- each count is of one more for the type and for the body of a declaration, up to two
 abbrev pub IsMore : List Tree → Decl → List ℕ → List ℕ → Type 0
-IsMore trees d old new = (i : ℕ) (t : Tree) (k : ℕ) → Holds trees i t → i < length old → get_or old i 0 ≡ min 2 k → get_or new i 0 ≡ min 2 (k + places t (roots_in (declaration_in trees d)))
+IsMore trees d old new = (i : ℕ) (t : Tree) (k : ℕ) → Holds trees i t → i < length old → get_or old i 0 ≡ min 2 k → get_or new i 0 ≡ min 2
+    (k + places t (roots_in (declaration_in trees d)))
 
 -- each tree that has a number has the count of its places in these declarations, up to two
 abbrev pub AreCounted : List Tree → List Decl → List ℕ → Type 0

@@ -16,7 +16,8 @@ use Rattle.share.specs.Moving.{AreMade}
 
 -- the body that is made has a number, and is the moved one
 abbrev pub IsMadeBody : (ℕ → ℕ) → List Tree → List Tree → Option LpId → Option LpId → Type 0
-IsMadeBody place source target body made = IsBodyKnown target made × (option_map (λ id. tree_at target id.0) made ≡ option_map (moved place) (option_map (λ id. tree_at source id.0) body))
+IsMadeBody place source target body made = IsBodyKnown target made
+    × (option_map (λ id. tree_at target id.0) made ≡ option_map (moved place) (option_map (λ id. tree_at source id.0) body))
 
 -- over these trees the declaration is that one
 abbrev pub IsMadeOf : List Tree → Declaration → Decl → Type 0
@@ -24,7 +25,8 @@ IsMadeOf target declaration d = IsKnown target d × (declaration_in target d ≡
 
 -- the abbreviation of a tree of the source, with its type, once their symbols have other numbers
 abbrev pub abbreviation_of : (ℕ → ℕ) → List Tree → LpId → LpId → ℕ → Declaration
-abbreviation_of place source body ty number = record { name = codes "X" ++ numeral number; form = Def; ty = moved place (tree_at source ty.0); body = Some (moved place (tree_at source body.0)) }
+abbreviation_of place source body ty number = record
+    { name = codes "X" ++ numeral number; form = Def; ty = moved place (tree_at source ty.0); body = Some (moved place (tree_at source body.0)) }
 
 -- the declaration that an entry is, where so many abbreviations come before it
 abbrev pub declaration_of : (ℕ → ℕ) → ℕ → Entry → Declaration

@@ -13,7 +13,8 @@ place_by places more i = if nat_lt i (length places) then get_or places i 0 else
 
 -- the trees of these numbers are the first trees of the source, with the new numbers of their symbols
 abbrev pub AreMade : (ℕ → ℕ) → List Tree → List Tree → List LpId → Type 0
-AreMade place source target made = (i : ℕ) (id : LpId) → slice_get made i ≡ Some id → (id.0 < length target) × (tree_at target id.0 ≡ moved place (tree_at source i))
+AreMade place source target made = (i : ℕ) (id : LpId) → slice_get made i ≡ Some id → (id.0 < length target)
+    × (tree_at target id.0 ≡ moved place (tree_at source i))
 
 -- a node over the numbers of what is made
 abbrev pub IsMovedNode : (ℕ → ℕ) → List LpId → LpNode → LpNode → Type 0

@@ -55,7 +55,8 @@ at_a_type-Some None a B e = absurd (cc)
 at_a_type-Some (Some _) a B e = absurd (cc)
 
 type_of_terms-Some : (t a : Tree) → type_of_terms t ≡ Some a → t ≡ term_of a
-type_of_terms-Some (App f x) a e = let p = provided-Some (tree_eq f (Sym term_symbol)) x a e in ap (λ g. App g x) (tree_eq-true f (Sym term_symbol) p.0) ∙ ap term_of p.1
+type_of_terms-Some (App f x) a e = let p = provided-Some (tree_eq f (Sym term_symbol)) x a e in ap (λ g. App g x) (tree_eq-true f (Sym term_symbol) p.0) ∙ ap
+    term_of p.1
 type_of_terms-Some SortType a e = absurd (cc)
 type_of_terms-Some SortKind a e = absurd (cc)
 type_of_terms-Some (Var n) a e = absurd (cc)
@@ -137,9 +138,12 @@ module _ (m : List Declaration) where
       let l = lift-type_of_terms (suc n) b.0 a p.0 in
       of_entry (b.1 ∙ ap Some l.1) l.2 p.1
   term_type-IsTerm G (Sym s) a e = constant_term G (Sym s) a e
-  term_type-IsTerm G (App f x) a e = go (λ c. term_type-IsTerm G f c) (λ c. term_type-IsTerm G x c) (option_and_then (simple_part m G) (constant_type m G (App f x))) refl e
+  term_type-IsTerm G (App f x) a e = go (λ c. term_type-IsTerm G f c) (λ c. term_type-IsTerm G x c)
+      (option_and_then (simple_part m G) (constant_type m G (App f x))) refl e
     where
-      go : ((c : Tree) → term_type m G f ≡ Some c → IsTerm m G f c) → ((c : Tree) → term_type m G x ≡ Some c → IsTerm m G x c) → (o : Option Tree) → option_and_then (simple_part m G) (constant_type m G (App f x)) ≡ o → or_else o (option_and_then (λ t. option_and_then (value_type t) (term_type m G x)) (term_type m G f)) ≡ Some a → IsTerm m G (App f x) a
+      go : ((c : Tree) → term_type m G f ≡ Some c → IsTerm m G f c) → ((c : Tree) → term_type m G x ≡ Some c → IsTerm m G x c) → (o : Option Tree)
+          → option_and_then (simple_part m G) (constant_type m G (App f x)) ≡ o
+          → or_else o (option_and_then (λ t. option_and_then (value_type t) (term_type m G x)) (term_type m G f)) ≡ Some a → IsTerm m G (App f x) a
       go h k (Some b) i j = constant_term G (App f x) a (i ∙ j)
       go h k None i j =
           let b = and_then-Some (λ t. option_and_then (value_type t) (term_type m G x)) (term_type m G f) a j in
@@ -152,7 +156,8 @@ module _ (m : List Declaration) where
       let v = put b.0 c.0 in
       let f = provided-Some (tree_eq (lift 1 v) c.0 && is_simple m G v) (arr_of b.0 v) r c.2 in
       let q = and_parts (tree_eq (lift 1 v) c.0) (is_simple m G v) f.0 in
-      let body : IsTerm m (term_of b.0 ∷ G) t (lift 1 v) = subst (IsTerm m (term_of b.0 ∷ G) t) (sym (tree_eq-true (lift 1 v) c.0 q.0)) (term_type-IsTerm (term_of b.0 ∷ G) t c.0 c.1) in
+      let body : IsTerm m (term_of b.0 ∷ G) t (lift 1 v) =
+      subst (IsTerm m (term_of b.0 ∷ G) t) (sym (tree_eq-true (lift 1 v) c.0 q.0)) (term_type-IsTerm (term_of b.0 ∷ G) t c.0 c.1) in
       subst (λ h. IsTerm m G (Lam h t) r) (sym p.0) (subst (IsTerm m G (Lam (term_of b.0) t)) f.1 (of_binder p.1 (is_simple-IsSimple G v q.1) body))
   term_type-IsTerm G SortType a e = absurd (cc)
   term_type-IsTerm G SortKind a e = absurd (cc)
@@ -165,15 +170,19 @@ module _ (m : List Declaration) where
   constant-IsProof (at_type f a e) = at_a_type_of (constant-IsProof f) a e
 
   -- the definition of a tree of two parts or more
-  abbreviation_of-IsShaped : (name : List ℕ) (t A : Tree) → 3 ≤ size t → type_of_abbreviation m t ≡ Some A → IsShaped m (record { name = name; form = Def; ty = A; body = Some t })
+  abbreviation_of-IsShaped : (name : List ℕ) (t A : Tree) → 3 ≤ size t → type_of_abbreviation m t ≡ Some A
+      → IsShaped m (record { name = name; form = Def; ty = A; body = Some t })
   abbreviation_of-IsShaped name t A big e = go (is_simple m [] t) refl e
     where
-      go : (b : Bool) → is_simple m [] t ≡ b → (if b then Some types else option_map term_of (term_type m [] t)) ≡ Some A → IsShaped m (record { name = name; form = Def; ty = A; body = Some t })
-      go true i j = subst (λ B. IsShaped m (record { name = name; form = Def; ty = B; body = Some t })) (same_Some _ _ j) (record { ty = of_types; body = inr (by_type (constant-IsProof (is_simple-IsSimple [] t i)), big) })
+      go : (b : Bool) → is_simple m [] t ≡ b → (if b then Some types else option_map term_of (term_type m [] t)) ≡ Some A
+          → IsShaped m (record { name = name; form = Def; ty = A; body = Some t })
+      go true i j = subst (λ B. IsShaped m (record { name = name; form = Def; ty = B; body = Some t })) (same_Some _ _ j)
+          (record { ty = of_types; body = inr (by_type (constant-IsProof (is_simple-IsSimple [] t i)), big) })
       go false i j =
           let b = map-Some term_of (term_type m [] t) A j in
           let h = term_type-IsTerm [] t b.0 b.1 in
-          subst (λ B. IsShaped m (record { name = name; form = Def; ty = B; body = Some t })) b.2 (record { ty = of_terms (term-simple m h); body = inl (defined h) })
+          subst (λ B. IsShaped m (record { name = name; form = Def; ty = B; body = Some t })) b.2
+          (record { ty = of_terms (term-simple m h); body = inl (defined h) })
 
   written_type-Some : (o : Option Tree) (A : Tree) → written_type o ≡ Some A → (o ≡ Some A) × (depth A ≤ max_depth)
   written_type-Some o A e =
@@ -183,8 +192,10 @@ module _ (m : List Declaration) where
 
   -- what can be abbreviated has two parts or more, and a type that can be written
   pub abbreviation-Some : (t A : Tree) → abbreviation m t ≡ Some A → (3 ≤ size t) × (type_of_abbreviation m t ≡ Some A) × (depth A ≤ max_depth)
-  abbreviation-Some (App f x) A e = let w = written_type-Some (type_of_abbreviation m (App f x)) A e in (omega (arith, size-positive f, size-positive x), w.0, w.1)
-  abbreviation-Some (Lam a b) A e = let w = written_type-Some (type_of_abbreviation m (Lam a b)) A e in (omega (arith, size-positive a, size-positive b), w.0, w.1)
+  abbreviation-Some (App f x) A e = let w = written_type-Some (type_of_abbreviation m (App f x)) A e in
+      (omega (arith, size-positive f, size-positive x), w.0, w.1)
+  abbreviation-Some (Lam a b) A e = let w = written_type-Some (type_of_abbreviation m (Lam a b)) A e in
+      (omega (arith, size-positive a, size-positive b), w.0, w.1)
   abbreviation-Some SortType A e = absurd (cc)
   abbreviation-Some SortKind A e = absurd (cc)
   abbreviation-Some (Var n) A e = absurd (cc)

@@ -47,7 +47,8 @@ type_of_terms-below n (Lam t b) a h e = absurd (cc)
 type_of_terms-below n (Pi t b) a h e = absurd (cc)
 
 value_type-below : (n : ℕ) (t c b : Tree) → symbols t ≤ n → value_type t c ≡ Some b → symbols b ≤ n
-value_type-below n (App (App f a) x) c b h e = let p = provided-Some (tree_eq f (Sym arr_symbol) && tree_eq a c) x b e in subst (λ y. symbols y ≤ n) p.1 (omega (arith, h))
+value_type-below n (App (App f a) x) c b h e = let p =
+    provided-Some (tree_eq f (Sym arr_symbol) && tree_eq a c) x b e in subst (λ y. symbols y ≤ n) p.1 (omega (arith, h))
 value_type-below n _ c b h e = absurd (cc)
 
 at_a_type-below : (n : ℕ) (o : Option Tree) (a B : Tree) → ((t : Tree) → o ≡ Some t → symbols t ≤ n) → symbols a ≤ n → at_a_type o a ≡ Some B → symbols B ≤ n
@@ -59,7 +60,8 @@ at_a_type-below n None a B h k e = absurd (cc)
 at_a_type-below n (Some _) a B h k e = absurd (cc)
 
 -- over these declarations, which more may follow
-module _ (before more : List Declaration) (two : 2 ≤ length (signature ++ before)) (order : (s : ℕ) (A : Tree) → symbol_type before s ≡ Some A → symbols A ≤ length (signature ++ before)) where
+module _ (before more : List Declaration) (two : 2 ≤ length (signature ++ before))
+    (order : (s : ℕ) (A : Tree) → symbol_type before s ≡ Some A → symbols A ≤ length (signature ++ before)) where
   abbrev n : ℕ
   n = length (signature ++ before)
 
@@ -84,13 +86,15 @@ module _ (before more : List Declaration) (two : 2 ≤ length (signature ++ befo
   front (x ∷ xs) ys (suc i) h = front xs ys i (omega (arith, h))
 
   symbol_type-kept : (s : ℕ) → s < n → symbol_type m s ≡ symbol_type before s
-  symbol_type-kept s h = ap (λ l. option_map (λ (d : Declaration). d.ty) (slice_get l s)) (sym (append_assoc signature before more)) ∙ ap (option_map (λ (d : Declaration). d.ty)) (front (signature ++ before) more s h)
+  symbol_type-kept s h = ap (λ l. option_map (λ (d : Declaration). d.ty) (slice_get l s)) (sym (append_assoc signature before more)) ∙ ap
+      (option_map (λ (d : Declaration). d.ty)) (front (signature ++ before) more s h)
 
   constant-kept : (G : List Tree) (t : Tree) → IsBelow t → constant_type m G t ≡ constant_type before G t
   constant-kept G (Var k) h = refl
   constant-kept G (Sym s) h = ap (option_and_then (λ t. provided (is_solid t) t)) (symbol_type-kept s (omega (arith, h)))
   constant-kept G (App f a) h =
-      ap₂ (λ o p. option_and_then (λ t. if tree_eq t types then at_a_type o a else None) p) (constant-kept G f (omega (arith, h))) (constant-kept G a (omega (arith, h)))
+      ap₂ (λ o p. option_and_then (λ t. if tree_eq t types then at_a_type o a else None) p) (constant-kept G f (omega (arith, h)))
+      (constant-kept G a (omega (arith, h)))
   constant-kept G SortType h = refl
   constant-kept G SortKind h = refl
   constant-kept G (Lam a b) h = refl
@@ -121,7 +125,8 @@ module _ (before more : List Declaration) (two : 2 ≤ length (signature ++ befo
   constant-below G (Lam a b) A h e = absurd (cc)
   constant-below G (Pi a b) A h e = absurd (cc)
 
-  part_of : (o : Option Tree) (G : List Tree) → ((a : Tree) → o ≡ Some a → IsBelow a) → option_and_then (λ a. provided (is_simple m G a) a) o ≡ option_and_then (λ a. provided (is_simple before G a) a) o
+  part_of : (o : Option Tree) (G : List Tree) → ((a : Tree) → o ≡ Some a → IsBelow a) → option_and_then (λ a. provided (is_simple m G a) a) o
+      ≡ option_and_then (λ a. provided (is_simple before G a) a) o
   part_of None G h = refl
   part_of (Some a) G h = ap (λ b. provided b a) (simple-kept G a (h a refl))
 
@@ -141,10 +146,12 @@ module _ (before more : List Declaration) (two : 2 ≤ length (signature ++ befo
 
   constant_part-kept : (G : List Tree) (t : Tree) → IsBelow t
       → option_and_then (simple_part m G) (constant_type m G t) ≡ option_and_then (simple_part before G) (constant_type before G t)
-  constant_part-kept G t h = ap (option_and_then (simple_part m G)) (constant-kept G t h) ∙ then_part (constant_type before G t) G (λ A e. constant-below G t A h e)
+  constant_part-kept G t h = ap (option_and_then (simple_part m G)) (constant-kept G t h) ∙ then_part (constant_type before G t) G
+      (λ A e. constant-below G t A h e)
 
   constant_part-below : (G : List Tree) (t a : Tree) → IsBelow t → option_and_then (simple_part before G) (constant_type before G t) ≡ Some a → IsBelow a
-  constant_part-below G t a h e = let b = and_then-Some (simple_part before G) (constant_type before G t) a e in part-below G b.0 a (constant-below G t b.0 h b.1) b.2
+  constant_part-below G t a h e = let b = and_then-Some (simple_part before G) (constant_type before G t) a e in part-below G b.0 a
+      (constant-below G t b.0 h b.1) b.2
 
   -- the type of a term is below
   term-below : (G : List Tree) (t a : Tree) → AreBelow G → IsBelow t → term_type before G t ≡ Some a → IsBelow a
@@ -153,9 +160,12 @@ module _ (before more : List Declaration) (two : 2 ≤ length (signature ++ befo
       let l = entry-below G k b.0 g b.1 in
       part-below G (lift (suc k) b.0) a (omega (arith, l, symbols-lift_at 0 (suc k) b.0)) b.2
   term-below G (Sym s) a g h e = constant_part-below G (Sym s) a h e
-  term-below G (App f x) a g h e = go (option_and_then (simple_part before G) (constant_type before G (App f x))) refl e (λ t i. term-below G f t g (omega (arith, h)) i)
+  term-below G (App f x) a g h e = go (option_and_then (simple_part before G) (constant_type before G (App f x))) refl e
+      (λ t i. term-below G f t g (omega (arith, h)) i)
     where
-      go : (o : Option Tree) → option_and_then (simple_part before G) (constant_type before G (App f x)) ≡ o → or_else o (option_and_then (λ t. option_and_then (value_type t) (term_type before G x)) (term_type before G f)) ≡ Some a → ((t : Tree) → term_type before G f ≡ Some t → IsBelow t) → IsBelow a
+      go : (o : Option Tree) → option_and_then (simple_part before G) (constant_type before G (App f x)) ≡ o
+          → or_else o (option_and_then (λ t. option_and_then (value_type t) (term_type before G x)) (term_type before G f)) ≡ Some a
+          → ((t : Tree) → term_type before G f ≡ Some t → IsBelow t) → IsBelow a
       go (Some b) i j k = constant_part-below G (App f x) a h (i ∙ j)
       go None i j k =
           let b = and_then-Some (λ t. option_and_then (value_type t) (term_type before G x)) (term_type before G f) a j in
@@ -177,7 +187,8 @@ module _ (before more : List Declaration) (two : 2 ≤ length (signature ++ befo
   term-below G (Pi c b) a g h e = absurd (cc)
 
   -- The type of a term is the same
-  variable-kept : (o : Option Tree) (G : List Tree) (k : ℕ) → ((A : Tree) → o ≡ Some A → IsBelow A) → option_and_then (λ t. simple_part m G (lift (suc k) t)) o ≡ option_and_then (λ t. simple_part before G (lift (suc k) t)) o
+  variable-kept : (o : Option Tree) (G : List Tree) (k : ℕ) → ((A : Tree) → o ≡ Some A → IsBelow A) → option_and_then (λ t. simple_part m G (lift (suc k) t)) o
+      ≡ option_and_then (λ t. simple_part before G (lift (suc k) t)) o
   variable-kept None G k h = refl
   variable-kept (Some A) G k h = let l = h A refl in part-kept G (lift (suc k) A) (omega (arith, l, symbols-lift_at 0 (suc k) A))
 
@@ -198,11 +209,14 @@ module _ (before more : List Declaration) (two : 2 ≤ length (signature ++ befo
       let i = term-kept G f g (omega (arith, h)) in
       let j = term-kept G x g (omega (arith, h)) in
       ap₂ or_else (constant_part-kept G (App f x) h) (ap₂ (λ p q. option_and_then (λ t. option_and_then (value_type t) p) q) j i)
-  term-kept G (Lam d t) g h = ap (option_and_then (λ a. option_and_then (function_type m G a) (term_type m (term_of a ∷ G) t))) (part-kept G d (omega (arith, h))) ∙ under (simple_part before G d) (λ a e. part-below G d a (omega (arith, h)) e) (λ a l. term-kept (term_of a ∷ G) t (omega (arith, l, five), g) (omega (arith, h)))
+  term-kept G (Lam d t) g h = ap (option_and_then (λ a. option_and_then (function_type m G a) (term_type m (term_of a ∷ G) t)))
+      (part-kept G d (omega (arith, h))) ∙ under (simple_part before G d) (λ a e. part-below G d a (omega (arith, h)) e)
+      (λ a l. term-kept (term_of a ∷ G) t (omega (arith, l, five), g) (omega (arith, h)))
     where
       under : (o : Option Tree) → ((a : Tree) → o ≡ Some a → IsBelow a)
           → ((a : Tree) → IsBelow a → term_type m (term_of a ∷ G) t ≡ term_type before (term_of a ∷ G) t)
-          → option_and_then (λ a. option_and_then (function_type m G a) (term_type m (term_of a ∷ G) t)) o ≡ option_and_then (λ a. option_and_then (function_type before G a) (term_type before (term_of a ∷ G) t)) o
+          → option_and_then (λ a. option_and_then (function_type m G a) (term_type m (term_of a ∷ G) t)) o
+          ≡ option_and_then (λ a. option_and_then (function_type before G a) (term_type before (term_of a ∷ G) t)) o
       under None l k = refl
       under (Some a) l k =
           let b = l a refl in

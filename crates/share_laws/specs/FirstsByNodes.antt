@@ -48,7 +48,8 @@ firsts-append met (x ∷ xs) ys = go (is_in x met) refl (firsts-append met xs ys
   where
     go : (b : Bool) → is_in x met ≡ b → firsts met (xs ++ ys) ≡ firsts met xs ++ firsts (met ++ xs) ys
         → firsts (met ++ x ∷ []) (xs ++ ys) ≡ firsts (met ++ x ∷ []) xs ++ firsts ((met ++ x ∷ []) ++ xs) ys
-        → (if b then firsts met (xs ++ ys) else x ∷ firsts (met ++ x ∷ []) (xs ++ ys)) ≡ (if b then firsts met xs else x ∷ firsts (met ++ x ∷ []) xs) ++ firsts (met ++ x ∷ xs) ys
+        → (if b then firsts met (xs ++ ys) else x ∷ firsts (met ++ x ∷ []) (xs ++ ys)) ≡ (if b then firsts met xs else x ∷ firsts (met ++ x ∷ []) xs)
+        ++ firsts (met ++ x ∷ xs) ys
     go true e i j = i ∙ ap (λ l. firsts met xs ++ l) (firsts-alike (met ++ xs) (met ++ x ∷ xs) ys (alike-met met xs x e))
     go false e i j = ap (λ l. x ∷ l) (j ∙ ap (λ l. firsts (met ++ x ∷ []) xs ++ firsts l ys) (append_assoc met (x ∷ []) xs))
 
@@ -128,7 +129,8 @@ not_smaller t u h = go (is_in t (parts u)) refl
 last_met : (t f x : Tree) (met : List Tree) → size f < size t → size x < size t → is_in t met ≡ false → firsts ((met ++ parts f) ++ parts x) (t ∷ []) ≡ t ∷ []
 last_met t f x met l m h =
     let e : is_in t ((met ++ parts f) ++ parts x) ≡ false =
-    is_in-append t (met ++ parts f) (parts x) ∙ ap₂ (λ b c. b || c) (is_in-append t met (parts f) ∙ ap₂ (λ b c. b || c) h (not_smaller t f l)) (not_smaller t x m) in
+    is_in-append t (met ++ parts f) (parts x) ∙ ap₂ (λ b c. b || c) (is_in-append t met (parts f) ∙ ap₂ (λ b c. b || c) h (not_smaller t f l))
+    (not_smaller t x m) in
     ap (λ b. if b then [] else t ∷ []) e
 
 met_node : (t : Tree) (done met : List Tree) → IsClosed met → is_in t met ≡ true → done ≡ done ++ firsts met (parts t)
@@ -170,9 +172,12 @@ leaf t done met e h = ap (λ b. if b then done else done ++ t ∷ []) (h t) ∙ 
 
 -- The walk meets the firsts, in order, where the parts of what was met were met.
 pub visited : (t : Tree) (done met : List Tree) → Alike done met → IsClosed met → visit done t ≡ done ++ firsts met (parts t)
-visited (App f x) done met h c = by_met (App f x) f x done met refl (omega arith) (omega arith) h c (visited f done met h c) (λ one k. visited x one (met ++ parts f) k (closed-more met f c))
-visited (Lam a b) done met h c = by_met (Lam a b) a b done met refl (omega arith) (omega arith) h c (visited a done met h c) (λ one k. visited b one (met ++ parts a) k (closed-more met a c))
-visited (Pi a b) done met h c = by_met (Pi a b) a b done met refl (omega arith) (omega arith) h c (visited a done met h c) (λ one k. visited b one (met ++ parts a) k (closed-more met a c))
+visited (App f x) done met h c = by_met (App f x) f x done met refl (omega arith) (omega arith) h c (visited f done met h c)
+    (λ one k. visited x one (met ++ parts f) k (closed-more met f c))
+visited (Lam a b) done met h c = by_met (Lam a b) a b done met refl (omega arith) (omega arith) h c (visited a done met h c)
+    (λ one k. visited b one (met ++ parts a) k (closed-more met a c))
+visited (Pi a b) done met h c = by_met (Pi a b) a b done met refl (omega arith) (omega arith) h c (visited a done met h c)
+    (λ one k. visited b one (met ++ parts a) k (closed-more met a c))
 visited SortType done met h c = leaf SortType done met refl h
 visited SortKind done met h c = leaf SortKind done met refl h
 visited (Var n) done met h c = leaf (Var n) done met refl h

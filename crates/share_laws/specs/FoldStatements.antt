@@ -24,7 +24,8 @@ FoldedShaped = (m : List Declaration) → IsModule m → NoneShort m → AreShap
 
 -- Its text reads as it, and as no other module.
 abbrev pub FoldedReadsBack : Type 0
-FoldedReadsBack = (m : List Declaration) (bounds : List ℕ) → IsModule m → NoneShort m → AreShaped [] m → ArePlain m → AreShallow m → length bounds ≡ length (folded m) → ReadsBack (folded m) bounds
+FoldedReadsBack = (m : List Declaration) (bounds : List ℕ) → IsModule m → NoneShort m → AreShaped [] m → ArePlain m → AreShallow m → length bounds
+    ≡ length (folded m) → ReadsBack (folded m) bounds
 
 -- It stands for the run for which the module stands.
 abbrev pub FoldedStand : Type 0

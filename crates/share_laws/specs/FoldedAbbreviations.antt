@@ -19,7 +19,8 @@ pub abbreviation-whole : (before more : List Declaration) (d : Declaration) (t :
     → abbreviation (before ++ d ∷ more) t ≡ abbreviation before t
 abbreviation-whole before more d t a h =
     let both = declared-front signature before (d ∷ more) a in
-    abbreviation-kept before (d ∷ more) (omega (arith, length-append signature before)) (IsModule-IsSelfContained before both.0).types t (declaration-symbols (signature ++ before) d t both.1.0 h)
+    abbreviation-kept before (d ∷ more) (omega (arith, length-append signature before)) (IsModule-IsSelfContained before both.0).types t
+    (declaration-symbols (signature ++ before) d t both.1.0 h)
 
 -- lists of trees over which the two are the same
 pub shared-same : (m n : List Declaration) (all ts : List Tree) → ((t : Tree) → is_in t ts ≡ true → abbreviation m t ≡ abbreviation n t)
@@ -32,7 +33,8 @@ shared-same m n all (t ∷ ts) h =
     ∙ go (is_some (abbreviation n t) && nat_le 2 (places t all)) e rest
   where
     go : (b : Bool) → abbreviation m t ≡ abbreviation n t → abbreviations m (filter (is_shared m all) ts) ≡ abbreviations n (filter (is_shared n all) ts)
-        → abbreviations m (if b then t ∷ filter (is_shared m all) ts else filter (is_shared m all) ts) ≡ abbreviations n (if b then t ∷ filter (is_shared n all) ts else filter (is_shared n all) ts)
+        → abbreviations m (if b then t ∷ filter (is_shared m all) ts else filter (is_shared m all) ts)
+        ≡ abbreviations n (if b then t ∷ filter (is_shared n all) ts else filter (is_shared n all) ts)
     go true e rest = ap₂ (λ o l. abbreviated t (unwrap_or o types) ∷ l) e rest
     go false e rest = rest
 
@@ -52,5 +54,7 @@ firsts-within t met (u ∷ us) h = go (is_in u met) (tree_eq t u) h (λ i. first
 
 -- What is shared and first met in a declaration
 pub shared-whole : (before more : List Declaration) (d : Declaration) (all met : List Tree) → IsModule (before ++ d ∷ more)
-    → abbreviations (before ++ d ∷ more) (filter (is_shared (before ++ d ∷ more) all) (firsts met (parts_in d))) ≡ abbreviations before (filter (is_shared before all) (firsts met (parts_in d)))
-shared-whole before more d all met a = shared-same (before ++ d ∷ more) before all (firsts met (parts_in d)) (λ t i. abbreviation-whole before more d t a (firsts-within t met (parts_in d) i))
+    → abbreviations (before ++ d ∷ more) (filter (is_shared (before ++ d ∷ more) all) (firsts met (parts_in d)))
+    ≡ abbreviations before (filter (is_shared before all) (firsts met (parts_in d)))
+shared-whole before more d all met a = shared-same (before ++ d ∷ more) before all (firsts met (parts_in d))
+    (λ t i. abbreviation-whole before more d t a (firsts-within t met (parts_in d) i))

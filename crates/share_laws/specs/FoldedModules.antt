@@ -65,7 +65,8 @@ not_declared-from (x ∷ xs) d name e f = go (bytes_eq x.name name) refl e (λ i
 
 -- what the declarations after a place are called: as those before, or as one of so many abbreviations
 abbrev HaveNames : List Declaration → List Declaration → ℕ → Type 0
-HaveNames before after k = (name : List ℕ) → IsFalse (is_declared before name) → ((j : ℕ) → j < k → abbreviation_name j ≡ name → ⊥) → IsFalse (is_declared after name)
+HaveNames before after k = (name : List ℕ) → IsFalse (is_declared before name) → ((j : ℕ) → j < k → abbreviation_name j ≡ name → ⊥) → IsFalse
+    (is_declared after name)
 
 names-kept : (g : ℕ → ℕ) (before after : List Declaration) (d : Declaration) (k : ℕ) → HaveNames before after k
     → HaveNames (before ++ d ∷ []) (after ++ moved_declaration g d ∷ []) k
@@ -106,17 +107,25 @@ module _ (g : ℕ → ℕ) where
         },
         subst (λ w. AreDeclared w (declarations g k es)) (sym (append_assoc signature after (d' ∷ [])))
             (entries-AreDeclared (before ++ d ∷ []) (after ++ d' ∷ []) es k
-            (subst₂ (λ x y. HaveNames x y k) (append_assoc signature before (d ∷ [])) (append_assoc signature after (d' ∷ [])) (names-kept g (signature ++ before) (signature ++ after) d k n))
+            (subst₂ (λ x y. HaveNames x y k) (append_assoc signature before (d ∷ [])) (append_assoc signature after (d' ∷ []))
+            (names-kept g (signature ++ before) (signature ++ after) d k n))
             (subst NoneShort (append_assoc signature before (d ∷ [])) (NoneShort-append (signature ++ before) (d ∷ []) u (v.0, tt)))
-            v.1 (subst (λ w. AreDeclared w (kept_of es)) (append_assoc signature before (d ∷ [])) h.1) (IsSound-after after d' s (shaped-typed after d' s p.0)) p.1),
+            v.1 (subst (λ w. AreDeclared w (kept_of es)) (append_assoc signature before (d ∷ [])) h.1) (IsSound-after after d' s (shaped-typed after d' s p.0))
+            p.1),
       )
   entries-AreDeclared before after (abbreviated t a ∷ es) k n u v h s p =
       let x : Declaration = record { name = abbreviation_name k; form = Def; ty = moved g a; body = Some (moved g t) } in
       let o = shaped-over after x s p.0 in (
-        record { new_name = n (abbreviation_name k) (none_declared (signature ++ before) k u) (λ j l e. absurd (let i = abbreviation_name-injective j k e in omega (arith, l, i))); ty = o.0; body = o.1 },
+        record {
+          new_name = n (abbreviation_name k) (none_declared (signature ++ before) k u)
+              (λ j l e. absurd (let i = abbreviation_name-injective j k e in omega (arith, l, i)));
+          ty = o.0;
+          body = o.1;
+        },
         subst (λ w. AreDeclared w (declarations g (suc k) es)) (sym (append_assoc signature after (x ∷ [])))
             (entries-AreDeclared before (after ++ x ∷ []) es (suc k)
-            (subst (λ y. HaveNames (signature ++ before) y (suc k)) (append_assoc signature after (x ∷ [])) (names-abbreviated (signature ++ before) (signature ++ after) x k refl n))
+            (subst (λ y. HaveNames (signature ++ before) y (suc k)) (append_assoc signature after (x ∷ []))
+            (names-abbreviated (signature ++ before) (signature ++ after) x k refl n))
             u v h (IsSound-after after x s (shaped-typed after x s p.0)) p.1),
       )
 
@@ -153,7 +162,8 @@ kept_of-entries_of m =
 pub folded-IsModule : (m : List Declaration) → IsModule m → NoneShort m → AreShaped [] m → IsModule (folded m)
 folded-IsModule m h u s =
     let es = entries_of m in
-    entries-AreDeclared (place_in es) [] [] es 0 (λ name e f. e) signature_unshort (subst NoneShort (sym (kept_of-entries_of m)) u) (subst (AreDeclared signature) (sym (kept_of-entries_of m)) h) signature_sound (folded-AreShaped m s)
+    entries-AreDeclared (place_in es) [] [] es 0 (λ name e f. e) signature_unshort (subst NoneShort (sym (kept_of-entries_of m)) u)
+    (subst (AreDeclared signature) (sym (kept_of-entries_of m)) h) signature_sound (folded-AreShaped m s)
 
 -- No tree of it names an abbreviation
 module _ (g : ℕ → ℕ) (before after : List Declaration) (h : IsMoved g before after) (u : NoneShort (signature ++ before)) where
@@ -184,7 +194,8 @@ entries-AreLong g before after (kept d ∷ es) k p u v =
     let h = IsPlaced-IsMoved g before after (kept d ∷ es) p in (
       moved-IsLong g before after h u d.ty,
       moved-IsBodyLong g before after h u d.body,
-      entries-AreLong g (before ++ d ∷ []) (after ++ moved_declaration g d ∷ []) es k (IsPlaced-kept g before after d es p) (subst NoneShort (append_assoc signature before (d ∷ [])) (NoneShort-append (signature ++ before) (d ∷ []) u (v.0, tt))) v.1,
+      entries-AreLong g (before ++ d ∷ []) (after ++ moved_declaration g d ∷ []) es k (IsPlaced-kept g before after d es p)
+          (subst NoneShort (append_assoc signature before (d ∷ [])) (NoneShort-append (signature ++ before) (d ∷ []) u (v.0, tt))) v.1,
     )
 entries-AreLong g before after (abbreviated t a ∷ es) k p u v =
     let h = IsPlaced-IsMoved g before after (abbreviated t a ∷ es) p in (
@@ -194,4 +205,5 @@ entries-AreLong g before after (abbreviated t a ∷ es) k p u v =
     )
 
 pub folded-AreLong : (m : List Declaration) → NoneShort m → AreLong [] (folded m)
-folded-AreLong m u = let es = entries_of m in entries-AreLong (place_in es) [] [] es 0 (IsPlaced-first es) signature_unshort (subst NoneShort (sym (kept_of-entries_of m)) u)
+folded-AreLong m u = let es = entries_of m in entries-AreLong (place_in es) [] [] es 0 (IsPlaced-first es) signature_unshort
+    (subst NoneShort (sym (kept_of-entries_of m)) u)

@@ -116,21 +116,25 @@ after-AreEntries : (before : List Declaration) (all met : List Tree) (ds : List 
     → AreEntries before (entries before all met ds)
 after-AreEntries before all met [] h = tt
 after-AreEntries before all met (d ∷ ds) h =
-    abbreviations-AreEntries before all (firsts met (parts_in d)) (kept d ∷ entries (before ++ d ∷ []) all (met ++ parts_in d) ds) (h.0, after-AreEntries (before ++ d ∷ []) all (met ++ parts_in d) ds h.1)
+    abbreviations-AreEntries before all (firsts met (parts_in d)) (kept d ∷ entries (before ++ d ∷ []) all (met ++ parts_in d) ds)
+    (h.0, after-AreEntries (before ++ d ∷ []) all (met ++ parts_in d) ds h.1)
 
 first-AreEntries : (before ds : List Declaration) (es : List Entry) → AreShaped before ds → AreEntries (before ++ ds) es → AreEntries before (map kept ds ++ es)
 first-AreEntries before [] es h k = subst (λ w. AreEntries w es) (append-nil before) k
-first-AreEntries before (d ∷ ds) es h k = (h.0, first-AreEntries (before ++ d ∷ []) ds es h.1 (subst (λ w. AreEntries w es) (sym (append_assoc before (d ∷ []) ds)) k))
+first-AreEntries before (d ∷ ds) es h k =
+    (h.0, first-AreEntries (before ++ d ∷ []) ds es h.1 (subst (λ w. AreEntries w es) (sym (append_assoc before (d ∷ []) ds)) k))
 
 AreShaped-front : (before ds es : List Declaration) → AreShaped before (ds ++ es) → AreShaped before ds × AreShaped (before ++ ds) es
 AreShaped-front before [] es h = (tt, subst (λ w. AreShaped w es) (sym (append-nil before)) h)
-AreShaped-front before (d ∷ ds) es h = let k = AreShaped-front (before ++ d ∷ []) ds es h.1 in ((h.0, k.0), subst (λ w. AreShaped w es) (append_assoc before (d ∷ []) ds) k.1)
+AreShaped-front before (d ∷ ds) es h = let k = AreShaped-front (before ++ d ∷ []) ds es h.1 in
+    ((h.0, k.0), subst (λ w. AreShaped w es) (append_assoc before (d ∷ []) ds) k.1)
 
 pub entries_of-AreEntries : (m : List Declaration) → AreShaped [] m → AreEntries [] (entries_of m)
 entries_of-AreEntries m h =
     let n = length lemmas in
     let k = AreShaped-front [] (take n m) (drop n m) (subst (AreShaped []) (sym (take-append-drop n m)) h) in
-    first-AreEntries [] (take n m) (entries (take n m) (flat_map parts_in (drop n m)) [] (drop n m)) k.0 (after-AreEntries (take n m) (flat_map parts_in (drop n m)) [] (drop n m) k.1)
+    first-AreEntries [] (take n m) (entries (take n m) (flat_map parts_in (drop n m)) [] (drop n m)) k.0
+    (after-AreEntries (take n m) (flat_map parts_in (drop n m)) [] (drop n m) k.1)
 
 -- A folded module is shaped, so well typed, and checks within 64 times the squares of its weights
 pub folded-AreShaped : (m : List Declaration) → AreShaped [] m → AreShaped [] (folded m)

@@ -62,11 +62,13 @@ module _ (g : ℕ → ℕ) where
       let x = moved_declaration g c in
       let count : length (after ++ x ∷ []) + i ≡ length after + suc i = omega (arith, length-append after (x ∷ [])) in
       subst (λ j. IsFrom g (before ++ c ∷ kept_of es) (after ++ x ∷ declarations g k es) j d) count
-      (subst₂ (λ v w. IsFrom g v w (length (after ++ x ∷ []) + i) d) (append_assoc before (c ∷ []) (kept_of es)) (append_assoc after (x ∷ []) (declarations g k es))
+      (subst₂ (λ v w. IsFrom g v w (length (after ++ x ∷ []) + i) d) (append_assoc before (c ∷ []) (kept_of es))
+      (append_assoc after (x ∷ []) (declarations g k es))
       (declarations-IsFrom (before ++ c ∷ []) (after ++ x ∷ []) es k (IsPlaced-kept g before after c es p) h.1 i d e))
   declarations-IsFrom before after (abbreviated t a ∷ es) k p h zero d e =
       let x : Declaration = record { name = abbreviation_name k; form = Def; ty = moved g a; body = Some (moved g t) } in
-      let at : take (length after + 0) (after ++ x ∷ declarations g (suc k) es) ≡ after = let z : length after + 0 ≡ length after = omega arith in ap (λ j. take j (after ++ x ∷ declarations g (suc k) es)) z ∙ take-append_seam after (x ∷ declarations g (suc k) es) in
+      let at : take (length after + 0) (after ++ x ∷ declarations g (suc k) es) ≡ after = let z : length after + 0 ≡ length after =
+      omega arith in ap (λ j. take j (after ++ x ∷ declarations g (suc k) es)) z ∙ take-append_seam after (x ∷ declarations g (suc k) es) in
       from_abbreviation (subst (λ l. IsAbbreviation l d) (sym at) (record {
         number = k;
         body = moved g t;
@@ -110,15 +112,19 @@ folded-IsFrom m s i d e =
 module _ (g : ℕ → ℕ) where
   occurs-moved : (s : ℕ) (t : Tree) → occurs s t ≡ true → occurs (moved_symbol g s) (moved g t) ≡ true
   occurs-moved s (Sym r) e = let same : s ≡ r = grind arith in subst (λ k. nat_eq (moved_symbol g s) (moved_symbol g k) ≡ true) same (grind arith)
-  occurs-moved s (App f x) e = in_parts (occurs s f) (occurs s x) (occurs (moved_symbol g s) (moved g f)) (occurs (moved_symbol g s) (moved g x)) (occurs-moved s f) (occurs-moved s x) e
-  occurs-moved s (Lam f x) e = in_parts (occurs s f) (occurs s x) (occurs (moved_symbol g s) (moved g f)) (occurs (moved_symbol g s) (moved g x)) (occurs-moved s f) (occurs-moved s x) e
-  occurs-moved s (Pi f x) e = in_parts (occurs s f) (occurs s x) (occurs (moved_symbol g s) (moved g f)) (occurs (moved_symbol g s) (moved g x)) (occurs-moved s f) (occurs-moved s x) e
+  occurs-moved s (App f x) e = in_parts (occurs s f) (occurs s x) (occurs (moved_symbol g s) (moved g f)) (occurs (moved_symbol g s) (moved g x))
+      (occurs-moved s f) (occurs-moved s x) e
+  occurs-moved s (Lam f x) e = in_parts (occurs s f) (occurs s x) (occurs (moved_symbol g s) (moved g f)) (occurs (moved_symbol g s) (moved g x))
+      (occurs-moved s f) (occurs-moved s x) e
+  occurs-moved s (Pi f x) e = in_parts (occurs s f) (occurs s x) (occurs (moved_symbol g s) (moved g f)) (occurs (moved_symbol g s) (moved g x))
+      (occurs-moved s f) (occurs-moved s x) e
   occurs-moved s SortType e = absurd (cc)
   occurs-moved s SortKind e = absurd (cc)
   occurs-moved s (Var n) e = absurd (cc)
 
   uses-moved : (d : Declaration) (s : ℕ) → uses d s ≡ true → uses (moved_declaration g d) (moved_symbol g s) ≡ true
-  uses-moved d s e = in_parts (occurs s d.ty) (option_map_or (occurs s) d.body false) (occurs (moved_symbol g s) (moved g d.ty)) (option_map_or (occurs (moved_symbol g s)) (option_map (moved g) d.body) false) (occurs-moved s d.ty) (body d.body) e
+  uses-moved d s e = in_parts (occurs s d.ty) (option_map_or (occurs s) d.body false) (occurs (moved_symbol g s) (moved g d.ty))
+      (option_map_or (occurs (moved_symbol g s)) (option_map (moved g) d.body) false) (occurs-moved s d.ty) (body d.body) e
     where
       body : (o : Option Tree) → option_map_or (occurs s) o false ≡ true → option_map_or (occurs (moved_symbol g s)) (option_map (moved g) o) false ≡ true
       body None e = absurd (cc)
@@ -131,7 +137,8 @@ module _ (g : ℕ → ℕ) (m n : List Declaration) (h : IsMoved g m n) (run : A
   reached-moved : (i : ℕ) → IsReached m i → IsReached n (g i)
   reached-moved i (export d e f) = export (moved_declaration g d) (at-moved i d e) f
   reached-moved i (used j d r e f) =
-      used (g j) (moved_declaration g d) (reached-moved j r) (at-moved j d e) (subst (λ s. uses (moved_declaration g d) s ≡ true) (moved_symbol-high g i) (uses-moved g d (length signature + i) f))
+      used (g j) (moved_declaration g d) (reached-moved j r) (at-moved j d e)
+      (subst (λ s. uses (moved_declaration g d) s ≡ true) (moved_symbol-high g i) (uses-moved g d (length signature + i) f))
 
   operator_symbol : (name : List ℕ) (k : ℕ)
       → moved_declaration g (symbol name (products (replicate k types) types)) ≡ symbol name (products (replicate k types) types)
@@ -153,7 +160,8 @@ module _ (g : ℕ → ℕ) (m n : List Declaration) (h : IsMoved g m n) (run : A
     B = moved g r.B;
     type_stands = constant_type-moved g m n h r.ty r.A r.type_stands;
     term_stands = term-moved g m n h _ _ r.B r.term_stands;
-    is = ap (moved_declaration g) r.is ∙ ap (λ t. record { name = constant_name r.name; form = Def; ty = moved g r.A; body = Some t }) (moved-abstractions g (replicate _ types) r.B ∙ ap (λ l. abstractions l (moved g r.B)) (moved-types g _));
+    is = ap (moved_declaration g) r.is ∙ ap (λ t. record { name = constant_name r.name; form = Def; ty = moved g r.A; body = Some t })
+        (moved-abstractions g (replicate _ types) r.B ∙ ap (λ l. abstractions l (moved g r.B)) (moved-types g _));
   }
 
   -- the arguments of a symbol of parts
@@ -177,8 +185,10 @@ module _ (g : ℕ → ℕ) (m n : List Declaration) (h : IsMoved g m n) (run : A
   }
 
   part_body-moved : (k s : ℕ) (arguments : List Tree)
-      → moved g (abstractions (replicate k types) (applied (Sym s) arguments)) ≡ abstractions (replicate k types) (applied (Sym (moved_symbol g s)) (map (moved g) arguments))
-  part_body-moved k s arguments = moved-abstractions g (replicate k types) (applied (Sym s) arguments) ∙ ap₂ abstractions (moved-types g k) (moved-applied g (Sym s) arguments)
+      → moved g (abstractions (replicate k types) (applied (Sym s) arguments))
+      ≡ abstractions (replicate k types) (applied (Sym (moved_symbol g s)) (map (moved g) arguments))
+  part_body-moved k s arguments = moved-abstractions g (replicate k types) (applied (Sym s) arguments) ∙ ap₂ abstractions (moved-types g k)
+      (moved-applied g (Sym s) arguments)
 
   part_definition-moved : (name : List ℕ) (A : Tree) (k s : ℕ) (arguments : List Tree)
       → moved_declaration g (part_definition name A k s arguments) ≡ part_definition name (moved g A) k (moved_symbol g s) (map (moved g) arguments)
@@ -187,14 +197,19 @@ module _ (g : ℕ → ℕ) (m n : List Declaration) (h : IsMoved g m n) (run : A
   defined-moved : (d : Declaration) → IsDefined m run d → IsDefined n run (moved_declaration g d)
   defined-moved d (stands.IsDefined.constant r) = stands.IsDefined.constant (constant-moved d r)
   defined-moved _ (stands.IsDefined.type_operator names c f arguments r) =
-      subst (IsDefined n run) (sym (part_definition-moved _ _ _ sub_symbol arguments ∙ ap (λ A. part_definition (operator_name names.operator) A (length names.variables) sub_symbol (map (moved g) arguments)) (moved-operator g (length names.variables))))
+      subst (IsDefined n run)
+      (sym (part_definition-moved _ _ _ sub_symbol arguments
+      ∙ ap (λ A. part_definition (operator_name names.operator) A (length names.variables) sub_symbol (map (moved g) arguments))
+      (moved-operator g (length names.variables))))
       (stands.IsDefined.type_operator names c f (map (moved g) arguments) (part-moved names c f names.variables arguments r))
   defined-moved _ (stands.IsDefined.abstraction names c f A arguments t r) =
       subst (IsDefined n run) (sym (part_definition-moved _ A _ sub_abs_symbol arguments))
-      (stands.IsDefined.abstraction names c f (moved g A) (map (moved g) arguments) (constant_type-moved g m n h _ A t) (part-moved names c f (type_variables (abstraction_type names c)) arguments r))
+      (stands.IsDefined.abstraction names c f (moved g A) (map (moved g) arguments) (constant_type-moved g m n h _ A t)
+      (part-moved names c f (type_variables (abstraction_type names c)) arguments r))
   defined-moved _ (stands.IsDefined.representation names c f A arguments t r) =
       subst (IsDefined n run) (sym (part_definition-moved _ A _ sub_rep_symbol arguments))
-      (stands.IsDefined.representation names c f (moved g A) (map (moved g) arguments) (constant_type-moved g m n h _ A t) (part-moved names c f (type_variables (representation_type names c)) arguments r))
+      (stands.IsDefined.representation names c f (moved g A) (map (moved g) arguments) (constant_type-moved g m n h _ A t)
+      (part-moved names c f (type_variables (representation_type names c)) arguments r))
 
   exports-moved : (k : ℕ) (is : List ℕ) (ds : List Declaration) → AreExports m run k is ds → AreExports n run k is (map (moved_declaration g) ds)
   exports-moved k [] [] none = none
@@ -203,11 +218,17 @@ module _ (g : ℕ → ℕ) (m n : List Declaration) (h : IsMoved g m n) (run : A
   exports-moved k (i ∷ is) (d ∷ ds) (more a f r s) = more a f (Enc-moved g m n h _ d.ty r) (exports-moved (suc k) is ds s)
 
 -- the exports are those that are kept
-exports-kept : (g : ℕ → ℕ) (k : ℕ) (es : List Entry) → filter (λ (d : Declaration). is_export_name d.name) (declarations g k es) ≡ map (moved_declaration g) (filter (λ (d : Declaration). is_export_name d.name) (kept_of es))
+exports-kept : (g : ℕ → ℕ) (k : ℕ) (es : List Entry) → filter (λ (d : Declaration). is_export_name d.name) (declarations g k es)
+    ≡ map (moved_declaration g) (filter (λ (d : Declaration). is_export_name d.name) (kept_of es))
 exports-kept g k [] = refl
 exports-kept g k (kept d ∷ es) = go (is_export_name d.name) (exports-kept g k es)
   where
-    go : (b : Bool) → filter (λ (c : Declaration). is_export_name c.name) (declarations g k es) ≡ map (moved_declaration g) (filter (λ (c : Declaration). is_export_name c.name) (kept_of es)) → (if b then moved_declaration g d ∷ filter (λ (c : Declaration). is_export_name c.name) (declarations g k es) else filter (λ (c : Declaration). is_export_name c.name) (declarations g k es)) ≡ map (moved_declaration g) (if b then d ∷ filter (λ (c : Declaration). is_export_name c.name) (kept_of es) else filter (λ (c : Declaration). is_export_name c.name) (kept_of es))
+    go : (b : Bool) → filter (λ (c : Declaration). is_export_name c.name) (declarations g k es)
+        ≡ map (moved_declaration g) (filter (λ (c : Declaration). is_export_name c.name) (kept_of es))
+        → (if b then moved_declaration g d ∷ filter (λ (c : Declaration). is_export_name c.name) (declarations g k es) else filter
+        (λ (c : Declaration). is_export_name c.name) (declarations g k es))
+        ≡ map (moved_declaration g)
+        (if b then d ∷ filter (λ (c : Declaration). is_export_name c.name) (kept_of es) else filter (λ (c : Declaration). is_export_name c.name) (kept_of es))
     go true e = ap (λ l. moved_declaration g d ∷ l) e
     go false e = e
 exports-kept g k (abbreviated t a ∷ es) = exports-kept g (suc k) es
@@ -228,7 +249,9 @@ folded-FoldedStands m run u s h =
       unproved = λ i d e b. unproved i d b (folded-IsFrom m s i d e);
       definitions = λ i d e f. definitions i d f (folded-IsFrom m s i d e);
       theorems = λ i d e f. theorems i d f (folded-IsFrom m s i d e);
-      exports = subst (AreExports (folded m) run 0 run.exports) (sym (exports-kept g 0 es ∙ ap (λ l. map (moved_declaration g) (filter (λ (d : Declaration). is_export_name d.name) l)) (kept_of-entries_of m))) (exports-moved g m (folded m) k run 0 run.exports _ h.exports);
+      exports = subst (AreExports (folded m) run 0 run.exports)
+          (sym (exports-kept g 0 es ∙ ap (λ l. map (moved_declaration g) (filter (λ (d : Declaration). is_export_name d.name) l)) (kept_of-entries_of m)))
+          (exports-moved g m (folded m) k run 0 run.exports _ h.exports);
     }
   where
     unproved : (i : ℕ) (d : Declaration) → d.body ≡ None → IsFrom (place_in (entries_of m)) m (folded m) i d → IsUnproved (folded m) run i d
@@ -236,7 +259,8 @@ folded-FoldedStands m run u s h =
         let g = place_in (entries_of m) in
         let k = folded-IsMoved m in
         let r = h.unproved j c at (no_body g c.body (ap (λ (x : Declaration). x.body) moves ∙ b)) in
-        subst₂ (IsUnproved (folded m) run) (sym is) moves (record { given = given-moved g m (folded m) k run c r.given; reached = reached-moved g m (folded m) k run j r.reached })
+        subst₂ (IsUnproved (folded m) run) (sym is) moves
+        (record { given = given-moved g m (folded m) k run c r.given; reached = reached-moved g m (folded m) k run j r.reached })
     unproved i d b (from_abbreviation a) = absurd (let e = ap (λ (x : Declaration). x.body) a.is in cc)
 
     definitions : (i : ℕ) (d : Declaration) → d.form ≡ Def → IsFrom (place_in (entries_of m)) m (folded m) i d

@@ -31,7 +31,8 @@ digit-word b e = grind (arith, common_steps, e)
 
 digits-words : (bs : List ℕ) → list_all is_decimal_digit bs ≡ true → list_all is_word_byte bs ≡ true
 digits-words [] e = refl
-digits-words (b ∷ bs) e = let p = and_parts (is_decimal_digit b) (list_all is_decimal_digit bs) e in and_from (is_word_byte b) (list_all is_word_byte bs) (digit-word b p.0) (digits-words bs p.1)
+digits-words (b ∷ bs) e = let p = and_parts (is_decimal_digit b) (list_all is_decimal_digit bs) e in and_from (is_word_byte b) (list_all is_word_byte bs)
+    (digit-word b p.0) (digits-words bs p.1)
 
 no_binder : (more : List ℕ) (d : ℕ) → ◌≡◌ {A = List ℕ} (88 ∷ more) (118 ∷ decimal d) → ⊥
 no_binder more d e = let f : ◌≡◌ {A = ℕ} 88 118 = cc in absurd (omega (arith, f))
@@ -60,9 +61,12 @@ Shallow-append [] ys h k = k
 Shallow-append (x ∷ xs) ys h k = (h.0, Shallow-append xs ys h.1 k)
 
 parts-Shallow : (t : Tree) → depth t ≤ max_depth → Shallow (parts t)
-parts-Shallow (App f x) h = Shallow-append (parts f ++ parts x) (App f x ∷ []) (Shallow-append (parts f) (parts x) (parts-Shallow f (omega (arith, h))) (parts-Shallow x (omega (arith, h)))) (h, tt)
-parts-Shallow (Lam f x) h = Shallow-append (parts f ++ parts x) (Lam f x ∷ []) (Shallow-append (parts f) (parts x) (parts-Shallow f (omega (arith, h))) (parts-Shallow x (omega (arith, h)))) (h, tt)
-parts-Shallow (Pi f x) h = Shallow-append (parts f ++ parts x) (Pi f x ∷ []) (Shallow-append (parts f) (parts x) (parts-Shallow f (omega (arith, h))) (parts-Shallow x (omega (arith, h)))) (h, tt)
+parts-Shallow (App f x) h = Shallow-append (parts f ++ parts x) (App f x ∷ [])
+    (Shallow-append (parts f) (parts x) (parts-Shallow f (omega (arith, h))) (parts-Shallow x (omega (arith, h)))) (h, tt)
+parts-Shallow (Lam f x) h = Shallow-append (parts f ++ parts x) (Lam f x ∷ [])
+    (Shallow-append (parts f) (parts x) (parts-Shallow f (omega (arith, h))) (parts-Shallow x (omega (arith, h)))) (h, tt)
+parts-Shallow (Pi f x) h = Shallow-append (parts f ++ parts x) (Pi f x ∷ [])
+    (Shallow-append (parts f) (parts x) (parts-Shallow f (omega (arith, h))) (parts-Shallow x (omega (arith, h)))) (h, tt)
 parts-Shallow SortType h = (h, tt)
 parts-Shallow SortKind h = (h, tt)
 parts-Shallow (Var n) h = (h, tt)
@@ -131,4 +135,5 @@ folded-AreShallow m h =
 -- The text of a folded module reads as it
 pub folded-ReadsBack : (m : List Declaration) (bounds : List ℕ) → IsModule m → NoneShort m → AreShaped [] m → ArePlain m → AreShallow m
     → length bounds ≡ length (folded m) → ReadsBack (folded m) bounds
-folded-ReadsBack m bounds h u s p d n = written_reads (folded m) bounds (folded-IsModule m h u s) (folded-AreLong m u) (folded-ArePlain m p) (folded-AreShallow m d) n
+folded-ReadsBack m bounds h u s p d n = written_reads (folded m) bounds (folded-IsModule m h u s) (folded-AreLong m u) (folded-ArePlain m p)
+    (folded-AreShallow m d) n

@@ -83,8 +83,10 @@ module _ (m : List Declaration) where
   parts-Light w (App f x) h =
       Light-append w (parts f ++ parts x) (App f x ∷ [])
       (Light-append w (parts f) (parts x) (parts-Light w f (omega (arith, h, spreads-fewer [] (x ∷ []) f))) (parts-Light w x (omega (arith, h)))) (h, tt)
-  parts-Light w (Lam a b) h = Light-append w (parts a ++ parts b) (Lam a b ∷ []) (Light-append w (parts a) (parts b) (parts-Light w a (omega (arith, h))) (parts-Light w b (omega (arith, h)))) (h, tt)
-  parts-Light w (Pi a b) h = Light-append w (parts a ++ parts b) (Pi a b ∷ []) (Light-append w (parts a) (parts b) (parts-Light w a (omega (arith, h))) (parts-Light w b (omega (arith, h)))) (h, tt)
+  parts-Light w (Lam a b) h = Light-append w (parts a ++ parts b) (Lam a b ∷ [])
+      (Light-append w (parts a) (parts b) (parts-Light w a (omega (arith, h))) (parts-Light w b (omega (arith, h)))) (h, tt)
+  parts-Light w (Pi a b) h = Light-append w (parts a ++ parts b) (Pi a b ∷ [])
+      (Light-append w (parts a) (parts b) (parts-Light w a (omega (arith, h))) (parts-Light w b (omega (arith, h)))) (h, tt)
   parts-Light w SortType h = (h, tt)
   parts-Light w SortKind h = (h, tt)
   parts-Light w (Var n) h = (h, tt)
@@ -112,7 +114,15 @@ module _ (m : List Declaration) where
       let w : symbol_spread m s [] ≡ spread [] A = ap (λ o. option_map_or (spread []) o 0) e in
       omega (arith, w, ap size (put_all-nil A))
   constant-small (at_type {f = f} {a = a} {A = A} {B = B} hf ha e) =
-      omega (arith, constant-small hf, constant-small ha, constant-spreads m (a ∷ []) hf, spread-type m a [] hf e, ap size (put_all-nil (Pi types A)), ap size (put_all-nil B))
+      omega (
+        arith,
+        constant-small hf,
+        constant-small ha,
+        constant-spreads m (a ∷ []) hf,
+        spread-type m a [] hf e,
+        ap size (put_all-nil (Pi types A)),
+        ap size (put_all-nil B),
+      )
 
   -- what an abbreviation adds to the weight of its tree
   abbreviated-Light : (t A : Tree) → IsAbbreviated m t A → tree_weight m A ≤ 4 * tree_weight m t + 4
@@ -149,22 +159,26 @@ entries-AreLight : (w : ℕ) (before : List Declaration) (all met : List Tree) (
     → AreLight w before (entries before all met ds)
 entries-AreLight w before all met [] h = tt
 entries-AreLight w before all met (d ∷ ds) h =
-    abbreviations-AreLight w before all (firsts met (parts_in d)) (kept d ∷ entries (before ++ d ∷ []) all (met ++ parts_in d) ds) (firsts-Light before w met (parts_in d) (parts_in-Light before w d h.0)) (h.0, entries-AreLight w (before ++ d ∷ []) all (met ++ parts_in d) ds h.1)
+    abbreviations-AreLight w before all (firsts met (parts_in d)) (kept d ∷ entries (before ++ d ∷ []) all (met ++ parts_in d) ds)
+    (firsts-Light before w met (parts_in d) (parts_in-Light before w d h.0)) (h.0, entries-AreLight w (before ++ d ∷ []) all (met ++ parts_in d) ds h.1)
 
 first-AreLight : (w : ℕ) (before ds : List Declaration) (es : List Entry) → AreWeighed w before ds → AreLight w (before ++ ds) es
     → AreLight w before (map kept ds ++ es)
 first-AreLight w before [] es h k = subst (λ l. AreLight w l es) (append-nil before) k
-first-AreLight w before (d ∷ ds) es h k = (h.0, first-AreLight w (before ++ d ∷ []) ds es h.1 (subst (λ l. AreLight w l es) (sym (append_assoc before (d ∷ []) ds)) k))
+first-AreLight w before (d ∷ ds) es h k =
+    (h.0, first-AreLight w (before ++ d ∷ []) ds es h.1 (subst (λ l. AreLight w l es) (sym (append_assoc before (d ∷ []) ds)) k))
 
 AreWeighed-front : (w : ℕ) (before ds es : List Declaration) → AreWeighed w before (ds ++ es) → AreWeighed w before ds × AreWeighed w (before ++ ds) es
 AreWeighed-front w before [] es h = (tt, subst (λ l. AreWeighed w l es) (sym (append-nil before)) h)
-AreWeighed-front w before (d ∷ ds) es h = let k = AreWeighed-front w (before ++ d ∷ []) ds es h.1 in ((h.0, k.0), subst (λ l. AreWeighed w l es) (append_assoc before (d ∷ []) ds) k.1)
+AreWeighed-front w before (d ∷ ds) es h = let k = AreWeighed-front w (before ++ d ∷ []) ds es h.1 in
+    ((h.0, k.0), subst (λ l. AreWeighed w l es) (append_assoc before (d ∷ []) ds) k.1)
 
 entries_of-AreLight : (w : ℕ) (m : List Declaration) → AreWeighed w [] m → AreLight w [] (entries_of m)
 entries_of-AreLight w m h =
     let n = length lemmas in
     let k = AreWeighed-front w [] (take n m) (drop n m) (subst (AreWeighed w []) (sym (take-append-drop n m)) h) in
-    first-AreLight w [] (take n m) (entries (take n m) (flat_map parts_in (drop n m)) [] (drop n m)) k.0 (entries-AreLight w (take n m) (flat_map parts_in (drop n m)) [] (drop n m) k.1)
+    first-AreLight w [] (take n m) (entries (take n m) (flat_map parts_in (drop n m)) [] (drop n m)) k.0
+    (entries-AreLight w (take n m) (flat_map parts_in (drop n m)) [] (drop n m) k.1)
 
 -- What they become weighs at most five times that and four
 module _ (g : ℕ → ℕ) (w : ℕ) where
@@ -182,12 +196,16 @@ module _ (g : ℕ → ℕ) (w : ℕ) where
       → AreLight w before es → AreWeighed (5 * w + 4) after (declarations g k es)
   declarations-AreWeighed before after [] k p h l = tt
   declarations-AreWeighed before after (kept d ∷ es) k p h l =
-      let s = IsPlaced-IsMoved g before after (kept d ∷ es) p in
-      (omega (arith, moved-weight before after s d, l.0), declarations-AreWeighed (before ++ d ∷ []) (after ++ moved_declaration g d ∷ []) es k (IsPlaced-kept g before after d es p) h.1 l.1)
+      let s = IsPlaced-IsMoved g before after (kept d ∷ es) p in (
+        omega (arith, moved-weight before after s d, l.0),
+        declarations-AreWeighed (before ++ d ∷ []) (after ++ moved_declaration g d ∷ []) es k (IsPlaced-kept g before after d es p) h.1 l.1,
+      )
   declarations-AreWeighed before after (abbreviated t a ∷ es) k p h l =
       let s = IsPlaced-IsMoved g before after (abbreviated t a ∷ es) p in
-      let b = abbreviated-Light before t a (abbreviation-IsAbbreviated before t a h.0) in
-      (omega (arith, moved-tree_weight before after s t, moved-tree_weight before after s a, l.0, b), declarations-AreWeighed before (after ++ _ ∷ []) es (suc k) (IsPlaced-abbreviated g before after t a _ es p) h.1 l.1)
+      let b = abbreviated-Light before t a (abbreviation-IsAbbreviated before t a h.0) in (
+        omega (arith, moved-tree_weight before after s t, moved-tree_weight before after s a, l.0, b),
+        declarations-AreWeighed before (after ++ _ ∷ []) es (suc k) (IsPlaced-abbreviated g before after t a _ es p) h.1 l.1,
+      )
 
 -- weights over all declarations, and over those before
 weighed-before : (w : ℕ) (m before ds : List Declaration) → m ≡ before ++ ds → AreShaped before ds → AllByRecursion (λ d. weight m d ≤ w) ds
@@ -205,8 +223,10 @@ weighed-all w m before (d ∷ ds) e s h =
     (omega (arith, same, h.0), weighed-all w m (before ++ d ∷ []) ds (e ∙ sym (append_assoc before (d ∷ []) ds)) s.1 h.1)
 
 -- No declaration of a folded module weighs more than five times what the heaviest of the module weighs, and four
-pub folded-weights : (w : ℕ) (m : List Declaration) → AreShaped [] m → AllByRecursion (λ d. weight m d ≤ w) m → AllByRecursion (λ d. weight (folded m) d ≤ 5 * w + 4) (folded m)
+pub folded-weights : (w : ℕ) (m : List Declaration) → AreShaped [] m → AllByRecursion (λ d. weight m d ≤ w) m
+    → AllByRecursion (λ d. weight (folded m) d ≤ 5 * w + 4) (folded m)
 folded-weights w m s h =
     let es = entries_of m in
     weighed-all (5 * w + 4) (folded m) [] (folded m) refl (folded-AreShaped m s)
-    (declarations-AreWeighed (place_in es) w [] [] es 0 (IsPlaced-first es) (entries_of-AreEntries m s) (entries_of-AreLight w m (weighed-before w m [] m refl s h)))
+    (declarations-AreWeighed (place_in es) w [] [] es 0 (IsPlaced-first es) (entries_of-AreEntries m s)
+    (entries_of-AreLight w m (weighed-before w m [] m refl s h)))

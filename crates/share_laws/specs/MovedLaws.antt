@@ -20,7 +20,8 @@ use Rattle.share_spec.specs.MovedTrees.{moved_symbol, moved, moved_declaration}
 map-reverse : {X Y : Type 0} (f : X → Y) (xs : List X) → map f (reverse xs) ≡ reverse (map f xs)
 map-reverse f [] = refl
 map-reverse f (x ∷ xs) =
-    ap (map f) (reverse-append (x ∷ []) xs) ∙ map-append f (reverse xs) (x ∷ []) ∙ ap (λ l. l ++ f x ∷ []) (map-reverse f xs) ∙ sym (reverse-append (f x ∷ []) (map f xs))
+    ap (map f) (reverse-append (x ∷ []) xs) ∙ map-append f (reverse xs) (x ∷ []) ∙ ap (λ l. l ++ f x ∷ []) (map-reverse f xs)
+    ∙ sym (reverse-append (f x ∷ []) (map f xs))
 
 module _ (g : ℕ → ℕ) where
   pub moved-ren : (r : ℕ → ℕ) (t : Tree) → moved g (ren r t) ≡ ren r (moved g t)
@@ -62,7 +63,8 @@ module _ (g : ℕ → ℕ) where
       go false false = refl
 
   pub moved-put_at : (d : ℕ) (a t : Tree) → moved g (put_at d a t) ≡ put_at d (moved g a) (moved g t)
-  moved-put_at d a t = ap (moved g) (put_at_is d a t) ∙ moved-sub (put_var d a) t ∙ ap (λ w. sub w (moved g t)) (fun_ext (moved-put_var d a)) ∙ sym (put_at_is d (moved g a) (moved g t))
+  moved-put_at d a t = ap (moved g) (put_at_is d a t) ∙ moved-sub (put_var d a) t ∙ ap (λ w. sub w (moved g t)) (fun_ext (moved-put_var d a)) ∙ sym
+      (put_at_is d (moved g a) (moved g t))
 
   pub moved-put : (a t : Tree) → moved g (put a t) ≡ put (moved g a) (moved g t)
   moved-put a t = moved-put_at 0 a t
@@ -76,11 +78,13 @@ module _ (g : ℕ → ℕ) where
       in_it (Some t) = moved-lift d t
 
       go : (b : Bool)
-          → moved g (if b then Var n else option_map_or (lift d) (slice_get (reverse us) (n - d)) (Var (n - length us))) ≡ (if b then Var n else option_map_or (lift d) (slice_get (reverse (map (moved g) us)) (n - d)) (Var (n - length (map (moved g) us))))
+          → moved g (if b then Var n else option_map_or (lift d) (slice_get (reverse us) (n - d)) (Var (n - length us)))
+          ≡ (if b then Var n else option_map_or (lift d) (slice_get (reverse (map (moved g) us)) (n - d)) (Var (n - length (map (moved g) us))))
       go true = refl
       go false =
           in_it (slice_get (reverse us) (n - d))
-          ∙ ap (λ o. option_map_or (lift d) o (Var (n - length us))) (sym (slice_get-map (moved g) (reverse us) (n - d)) ∙ ap (λ l. slice_get l (n - d)) (map-reverse (moved g) us))
+          ∙ ap (λ o. option_map_or (lift d) o (Var (n - length us)))
+          (sym (slice_get-map (moved g) (reverse us) (n - d)) ∙ ap (λ l. slice_get l (n - d)) (map-reverse (moved g) us))
           ∙ ap (λ l. option_map_or (lift d) (slice_get (reverse (map (moved g) us)) (n - d)) (Var (n - l))) (sym (length-map us (moved g)))
 
   pub moved-put_all : (us : List Tree) (t : Tree) → moved g (put_all us t) ≡ put_all (map (moved g) us) (moved g t)
@@ -125,7 +129,8 @@ module _ (g : ℕ → ℕ) where
   pub moved_symbol-high : (i : ℕ) → moved_symbol g (length signature + i) ≡ length signature + g i
   moved_symbol-high i =
       let e : length signature + i - length signature ≡ i = omega arith in
-      ap (λ (b : Bool). if b then length signature + i else length signature + g (length signature + i - length signature)) (le-ltb (length signature + i) (length signature) (omega arith))
+      ap (λ (b : Bool). if b then length signature + i else length signature + g (length signature + i - length signature))
+      (le-ltb (length signature + i) (length signature) (omega arith))
       ∙ ap (λ j. length signature + g j) e
 
   -- what is a symbol of the signature was it before
@@ -183,31 +188,36 @@ module _ (g : ℕ → ℕ) (m n : List Declaration) (h : IsMoved g m n) where
       go false e =
           let high : length signature ≤ s = grind (arith, common_steps, e) in
           let is : s ≡ length signature + (s - length signature) = omega (arith, high) in
-          ap (λ k. symbol_declaration n (moved_symbol g k)) is ∙ ap (symbol_declaration n) (moved_symbol-high g (s - length signature)) ∙ slice_get-back signature n (g (s - length signature)) ∙ h.each (s - length signature)
+          ap (λ k. symbol_declaration n (moved_symbol g k)) is ∙ ap (symbol_declaration n) (moved_symbol-high g (s - length signature))
+          ∙ slice_get-back signature n (g (s - length signature)) ∙ h.each (s - length signature)
           ∙ ap (option_map (moved_declaration g)) (sym (slice_get-back signature m (s - length signature)) ∙ ap (symbol_declaration m) (sym is))
 
   pub moved-symbol_type : (s : ℕ) → symbol_type n (moved_symbol g s) ≡ option_map (moved g) (symbol_type m s)
   moved-symbol_type s = ap (option_map (λ (d : Declaration). d.ty)) (moved-symbol_declaration s) ∙ both (symbol_declaration m s)
     where
-      both : (o : Option Declaration) → option_map (λ (d : Declaration). d.ty) (option_map (moved_declaration g) o) ≡ option_map (moved g) (option_map (λ (d : Declaration). d.ty) o)
+      both : (o : Option Declaration) → option_map (λ (d : Declaration). d.ty) (option_map (moved_declaration g) o)
+          ≡ option_map (moved g) (option_map (λ (d : Declaration). d.ty) o)
       both None = refl
       both (Some d) = refl
 
   pub moved-symbol_definition : (s : ℕ) → symbol_definition n (moved_symbol g s) ≡ option_map (moved g) (symbol_definition m s)
-  moved-symbol_definition s = ap (option_and_then (λ (d : Declaration). definition_of d.form d.body)) (moved-symbol_declaration s) ∙ both (symbol_declaration m s)
+  moved-symbol_definition s = ap (option_and_then (λ (d : Declaration). definition_of d.form d.body)) (moved-symbol_declaration s) ∙ both
+      (symbol_declaration m s)
     where
       by_form : (f : Form) (body : Option Tree) → definition_of f (option_map (moved g) body) ≡ option_map (moved g) (definition_of f body)
       by_form Symbol body = refl
       by_form Def body = refl
       by_form Thm body = refl
 
-      both : (o : Option Declaration) → option_and_then (λ (d : Declaration). definition_of d.form d.body) (option_map (moved_declaration g) o) ≡ option_map (moved g) (option_and_then (λ (d : Declaration). definition_of d.form d.body) o)
+      both : (o : Option Declaration) → option_and_then (λ (d : Declaration). definition_of d.form d.body) (option_map (moved_declaration g) o)
+          ≡ option_map (moved g) (option_and_then (λ (d : Declaration). definition_of d.form d.body) o)
       both None = refl
       both (Some d) = by_form d.form d.body
 
   pub moved-symbol_name : (s : ℕ) → symbol_name n (moved_symbol g s) ≡ symbol_name m s
   moved-symbol_name s = ap (λ o. option_map_or (λ (d : Declaration). d.name) o []) (moved-symbol_declaration s) ∙ both (symbol_declaration m s)
     where
-      both : (o : Option Declaration) → option_map_or (λ (d : Declaration). d.name) (option_map (moved_declaration g) o) [] ≡ option_map_or (λ (d : Declaration). d.name) o []
+      both : (o : Option Declaration) → option_map_or (λ (d : Declaration). d.name) (option_map (moved_declaration g) o) []
+          ≡ option_map_or (λ (d : Declaration). d.name) o []
       both None = refl
       both (Some d) = refl

@@ -62,8 +62,13 @@ module _ (g : ℕ → ℕ) (m n : List Declaration) (h : IsMoved g m n) where
   mutual
     pub type-moved : (t : ClosedType) (at : Place) (A : Tree) → StandsForType m t at A → StandsForType n t at (moved g A)
     type-moved (closed.ClosedType.parameter i) at A (l, e) = (l, ap (moved g) e)
-    type-moved (closed.ClosedType.operator name ts) at A (s, args, o, k, e) =
-        (moved_symbol g s, map (moved g) args, subst (MeansOperator n (moved_symbol g s) name) (sym (length-map args (moved g))) (operator-moved o), types-moved ts at args k, ap (moved g) e ∙ moved-applied g (Sym s) args)
+    type-moved (closed.ClosedType.operator name ts) at A (s, args, o, k, e) = (
+      moved_symbol g s,
+      map (moved g) args,
+      subst (MeansOperator n (moved_symbol g s) name) (sym (length-map args (moved g))) (operator-moved o),
+      types-moved ts at args k,
+      ap (moved g) e ∙ moved-applied g (Sym s) args,
+    )
 
     types-moved : (ts : ClosedTypes) (at : Place) (As : List Tree) → StandForTypes m ts at As → StandForTypes n ts at (map (moved g) As)
     types-moved closed.ClosedTypes.none at [] k = tt
@@ -133,8 +138,10 @@ module _ (g : ℕ → ℕ) (m n : List Declaration) (h : IsMoved g m n) where
         product = ap (moved g) r.product ∙ moved-products g (domains s.type_variable_count r.variables r.hypotheses) (proof_of r.conclusion)
             ∙ ap (λ l. products l (proof_of (moved g r.conclusion))) (moved-domains g s.type_variable_count r.variables r.hypotheses);
         variables_stand = variables-moved s.free_variable_types s.type_variable_count 0 r.variables r.variables_stand;
-        hypotheses_stand = subst (λ k. StandForHypotheses n s.hypotheses s.type_variable_count k 0 (map (moved g) r.hypotheses)) (sym count) (hypotheses-moved s.hypotheses s.type_variable_count (length r.variables) 0 r.hypotheses r.hypotheses_stand);
-        conclusion_stands = subst₂ (λ k l. StandsForTerm n s.conclusion (place s.type_variable_count k l 0) (moved g r.conclusion)) (sym count) (sym more) (term-moved s.conclusion (place s.type_variable_count (length r.variables) (length r.hypotheses) 0) r.conclusion r.conclusion_stands);
+        hypotheses_stand = subst (λ k. StandForHypotheses n s.hypotheses s.type_variable_count k 0 (map (moved g) r.hypotheses)) (sym count)
+            (hypotheses-moved s.hypotheses s.type_variable_count (length r.variables) 0 r.hypotheses r.hypotheses_stand);
+        conclusion_stands = subst₂ (λ k l. StandsForTerm n s.conclusion (place s.type_variable_count k l 0) (moved g r.conclusion)) (sym count) (sym more)
+            (term-moved s.conclusion (place s.type_variable_count (length r.variables) (length r.hypotheses) 0) r.conclusion r.conclusion_stands);
       }
 
   pub constant_type-moved : (t : _) (A : Tree) → IsConstantType m t A → IsConstantType n t (moved g A)

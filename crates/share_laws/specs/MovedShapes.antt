@@ -43,10 +43,14 @@ module _ (g : ℕ → ℕ) where
   pointwise-moved a b t u = ap (Pi (term_of (moved g a))) (equation-moved a b t u)
     where
       equation-moved : (a b t u : Tree)
-          → moved g (proof_of (eq_of (lift 1 b) (App (lift 1 (Lam (term_of a) t)) (Var 0)) (App (lift 1 (Lam (term_of a) u)) (Var 0)))) ≡ proof_of (eq_of (lift 1 (moved g b)) (App (lift 1 (Lam (term_of (moved g a)) (moved g t))) (Var 0)) (App (lift 1 (Lam (term_of (moved g a)) (moved g u))) (Var 0)))
+          → moved g (proof_of (eq_of (lift 1 b) (App (lift 1 (Lam (term_of a) t)) (Var 0)) (App (lift 1 (Lam (term_of a) u)) (Var 0))))
+          ≡ proof_of (eq_of (lift 1 (moved g b)) (App (lift 1 (Lam (term_of (moved g a)) (moved g t))) (Var 0))
+          (App (lift 1 (Lam (term_of (moved g a)) (moved g u))) (Var 0)))
       equation-moved a b t u =
-          ap (λ x. proof_of (eq_of x (App (moved g (lift 1 (Lam (term_of a) t))) (Var 0)) (App (moved g (lift 1 (Lam (term_of a) u))) (Var 0)))) (moved-lift g 1 b)
-          ∙ ap₂ (λ x y. proof_of (eq_of (lift 1 (moved g b)) (App x (Var 0)) (App y (Var 0)))) (moved-lift g 1 (Lam (term_of a) t)) (moved-lift g 1 (Lam (term_of a) u))
+          ap (λ x. proof_of (eq_of x (App (moved g (lift 1 (Lam (term_of a) t))) (Var 0)) (App (moved g (lift 1 (Lam (term_of a) u))) (Var 0))))
+          (moved-lift g 1 b)
+          ∙ ap₂ (λ x y. proof_of (eq_of (lift 1 (moved g b)) (App x (Var 0)) (App y (Var 0)))) (moved-lift g 1 (Lam (term_of a) t))
+          (moved-lift g 1 (Lam (term_of a) u))
 
 module _ (g : ℕ → ℕ) (m n : List Declaration) (h : IsMoved g m n) where
   type-at : (s : ℕ) (A : Tree) → symbol_type m s ≡ Some A → symbol_type n (moved_symbol g s) ≡ Some (moved g A)
@@ -62,7 +66,8 @@ module _ (g : ℕ → ℕ) (m n : List Declaration) (h : IsMoved g m n) where
   term-moved (of_constant c s) = of_constant (constant-moved c) (constant-moved s)
   term-moved (of_function f x) = of_function (term-moved f) (term-moved x)
   term-moved {G = G} (of_binder {t = t} {a = a} {b = b} ha hb ht) =
-      of_binder (constant-moved ha) (constant-moved hb) (subst (IsTerm n (term_of (moved g a) ∷ map (moved g) G) (moved g t)) (moved-lift g 1 b) (term-moved ht))
+      of_binder (constant-moved ha) (constant-moved hb)
+      (subst (IsTerm n (term_of (moved g a) ∷ map (moved g) G) (moved g t)) (moved-lift g 1 b) (term-moved ht))
 
   pub declared-moved : {G : List Tree} {A : Tree} → IsDeclared m G A → IsDeclared n (map (moved g) G) (moved g A)
   declared-moved of_types = of_types
@@ -74,7 +79,8 @@ module _ (g : ℕ → ℕ) (m n : List Declaration) (h : IsMoved g m n) where
   near-moved near_same = near_same
   near-moved (near_head {t = t} {u = u} e) = near_head (head_step-Some g m n h t u e)
   near-moved (near_arrows u) = near_arrows (unfolded-moved g u)
-  near-moved (near_application {f = f} {g = k} {x = x} {y = y} d e a b) = near_application (head_step-None g m n h (App f x) d) (head_step-None g m n h (App k y) e) (near-moved a) (near-moved b)
+  near-moved (near_application {f = f} {g = k} {x = x} {y = y} d e a b) =
+      near_application (head_step-None g m n h (App f x) d) (head_step-None g m n h (App k y) e) (near-moved a) (near-moved b)
   near-moved (near_product a b) = near_product (near-moved a) (near-moved b)
 
   pub proof-moved : {is_call : Bool} {G : List Tree} {t A : Tree} → IsProof m is_call G t A → IsProof n is_call (map (moved g) G) (moved g t) (moved g A)
@@ -87,7 +93,8 @@ module _ (g : ℕ → ℕ) (m n : List Declaration) (h : IsMoved g m n) where
   proof-moved {G = G} (at_abstractions {a = a} {b = b} {t = t} {u = u} {h = x} {A = A} {B = B} f ha hb ht hu hx e) =
       let G' = term_of (moved g a) ∷ map (moved g) G in
       at_abstractions
-      (subst (λ p. IsProof n true (map (moved g) G) (two_abstractions (moved g a) (moved g b) (moved g t) (moved g u)) (Pi p (moved g A))) (pointwise-moved g a b t u) (proof-moved f))
+      (subst (λ p. IsProof n true (map (moved g) G) (two_abstractions (moved g a) (moved g b) (moved g t) (moved g u)) (Pi p (moved g A)))
+      (pointwise-moved g a b t u) (proof-moved f))
       (constant-moved ha) (constant-moved hb)
       (subst (IsTerm n G' (moved g t)) (moved-lift g 1 b) (term-moved ht))
       (subst (IsTerm n G' (moved g u)) (moved-lift g 1 b) (term-moved hu))
@@ -106,20 +113,23 @@ module _ (g : ℕ → ℕ) (m n : List Declaration) (h : IsMoved g m n) where
   close-moved (close_step {E = E} {H = H} e c) = close_step (head_step-Some g m n h E H e) (close-moved c)
   close-moved (close_arrow {a = a} {b = b} {c = c} {d = d} x y) =
       close_arrow (close-moved x) (subst₂ (Close n 3) (moved-lift g 1 (term_of b)) (moved-lift g 1 (term_of d)) (close-moved y))
-  close-moved (close_application {f = f} {g = k} {x = x} {y = y} d e a b) = close_application (head_step-None g m n h (App f x) d) (head_step-None g m n h (App k y) e) (close-moved a) (close-moved b)
+  close-moved (close_application {f = f} {g = k} {x = x} {y = y} d e a b) =
+      close_application (head_step-None g m n h (App f x) d) (head_step-None g m n h (App k y) e) (close-moved a) (close-moved b)
   close-moved (close_product a b) = close_product (close-moved a) (close-moved b)
 
   last-moved : {G : List Tree} {t F : Tree} → IsLast m G t F → IsLast n (map (moved g) G) (moved g t) (moved g F)
   last-moved (last_call k) = last_call (proof-moved k)
   last-moved (last_defined {f = f} {x = x} {n = c} {S = S} {A = A} {F = F} k t d z y v s le sp e) =
-      last_defined (proof-moved k) (term-moved t) (head_step-Some g m n h c S d) (head_step-None g m n h S z) (head_step-None g m n h (term_of c) y) (head_step-None g m n h (term_of S) v) (proof-moved s)
+      last_defined (proof-moved k) (term-moved t) (head_step-Some g m n h c S d) (head_step-None g m n h S z) (head_step-None g m n h (term_of c) y)
+      (head_step-None g m n h (term_of S) v) (proof-moved s)
       (omega (arith, size-moved g S, size-moved g f, le)) (omega (arith, spreads-moved g m n h [] S, spreads-moved g m n h (x ∷ []) f, sp)) (put-to g x A F e)
 
   law-moved : {G : List Tree} {t F : Tree} → IsLaw m G t F → IsLaw n (map (moved g) G) (moved g t) (moved g F)
   law-moved {G = G} (at_close_abstractions {a = a} {b = b} {t = t} {u = u} {h = x} {F = F} {B = B} {A = A} f ha hb ht hu hx c e) =
       let G' = term_of (moved g a) ∷ map (moved g) G in
       at_close_abstractions
-      (subst (λ p. IsProof n true (map (moved g) G) (two_abstractions (moved g a) (moved g b) (moved g t) (moved g u)) (Pi p (moved g A))) (pointwise-moved g a b t u) (proof-moved f))
+      (subst (λ p. IsProof n true (map (moved g) G) (two_abstractions (moved g a) (moved g b) (moved g t) (moved g u)) (Pi p (moved g A)))
+      (pointwise-moved g a b t u) (proof-moved f))
       (constant-moved ha) (constant-moved hb)
       (subst (IsTerm n G' (moved g t)) (moved-lift g 1 b) (term-moved ht))
       (subst (IsTerm n G' (moved g u)) (moved-lift g 1 b) (term-moved hu))
@@ -129,7 +139,8 @@ module _ (g : ℕ → ℕ) (m n : List Declaration) (h : IsMoved g m n) where
   law-moved (law_last {h = x} big k) = law_last (omega (arith, size-moved g x, big)) (last-moved k)
   law-moved (at_close_equation {f = f} {h = x} {l = l} {r = r} {A = A} {B = B} k hl hr le sp hx c e) =
       at_close_equation (proof-moved k) (term-moved hl) (term-moved hr) (omega (arith, size-moved g l, size-moved g r, size-moved g f, le))
-      (omega (arith, spreads-moved g m n h [] l, spreads-moved g m n h [] r, spreads-moved g m n h (x ∷ []) f, sp)) (last-moved hx) (close-moved c) (put-to g x A (proof_of B) e)
+      (omega (arith, spreads-moved g m n h [] l, spreads-moved g m n h [] r, spreads-moved g m n h (x ∷ []) f, sp)) (last-moved hx) (close-moved c)
+      (put-to g x A (proof_of B) e)
   law-moved (law_under a k) = law_under (declared-moved a) (law-moved k)
 
   call-moved : {G : List Tree} {t A : Tree} → IsCallDefinition m G t A → IsCallDefinition n (map (moved g) G) (moved g t) (moved g A)

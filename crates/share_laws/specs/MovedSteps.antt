@@ -60,7 +60,8 @@ module _ (g : ℕ → ℕ) where
 
   given-moved : (before : List Tree) (t : Tree) (args : List Tree)
       → given (map (moved g) before) (moved g t) (map (moved g) args) ≡ option_map (moved g) (given before t args)
-  given-moved before (Lam (Sym zero) b) (x ∷ args) = ap (λ l. given l (moved g b) (map (moved g) args)) (sym (map-append (moved g) before (x ∷ []))) ∙ given-moved (before ++ x ∷ []) b args
+  given-moved before (Lam (Sym zero) b) (x ∷ args) =
+      ap (λ l. given l (moved g b) (map (moved g) args)) (sym (map-append (moved g) before (x ∷ []))) ∙ given-moved (before ++ x ∷ []) b args
   given-moved before (Lam (Sym zero) b) [] = refl
   given-moved before (Lam (Sym (suc s)) b) args = applied_whole before (Lam (Sym (suc s)) b) args (λ c e. no_types s (moved g b) c e)
   given-moved before (Lam SortType b) args = applied_whole before (Lam SortType b) args (λ c e. absurd (cc))
@@ -109,7 +110,8 @@ module _ (g : ℕ → ℕ) (m n : List Declaration) (h : IsMoved g m n) where
       not_rule (x ∷ y ∷ args) a b o e f = absurd (cc)
 
   symbol_step-moved : (s : ℕ) (args : List Tree) → symbol_step n (moved_symbol g s) (map (moved g) args) ≡ option_map (moved g) (symbol_step m s args)
-  symbol_step-moved (suc (suc (suc (suc zero)))) (App (App (Sym (suc (suc (suc zero)))) a) b ∷ []) = ap (λ t. Some (Pi (term_of (moved g a)) t)) (sym (moved-lift g 1 (term_of b)))
+  symbol_step-moved (suc (suc (suc (suc zero)))) (App (App (Sym (suc (suc (suc zero)))) a) b ∷ []) =
+      ap (λ t. Some (Pi (term_of (moved g a)) t)) (sym (moved-lift g 1 (term_of b)))
   symbol_step-moved s args = other_moved s args (λ a b e f. absurd (cc))
 
   spine_step-moved : (t : Tree) (args : List Tree) → spine_step n (moved g t) (map (moved g) args) ≡ option_map (moved g) (spine_step m t args)

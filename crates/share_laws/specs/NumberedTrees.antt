@@ -68,7 +68,9 @@ false-or false h = refl
 
 module _ (ts : List Tree) (top : ℕ) (numbered : AreNumbered ts top) where
   alone : (n : ℕ) → n < top → is_in (at ts n) (down ts n) ≡ false
-  alone n l = let w = numbered.within in false-or (is_in (at ts n) (down ts n)) (λ h. let r = in-down ts n (at ts n) (omega (arith, l, w)) h in let s = numbered.distinct r.0 n (at ts n) r.2 (at-get ts n (omega (arith, l, w))) in omega (arith, s, r.1))
+  alone n l = let w = numbered.within in false-or (is_in (at ts n) (down ts n))
+      (λ h. let r = in-down ts n (at ts n) (omega (arith, l, w)) h in let s =
+      numbered.distinct r.0 n (at ts n) r.2 (at-get ts n (omega (arith, l, w))) in omega (arith, s, r.1))
 
   no_part : (n j : ℕ) → n < top → j ≤ n → places (at ts n) (direct (at ts j)) ≡ 0
   no_part n j l k = let w = numbered.within in in-places (at ts n) (direct (at ts j)) (false-or (is_in (at ts n) (direct (at ts j))) (λ h.
@@ -95,7 +97,8 @@ module _ (ts : List Tree) (top : ℕ) (numbered : AreNumbered ts top) where
 
   of_node : (t f x w : Tree) (i : ℕ) → i < top → slice_get ts i ≡ Some t → direct t ≡ f ∷ x ∷ []
       → (is_in w (parts f ++ parts x) ≡ true) ⊎ (is_in w (t ∷ []) ≡ true)
-      → ((j : ℕ) → j < top → slice_get ts j ≡ Some f → is_in w (parts f) ≡ true → is_in w (down ts top) ≡ true) → ((j : ℕ) → j < top → slice_get ts j ≡ Some x → is_in w (parts x) ≡ true → is_in w (down ts top) ≡ true)
+      → ((j : ℕ) → j < top → slice_get ts j ≡ Some f → is_in w (parts f) ≡ true → is_in w (down ts top) ≡ true)
+      → ((j : ℕ) → j < top → slice_get ts j ≡ Some x → is_in w (parts x) ≡ true → is_in w (down ts top) ≡ true)
       → is_in w (down ts top) ≡ true
   of_node t f x w i l e d (inr h) p q = own t w i l e h
   of_node t f x w i l e d (inl h) p q = go (in-either w (parts f) (parts x) h)
@@ -106,9 +109,12 @@ module _ (ts : List Tree) (top : ℕ) (numbered : AreNumbered ts top) where
 
   -- the parts of what has a number have one
   has_number : (t w : Tree) (i : ℕ) → i < top → slice_get ts i ≡ Some t → is_in w (parts t) ≡ true → is_in w (down ts top) ≡ true
-  has_number (App f x) w i l e h = of_node (App f x) f x w i l e refl (in-either w (parts f ++ parts x) (App f x ∷ []) h) (λ j m k p. has_number f w j m k p) (λ j m k p. has_number x w j m k p)
-  has_number (Lam a b) w i l e h = of_node (Lam a b) a b w i l e refl (in-either w (parts a ++ parts b) (Lam a b ∷ []) h) (λ j m k p. has_number a w j m k p) (λ j m k p. has_number b w j m k p)
-  has_number (Pi a b) w i l e h = of_node (Pi a b) a b w i l e refl (in-either w (parts a ++ parts b) (Pi a b ∷ []) h) (λ j m k p. has_number a w j m k p) (λ j m k p. has_number b w j m k p)
+  has_number (App f x) w i l e h = of_node (App f x) f x w i l e refl (in-either w (parts f ++ parts x) (App f x ∷ []) h) (λ j m k p. has_number f w j m k p)
+      (λ j m k p. has_number x w j m k p)
+  has_number (Lam a b) w i l e h = of_node (Lam a b) a b w i l e refl (in-either w (parts a ++ parts b) (Lam a b ∷ []) h) (λ j m k p. has_number a w j m k p)
+      (λ j m k p. has_number b w j m k p)
+  has_number (Pi a b) w i l e h = of_node (Pi a b) a b w i l e refl (in-either w (parts a ++ parts b) (Pi a b ∷ []) h) (λ j m k p. has_number a w j m k p)
+      (λ j m k p. has_number b w j m k p)
   has_number SortType w i l e h = own SortType w i l e h
   has_number SortKind w i l e h = own SortKind w i l e h
   has_number (Var n) w i l e h = own (Var n) w i l e h

@@ -40,7 +40,8 @@ total-append t (x ∷ xs) ys = omega (arith, total-append t xs ys)
 
 -- a tree stands where it is the whole, and where it is a direct part of what stands there
 node_places : (t u f x : Tree) → parts u ≡ parts f ++ parts x ++ u ∷ [] → direct u ≡ f ∷ x ∷ []
-    → places t (parts f) ≡ places t (f ∷ []) + total t (parts f) → places t (parts x) ≡ places t (x ∷ []) + total t (parts x) → places t (parts u) ≡ places t (u ∷ []) + total t (parts u)
+    → places t (parts f) ≡ places t (f ∷ []) + total t (parts f) → places t (parts x) ≡ places t (x ∷ []) + total t (parts x) → places t (parts u)
+    ≡ places t (u ∷ []) + total t (parts u)
 node_places t u f x e d i j =
     let p = places-append t (parts f ++ parts x) (u ∷ []) in
     let q = places-append t (parts f) (parts x) in
@@ -116,7 +117,8 @@ own-sum f u (v ∷ vs) d h = go (tree_eq v u) refl (λ i. own-sum f u vs d.2 i)
         rest false i j = j
 
 -- what a list of trees hands to a tree, counted by the trees that are distinct
-total-sum : (t : Tree) (vs us : List Tree) → AreDescending vs → ((w : Tree) → is_in w us ≡ true → is_in w vs ≡ true) → total t us ≡ sum (λ v. places v us * places t (direct v)) vs
+total-sum : (t : Tree) (vs us : List Tree) → AreDescending vs → ((w : Tree) → is_in w us ≡ true → is_in w vs ≡ true) → total t us
+    ≡ sum (λ v. places v us * places t (direct v)) vs
 total-sum t vs [] d h = sym (zeros vs)
   where
     zeros : (ws : List Tree) → sum (λ v. 0 * places t (direct v)) ws ≡ 0
@@ -170,7 +172,8 @@ module _ (roots : List Tree) where
       → ((t : Tree) → c t ≡ min 2 (places t roots + from t ps)) → (t : Tree) → passed vs c t ≡ min 2 (count t)
   passed-from ps [] c all d h t = h t ∙ ap (λ k. min 2 k) (omega (arith, all t, sum-append (λ v. count v * places t (direct v)) ps []))
   passed-from ps (v ∷ vs) c all d h t =
-      let own : count v ≡ places v roots + from v ps = omega (arith, all v, sum-append (λ w. count w * places v (direct w)) ps (v ∷ vs), none-from v (v ∷ vs) d.1) in
+      let own : count v ≡ places v roots + from v ps =
+      omega (arith, all v, sum-append (λ w. count w * places v (direct w)) ps (v ∷ vs), none-from v (v ∷ vs) d.1) in
       passed-from (ps ++ v ∷ []) vs (handed (direct v) (c v) c) (λ u. all u ∙ ap (λ l. places u roots + from u l) (sym (append_assoc ps (v ∷ []) vs))) d.2
       (λ u. handed-is (direct v) (c v) (count v) c (λ w. places w roots + from w ps) (h v ∙ ap (λ k. min 2 k) (sym own)) h u
       ∙ ap (λ k. min 2 k) (omega (arith, sum-append (λ w. count w * places u (direct w)) ps (v ∷ []), mul_comm (count v) (places u (direct v))))) t
@@ -179,7 +182,8 @@ module _ (roots : List Tree) where
 pub passed-places : (roots vs : List Tree) → AreDescending vs → ((w : Tree) → is_in w (flat_map parts roots) ≡ true → is_in w vs ≡ true)
     → (t : Tree) → passed vs (λ u. min 2 (places u roots)) t ≡ min 2 (places t (flat_map parts roots))
 passed-places roots vs d h t =
-    passed-from roots [] vs (λ u. min 2 (places u roots)) (λ u. all_places u roots ∙ ap (λ k. places u roots + k) (total-sum u vs (flat_map parts roots) d h)) d (λ u. ap (λ k. min 2 k) (omega arith)) t
+    passed-from roots [] vs (λ u. min 2 (places u roots)) (λ u. all_places u roots ∙ ap (λ k. places u roots + k) (total-sum u vs (flat_map parts roots) d h)) d
+    (λ u. ap (λ k. min 2 k) (omega arith)) t
 
 -- the roots of declarations
 abbrev pub roots_in : Declaration → List Tree
@@ -190,6 +194,7 @@ roots-parts [] = refl
 roots-parts (d ∷ ds) = go d.body ∙ ap (λ l. parts_in d ++ l) (roots-parts ds)
   where
     go : (o : Option Tree)
-        → flat_map parts ((d.ty ∷ option_map_or (λ t. t ∷ []) o []) ++ flat_map roots_in ds) ≡ (parts d.ty ++ option_map_or parts o []) ++ flat_map parts (flat_map roots_in ds)
+        → flat_map parts ((d.ty ∷ option_map_or (λ t. t ∷ []) o []) ++ flat_map roots_in ds) ≡ (parts d.ty ++ option_map_or parts o [])
+        ++ flat_map parts (flat_map roots_in ds)
     go None = ap (λ l. l ++ flat_map parts (flat_map roots_in ds)) (sym (append-nil (parts d.ty)))
     go (Some b) = sym (append_assoc (parts d.ty) (parts b) (flat_map parts (flat_map roots_in ds)))

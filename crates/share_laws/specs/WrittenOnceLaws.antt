@@ -76,18 +76,24 @@ positive (Lam a b) = omega arith
 positive (Pi a b) = omega arith
 
 pub larger-places : (t u : Tree) → size u < size t → places t (parts u) ≡ 0
-larger-places t (App f x) h = three t (parts f) (parts x) (App f x) ∙ omega (arith, larger-places t f (omega (arith, h)), larger-places t x (omega (arith, h)), no-place t (App f x) (smaller t (App f x) h))
-larger-places t (Lam a b) h = three t (parts a) (parts b) (Lam a b) ∙ omega (arith, larger-places t a (omega (arith, h)), larger-places t b (omega (arith, h)), no-place t (Lam a b) (smaller t (Lam a b) h))
-larger-places t (Pi a b) h = three t (parts a) (parts b) (Pi a b) ∙ omega (arith, larger-places t a (omega (arith, h)), larger-places t b (omega (arith, h)), no-place t (Pi a b) (smaller t (Pi a b) h))
+larger-places t (App f x) h = three t (parts f) (parts x) (App f x) ∙ omega
+    (arith, larger-places t f (omega (arith, h)), larger-places t x (omega (arith, h)), no-place t (App f x) (smaller t (App f x) h))
+larger-places t (Lam a b) h = three t (parts a) (parts b) (Lam a b) ∙ omega
+    (arith, larger-places t a (omega (arith, h)), larger-places t b (omega (arith, h)), no-place t (Lam a b) (smaller t (Lam a b) h))
+larger-places t (Pi a b) h = three t (parts a) (parts b) (Pi a b) ∙ omega
+    (arith, larger-places t a (omega (arith, h)), larger-places t b (omega (arith, h)), no-place t (Pi a b) (smaller t (Pi a b) h))
 larger-places t SortType h = no-place t SortType (smaller t SortType h)
 larger-places t SortKind h = no-place t SortKind (smaller t SortKind h)
 larger-places t (Var n) h = no-place t (Var n) (smaller t (Var n) h)
 larger-places t (Sym s) h = no-place t (Sym s) (smaller t (Sym s) h)
 
 own-places : (t : Tree) → places t (parts t) ≤ 1
-own-places (App f x) = subst (λ n. n ≤ 1) (sym (three (App f x) (parts f) (parts x) (App f x))) (omega (arith, larger-places (App f x) f (omega (arith, positive x)), larger-places (App f x) x (omega (arith, positive f)), one-place (App f x) (App f x)))
-own-places (Lam a b) = subst (λ n. n ≤ 1) (sym (three (Lam a b) (parts a) (parts b) (Lam a b))) (omega (arith, larger-places (Lam a b) a (omega (arith, positive b)), larger-places (Lam a b) b (omega (arith, positive a)), one-place (Lam a b) (Lam a b)))
-own-places (Pi a b) = subst (λ n. n ≤ 1) (sym (three (Pi a b) (parts a) (parts b) (Pi a b))) (omega (arith, larger-places (Pi a b) a (omega (arith, positive b)), larger-places (Pi a b) b (omega (arith, positive a)), one-place (Pi a b) (Pi a b)))
+own-places (App f x) = subst (λ n. n ≤ 1) (sym (three (App f x) (parts f) (parts x) (App f x)))
+    (omega (arith, larger-places (App f x) f (omega (arith, positive x)), larger-places (App f x) x (omega (arith, positive f)), one-place (App f x) (App f x)))
+own-places (Lam a b) = subst (λ n. n ≤ 1) (sym (three (Lam a b) (parts a) (parts b) (Lam a b)))
+    (omega (arith, larger-places (Lam a b) a (omega (arith, positive b)), larger-places (Lam a b) b (omega (arith, positive a)), one-place (Lam a b) (Lam a b)))
+own-places (Pi a b) = subst (λ n. n ≤ 1) (sym (three (Pi a b) (parts a) (parts b) (Pi a b)))
+    (omega (arith, larger-places (Pi a b) a (omega (arith, positive b)), larger-places (Pi a b) b (omega (arith, positive a)), one-place (Pi a b) (Pi a b)))
 own-places SortType = one-place SortType SortType
 own-places SortKind = one-place SortKind SortKind
 own-places (Var n) = one-place (Var n) (Var n)
@@ -104,9 +110,12 @@ module _ (m : List Declaration) (t : Tree) where
   no_more-parts o xs ys vs ws u h k = no_more o (xs ++ ys ++ u ∷ []) (vs ++ ws ++ u ∷ []) (omega (arith, three t xs ys u, three t vs ws u, h, k))
 
   written_out-parts : (u : Tree) → places t (written_out m u) ≤ places t (parts u)
-  written_out-parts (App f x) = no_more-parts (short m (App f x)) (written_out m f) (written_out m x) (parts f) (parts x) (App f x) (written_out-parts f) (written_out-parts x)
-  written_out-parts (Lam a b) = no_more-parts (short m (Lam a b)) (written_out m a) (written_out m b) (parts a) (parts b) (Lam a b) (written_out-parts a) (written_out-parts b)
-  written_out-parts (Pi a b) = no_more-parts (short m (Pi a b)) (written_out m a) (written_out m b) (parts a) (parts b) (Pi a b) (written_out-parts a) (written_out-parts b)
+  written_out-parts (App f x) = no_more-parts (short m (App f x)) (written_out m f) (written_out m x) (parts f) (parts x) (App f x) (written_out-parts f)
+      (written_out-parts x)
+  written_out-parts (Lam a b) = no_more-parts (short m (Lam a b)) (written_out m a) (written_out m b) (parts a) (parts b) (Lam a b) (written_out-parts a)
+      (written_out-parts b)
+  written_out-parts (Pi a b) = no_more-parts (short m (Pi a b)) (written_out m a) (written_out m b) (parts a) (parts b) (Pi a b) (written_out-parts a)
+      (written_out-parts b)
   written_out-parts SortType = no_more (short m SortType) (SortType ∷ []) (SortType ∷ []) (omega arith)
   written_out-parts SortKind = no_more (short m SortKind) (SortKind ∷ []) (SortKind ∷ []) (omega arith)
   written_out-parts (Var n) = no_more (short m (Var n)) (Var n ∷ []) (Var n ∷ []) (omega arith)
@@ -141,7 +150,8 @@ module _ (m : List Declaration) (t : Tree) where
 
   -- what is written of a declaration, where the tree is written at no place of its type and its body
   no_place_in : (d : Declaration) → places t (written_out m d.ty) ≡ 0 → places t (option_map_or (written_out m) d.body []) ≡ 0 → places t (written_in m d) ≡ 0
-  no_place_in d h k = places-append t (if is_some (short_body d) then [] else written_out m d.ty) (option_map_or (written_out m) d.body []) ∙ omega (arith, go (is_some (short_body d)), k)
+  no_place_in d h k = places-append t (if is_some (short_body d) then [] else written_out m d.ty) (option_map_or (written_out m) d.body []) ∙ omega
+      (arith, go (is_some (short_body d)), k)
     where
       go : (b : Bool) → places t (if b then [] else written_out m d.ty) ≡ 0
       go true = refl
@@ -178,9 +188,12 @@ module _ (g : ℕ → ℕ) (apart : (i j : ℕ) → g i ≡ g j → i ≡ j) whe
   moved-tree_eq (Sym r) (Sym s) e =
       let same : moved_symbol g r ≡ moved_symbol g s = grind (arith, common_steps, e) in
       subst (λ k. nat_eq r k ≡ true) (symbol-injective r s same) (tree_eq-refl (Sym r))
-  moved-tree_eq (App f x) (App k y) e = let p = and_parts (tree_eq (moved g f) (moved g k)) (tree_eq (moved g x) (moved g y)) e in and_from (tree_eq f k) (tree_eq x y) (moved-tree_eq f k p.0) (moved-tree_eq x y p.1)
-  moved-tree_eq (Lam f x) (Lam k y) e = let p = and_parts (tree_eq (moved g f) (moved g k)) (tree_eq (moved g x) (moved g y)) e in and_from (tree_eq f k) (tree_eq x y) (moved-tree_eq f k p.0) (moved-tree_eq x y p.1)
-  moved-tree_eq (Pi f x) (Pi k y) e = let p = and_parts (tree_eq (moved g f) (moved g k)) (tree_eq (moved g x) (moved g y)) e in and_from (tree_eq f k) (tree_eq x y) (moved-tree_eq f k p.0) (moved-tree_eq x y p.1)
+  moved-tree_eq (App f x) (App k y) e = let p = and_parts (tree_eq (moved g f) (moved g k)) (tree_eq (moved g x) (moved g y)) e in and_from (tree_eq f k)
+      (tree_eq x y) (moved-tree_eq f k p.0) (moved-tree_eq x y p.1)
+  moved-tree_eq (Lam f x) (Lam k y) e = let p = and_parts (tree_eq (moved g f) (moved g k)) (tree_eq (moved g x) (moved g y)) e in and_from (tree_eq f k)
+      (tree_eq x y) (moved-tree_eq f k p.0) (moved-tree_eq x y p.1)
+  moved-tree_eq (Pi f x) (Pi k y) e = let p = and_parts (tree_eq (moved g f) (moved g k)) (tree_eq (moved g x) (moved g y)) e in and_from (tree_eq f k)
+      (tree_eq x y) (moved-tree_eq f k p.0) (moved-tree_eq x y p.1)
   moved-tree_eq _ _ e = absurd (cc)
 
   moved-place : (t u : Tree) → places (moved g t) (moved g u ∷ []) ≤ places t (u ∷ [])
@@ -192,9 +205,30 @@ module _ (g : ℕ → ℕ) (apart : (i j : ℕ) → g i ≡ g j → i ≡ j) whe
       go false c h = omega arith
 
   moved-places : (t u : Tree) → places (moved g t) (parts (moved g u)) ≤ places t (parts u)
-  moved-places t (App f x) = omega (arith, three (moved g t) (parts (moved g f)) (parts (moved g x)) (moved g (App f x)), three t (parts f) (parts x) (App f x), moved-places t f, moved-places t x, moved-place t (App f x))
-  moved-places t (Lam f x) = omega (arith, three (moved g t) (parts (moved g f)) (parts (moved g x)) (moved g (Lam f x)), three t (parts f) (parts x) (Lam f x), moved-places t f, moved-places t x, moved-place t (Lam f x))
-  moved-places t (Pi f x) = omega (arith, three (moved g t) (parts (moved g f)) (parts (moved g x)) (moved g (Pi f x)), three t (parts f) (parts x) (Pi f x), moved-places t f, moved-places t x, moved-place t (Pi f x))
+  moved-places t (App f x) = omega (
+    arith,
+    three (moved g t) (parts (moved g f)) (parts (moved g x)) (moved g (App f x)),
+    three t (parts f) (parts x) (App f x),
+    moved-places t f,
+    moved-places t x,
+    moved-place t (App f x),
+  )
+  moved-places t (Lam f x) = omega (
+    arith,
+    three (moved g t) (parts (moved g f)) (parts (moved g x)) (moved g (Lam f x)),
+    three t (parts f) (parts x) (Lam f x),
+    moved-places t f,
+    moved-places t x,
+    moved-place t (Lam f x),
+  )
+  moved-places t (Pi f x) = omega (
+    arith,
+    three (moved g t) (parts (moved g f)) (parts (moved g x)) (moved g (Pi f x)),
+    three t (parts f) (parts x) (Pi f x),
+    moved-places t f,
+    moved-places t x,
+    moved-place t (Pi f x),
+  )
   moved-places t SortType = moved-place t SortType
   moved-places t SortKind = moved-place t SortKind
   moved-places t (Var n) = moved-place t (Var n)
@@ -251,8 +285,11 @@ AreOrdered-append met (x ∷ xs) ys h k = (h.0, AreOrdered-append (met ++ x ∷ 
 ordered_node : (met xs ys : List Tree) (u : Tree) → parts u ≡ xs ++ ys ++ u ∷ [] → AreOrdered met xs → AreOrdered (met ++ xs) ys
     → AreOrdered met (xs ++ ys ++ u ∷ [])
 ordered_node met xs ys u e h k =
-    AreOrdered-append met (xs ++ ys) (u ∷ []) (AreOrdered-append met xs ys h k)
-    ((λ x i. subst (λ l. is_in x l ≡ true) (sym (append_assoc met (xs ++ ys) (u ∷ []))) (in-right x met (xs ++ ys ++ u ∷ []) (subst (λ l. is_in x l ≡ true) e i))), tt)
+    AreOrdered-append met (xs ++ ys) (u ∷ []) (AreOrdered-append met xs ys h k) (
+      (λ x i. subst (λ l. is_in x l ≡ true) (sym (append_assoc met (xs ++ ys) (u ∷ [])))
+          (in-right x met (xs ++ ys ++ u ∷ []) (subst (λ l. is_in x l ≡ true) e i))),
+      tt,
+    )
 
 parts-AreOrdered : (met : List Tree) (t : Tree) → AreOrdered met (parts t)
 parts-AreOrdered met (App f x) = ordered_node met (parts f) (parts x) (App f x) refl (parts-AreOrdered met f) (parts-AreOrdered (met ++ parts f) x)
@@ -268,7 +305,8 @@ body-AreOrdered met None = tt
 body-AreOrdered met (Some t) = parts-AreOrdered met t
 
 parts_in-AreOrdered : (met : List Tree) (d : Declaration) → AreOrdered met (parts_in d)
-parts_in-AreOrdered met d = AreOrdered-append met (parts d.ty) (option_map_or parts d.body []) (parts-AreOrdered met d.ty) (body-AreOrdered (met ++ parts d.ty) d.body)
+parts_in-AreOrdered met d = AreOrdered-append met (parts d.ty) (option_map_or parts d.body []) (parts-AreOrdered met d.ty)
+    (body-AreOrdered (met ++ parts d.ty) d.body)
 
 -- A name stays short with further declarations
 position-any : {X : Type 0} (p : X → Bool) (xs : List X) → is_some (position p xs) ≡ list_any p xs
@@ -277,8 +315,10 @@ position-any p (x ∷ xs) = go (p x) (position p xs) refl refl (position-any p x
   where
     go : (b : Bool) (o : Option ℕ) → p x ≡ b → position p xs ≡ o → is_some (position p xs) ≡ list_any p xs → is_some (position p (x ∷ xs)) ≡ list_any p (x ∷ xs)
     go true o i j k = let here : position p (x ∷ xs) ≡ Some 0 = grind (arith, common_steps) in ap is_some here ∙ sym (ap (λ b. b || list_any p xs) i)
-    go false None i j k = let none : position p (x ∷ xs) ≡ None = grind (arith, common_steps) in ap is_some none ∙ sym (ap is_some j) ∙ k ∙ sym (ap (λ b. b || list_any p xs) i)
-    go false (Some n) i j k = let later : position p (x ∷ xs) ≡ Some (suc n) = grind (arith, common_steps) in ap is_some later ∙ sym (ap is_some j) ∙ k ∙ sym (ap (λ b. b || list_any p xs) i)
+    go false None i j k = let none : position p (x ∷ xs) ≡ None =
+        grind (arith, common_steps) in ap is_some none ∙ sym (ap is_some j) ∙ k ∙ sym (ap (λ b. b || list_any p xs) i)
+    go false (Some n) i j k = let later : position p (x ∷ xs) ≡ Some (suc n) =
+        grind (arith, common_steps) in ap is_some later ∙ sym (ap is_some j) ∙ k ∙ sym (ap (λ b. b || list_any p xs) i)
 
 any-append : {X : Type 0} (p : X → Bool) (xs ys : List X) → list_any p (xs ++ ys) ≡ (list_any p xs || list_any p ys)
 any-append p [] ys = refl
@@ -302,7 +342,8 @@ short-more : (m : List Declaration) (d : Declaration) (t : Tree) → is_some (sh
 short-more m d t e = short-append m d t ∙ ap (λ b. b || is_tree (short_body d) t) e
 
 short-last : (m : List Declaration) (d : Declaration) (t : Tree) → short_body d ≡ Some t → is_some (short (m ++ d ∷ []) t) ≡ true
-short-last m d t e = short-append m d t ∙ ap (λ o. is_some (short m t) || is_tree o t) e ∙ ap (λ b. is_some (short m t) || b) (tree_eq-refl t) ∙ go (is_some (short m t))
+short-last m d t e = short-append m d t ∙ ap (λ o. is_some (short m t) || is_tree o t) e ∙ ap (λ b. is_some (short m t) || b) (tree_eq-refl t) ∙ go
+    (is_some (short m t))
   where
     go : (b : Bool) → (b || true) ≡ true
     go true = refl
@@ -331,10 +372,20 @@ module _ (g : ℕ → ℕ) (apart : (i j : ℕ) → g i ≡ g j → i ≡ j) (t 
   named-zero [] after k h = refl
   named-zero (kept d ∷ es) after k h =
       let x = moved_declaration g d in
-      all_written-next after x (declarations g k es) ∙ omega (arith, no_place_in after (moved g t) x (written_out-short after (moved g t) h x.ty) (short_in after h x.body), named-zero es (after ++ x ∷ []) k (short-more after x (moved g t) h))
+      all_written-next after x (declarations g k es)
+      ∙ omega (
+        arith,
+        no_place_in after (moved g t) x (written_out-short after (moved g t) h x.ty) (short_in after h x.body),
+        named-zero es (after ++ x ∷ []) k (short-more after x (moved g t) h),
+      )
   named-zero (abbreviated u a ∷ es) after k h =
       let x : Declaration = record { name = codes "X" ++ numeral k; form = Def; ty = moved g a; body = Some (moved g u) } in
-      all_written-next after x (declarations g (suc k) es) ∙ omega (arith, no_place_in after (moved g t) x (written_out-short after (moved g t) h x.ty) (written_out-short after (moved g t) h (moved g u)), named-zero es (after ++ x ∷ []) (suc k) (short-more after x (moved g t) h))
+      all_written-next after x (declarations g (suc k) es)
+      ∙ omega (
+        arith,
+        no_place_in after (moved g t) x (written_out-short after (moved g t) h x.ty) (written_out-short after (moved g t) h (moved g u)),
+        named-zero es (after ++ x ∷ []) (suc k) (short-more after x (moved g t) h),
+      )
 
   -- an abbreviation of another tree, of which it is no part
   abbreviated_in : (after : List Declaration) (k : ℕ) (u a : Tree)
@@ -342,7 +393,13 @@ module _ (g : ℕ → ℕ) (apart : (i j : ℕ) → g i ≡ g j → i ≡ j) (t 
   abbreviated_in after k u a =
       let x : Declaration = record { name = codes "X" ++ numeral k; form = Def; ty = moved g a; body = Some (moved g u) } in
       let s : short_body x ≡ Some (moved g u) = ap (λ (b : Bool). if b then Some (moved g u) else None) (abbreviation_name-short k) in
-      omega (arith, all_written-next after x [], places-append (moved g t) (if is_some (short_body x) then [] else written_out after x.ty) (written_out after (moved g u)), ap (λ o. places (moved g t) (if is_some o then [] else written_out after x.ty)) s)
+      omega (
+        arith,
+        all_written-next after x [],
+        places-append (moved g t) (if is_some (short_body x) then [] else written_out after x.ty)
+            (written_out after (moved g u)),
+        ap (λ o. places (moved g t) (if is_some o then [] else written_out after x.ty)) s,
+      )
 
   abbreviated-next : (after : List Declaration) (k : ℕ) (u a : Tree) (es : List Entry) (n : ℕ) → places (moved g t) (written_out after (moved g u)) ≤ n
       → ((x : Declaration) → short_body x ≡ Some (moved g u) → written_places (after ++ x ∷ []) (suc k) es + n ≤ 1)
@@ -427,8 +484,12 @@ module _ (g : ℕ → ℕ) (apart : (i j : ℕ) → g i ≡ g j → i ≡ j) (t 
         own false i same after k = absurd (let l = ap sh same in cc)
         own true i same after k =
             abbreviated-next after k u _ (here (met ++ u ∷ []) us) 1
-            (subst (λ y. places (moved g t) (written_out after (moved g y)) ≤ 1) same (omega (arith, written_out-parts after (moved g t) (moved g t), moved-places g apart t t, own-places t)))
-            (λ x i. omega (arith, named-zero (here (met ++ u ∷ []) us) (after ++ x ∷ []) (suc k) (short-last after x (moved g t) (i ∙ ap (λ y. Some (moved g y)) (sym same)))))
+            (subst (λ y. places (moved g t) (written_out after (moved g y)) ≤ 1) same
+            (omega (arith, written_out-parts after (moved g t) (moved g t), moved-places g apart t t, own-places t)))
+            (λ x i. omega (
+              arith,
+              named-zero (here (met ++ u ∷ []) us) (after ++ x ∷ []) (suc k) (short-last after x (moved g t) (i ∙ ap (λ y. Some (moved g y)) (sym same))),
+            ))
 
         go : (b c : Bool) → tree_eq t u ≡ b → is_in u met ≡ c → (b || is_in t us) ≡ true → (is_in u met ≡ true → is_in t us ≡ true → AtMostOnce (here met us))
             → (tree_eq t u ≡ false → is_in t us ≡ true → AtMostOnce (here (met ++ u ∷ []) us)) → AtMostOnce (next_of c met u us)
@@ -453,7 +514,12 @@ module _ (g : ℕ → ℕ) (apart : (i j : ℕ) → g i ≡ g j → i ≡ j) (t 
   kept-AtMostOnce d es e h after k =
       let x = moved_declaration g d in
       let p = parts_in-parts d e in
-      omega (arith, all_written-next after x (declarations g k es), no_place_in after (moved g t) x (no_part after d.ty p.0) (body_absent after d.body p.1), h (after ++ x ∷ []) k)
+      omega (
+        arith,
+        all_written-next after x (declarations g k es),
+        no_place_in after (moved g t) x (no_part after d.ty p.0) (body_absent after d.body p.1),
+        h (after ++ x ∷ []) k,
+      )
 
   not_in-parts : (xs ys : List Tree) → is_in t (xs ++ ys) ≡ false → (is_in t xs ≡ false) × (is_in t ys ≡ false)
   not_in-parts xs ys e = (
@@ -466,14 +532,16 @@ module _ (g : ℕ → ℕ) (apart : (i j : ℕ) → g i ≡ g j → i ≡ j) (t 
       → is_in t met ≡ false → is_in t (flat_map parts_in front) ≡ false → is_in t (parts_in d) ≡ true → is_shared (before ++ front) all t ≡ true
       → AtMostOnce (entries before all met (front ++ d ∷ back))
   entries-AtMostOnce before all met [] d back e f h s =
-      present-AtMostOnce before (is_shared before all) (kept d ∷ entries (before ++ d ∷ []) all (met ++ parts_in d) back) (subst (λ w. is_shared w all t ≡ true) (append-nil before) s)
+      present-AtMostOnce before (is_shared before all) (kept d ∷ entries (before ++ d ∷ []) all (met ++ parts_in d) back)
+      (subst (λ w. is_shared w all t ≡ true) (append-nil before) s)
       met met (parts_in d) (parts_in-AreOrdered met d) (λ x i. i) e h
   entries-AtMostOnce before all met (c ∷ front) d back e f h s =
       let p = not_in-parts (parts_in c) (flat_map parts_in front) (f) in
       let n : is_in t (met ++ parts_in c) ≡ false = is_in-append t met (parts_in c) ∙ ap (λ b. b || is_in t (parts_in c)) e ∙ p.0 in
       absent-AtMostOnce before (is_shared before all) (kept c ∷ entries (before ++ c ∷ []) all (met ++ parts_in c) (front ++ d ∷ back))
       (kept-AtMostOnce c (entries (before ++ c ∷ []) all (met ++ parts_in c) (front ++ d ∷ back)) p.0
-      (entries-AtMostOnce (before ++ c ∷ []) all (met ++ parts_in c) front d back n p.1 h (subst (λ w. is_shared w all t ≡ true) (sym (append_assoc before (c ∷ []) front)) s)))
+      (entries-AtMostOnce (before ++ c ∷ []) all (met ++ parts_in c) front d back n p.1 h
+      (subst (λ w. is_shared w all t ≡ true) (sym (append_assoc before (c ∷ []) front)) s)))
       met met (parts_in c) (parts_in-AreOrdered met c) (λ x i. i) e p.0
 
 -- a tree first occurs in one of these declarations
@@ -565,8 +633,10 @@ written_once rest t a h =
     let both = declared-front signature before more (subst IsModule is a) in
     let under = declaration-symbols (signature ++ before) f.d t both.1.0 f.here in
     let own = (IsModule-IsSelfContained before both.0).types in
-    let same : abbreviation (lemmas ++ rest) t ≡ abbreviation before t = ap (λ l. abbreviation l t) is ∙ abbreviation-kept before more (omega (arith, length-append signature before)) own t under in
+    let same : abbreviation (lemmas ++ rest) t ≡ abbreviation before t =
+    ap (λ l. abbreviation l t) is ∙ abbreviation-kept before more (omega (arith, length-append signature before)) own t under in
     let shared : is_shared before (flat_map parts_in rest) t ≡ true = ap (λ o. is_some o && nat_le 2 (places t (flat_map parts_in rest))) (sym same) ∙ h in
     let es = entries_of (lemmas ++ rest) in
-    subst (λ w. places (moved (place_in es) t) (all_written lemmas (declarations (place_in es) 0 (entries lemmas (flat_map parts_in rest) [] w))) ≤ 1) (sym f.is)
+    subst (λ w. places (moved (place_in es) t) (all_written lemmas (declarations (place_in es) 0 (entries lemmas (flat_map parts_in rest) [] w))) ≤ 1)
+    (sym f.is)
     (entries-AtMostOnce (place_in es) (place_in-injective es) t lemmas (flat_map parts_in rest) [] f.front f.d f.back refl f.new f.here shared lemmas 0)

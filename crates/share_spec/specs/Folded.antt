@@ -50,7 +50,8 @@ abbreviations before ts = map (λ t. abbreviated t (unwrap_or (abbreviation befo
 -- declarations after these, each after the abbreviations of what is shared and first occurs in it
 abbrev pub entries : List Declaration → List Tree → List Tree → List Declaration → List Entry
 entries before all met [] = []
-entries before all met (d ∷ ds) = abbreviations before (filter (is_shared before all) (firsts met (parts_in d))) ++ kept d ∷ entries (before ++ d ∷ []) all (met ++ parts_in d) ds
+entries before all met (d ∷ ds) = abbreviations before (filter (is_shared before all) (firsts met (parts_in d))) ++ kept d ∷ entries (before ++ d ∷ []) all
+    (met ++ parts_in d) ds
 
 -- the lemmas, of which nothing is abbreviated, and the declarations after them
 abbrev pub entries_of : List Declaration → List Entry

@@ -38,4 +38,5 @@ IsSharedIn rest t = is_shared (lemmas ++ rest) (flat_map parts_in rest) t ≡ tr
 
 -- The law of folded modules: no tree that is shared is written out more than once after the lemmas, the types of abbreviations aside.
 abbrev pub WrittenOnce : Type 0
-WrittenOnce = (rest : List Declaration) (t : Tree) → IsModule (lemmas ++ rest) → IsSharedIn rest t → let m = lemmas ++ rest in places (moved (place_in (entries_of m)) t) (all_written lemmas (drop (length lemmas) (folded m))) ≤ 1
+WrittenOnce = (rest : List Declaration) (t : Tree) → IsModule (lemmas ++ rest) → IsSharedIn rest t → let m =
+    lemmas ++ rest in places (moved (place_in (entries_of m)) t) (all_written lemmas (drop (length lemmas) (folded m))) ≤ 1

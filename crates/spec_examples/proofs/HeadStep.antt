@@ -40,8 +40,10 @@ unfolding numeral
 its_module = refl
 
 its_lines : own_lines run
-    ≡ codes "T0 : v0 : term bool -> proof (eq bool ((v1 : term bool => (v2 : term bool => v2) v1) v0) ((v1 : term bool => v1) v0)) := v0 : term bool => refl bool ((v1 : term bool => v1) v0)"
-    ∷ codes "E0 : v0 : term bool -> proof (eq bool ((v1 : term bool => (v2 : term bool => v2) v1) v0) ((v1 : term bool => v1) v0)) := v0 : term bool => T0 v0" ∷ []
+    ≡ codes
+    "T0 : v0 : term bool -> proof (eq bool ((v1 : term bool => (v2 : term bool => v2) v1) v0) ((v1 : term bool => v1) v0)) := v0 : term bool => refl bool ((v1 : term bool => v1) v0)"
+    ∷ codes "E0 : v0 : term bool -> proof (eq bool ((v1 : term bool => (v2 : term bool => v2) v1) v0) ((v1 : term bool => v1) v0)) := v0 : term bool => T0 v0" ∷
+    []
 unfolding digits numeral
 its_lines = refl
 

@@ -63,7 +63,8 @@ abbrev R : Tree
 R = refl_of truth_functions identity
 
 its_module : image run ≡ lemmas
-    ++ symbol (codes "A0") (Pi (term_of truth_functions) (Pi (term_of truth_functions) (Pi (is_identity (Var 1)) (Pi (is_identity (Var 1)) (is_identity (Var 3))))))
+    ++ symbol (codes "A0")
+    (Pi (term_of truth_functions) (Pi (term_of truth_functions) (Pi (is_identity (Var 1)) (Pi (is_identity (Var 1)) (is_identity (Var 3))))))
     ∷ definition (codes "c_c") (term_of truth_functions) identity
     ∷ definition (codes "c_d") (term_of truth_functions) identity
     ∷ theorem (codes "T1") (is_identity (Sym 21)) (applied (Sym 20) (Sym 21 ∷ Sym 22 ∷ R ∷ R ∷ []))
@@ -72,10 +73,12 @@ unfolding numeral
 its_module = refl
 
 its_lines : own_lines run
-    ≡ codes "A0 : v0 : term (arr bool bool) -> v1 : term (arr bool bool) -> v2 : proof (eq (arr bool bool) v0 (v2 : term bool => v2)) -> v3 : proof (eq (arr bool bool) v1 (v3 : term bool => v3)) -> proof (eq (arr bool bool) v0 (v4 : term bool => v4))"
+    ≡ codes
+    "A0 : v0 : term (arr bool bool) -> v1 : term (arr bool bool) -> v2 : proof (eq (arr bool bool) v0 (v2 : term bool => v2)) -> v3 : proof (eq (arr bool bool) v1 (v3 : term bool => v3)) -> proof (eq (arr bool bool) v0 (v4 : term bool => v4))"
     ∷ codes "c_c : term (arr bool bool) := v0 : term bool => v0"
     ∷ codes "c_d : term (arr bool bool) := v0 : term bool => v0"
-    ∷ codes "T1 : proof (eq (arr bool bool) c_c (v0 : term bool => v0)) := A0 c_c c_d (refl (arr bool bool) (v0 : term bool => v0)) (refl (arr bool bool) (v0 : term bool => v0))"
+    ∷ codes
+    "T1 : proof (eq (arr bool bool) c_c (v0 : term bool => v0)) := A0 c_c c_d (refl (arr bool bool) (v0 : term bool => v0)) (refl (arr bool bool) (v0 : term bool => v0))"
     ∷ codes "E0 : proof (eq (arr bool bool) c_c (v0 : term bool => v0)) := T1" ∷ []
 unfolding digits numeral
 its_lines = refl
@@ -99,7 +102,11 @@ is_a_proof =
     (record {
       premises = described ∷ [];
       earlier = (refl, tt);
-      follows = record { rule = Rule.define_const_list (I_defines, (I_defines, tt)) refl refl; defined = ((0, (omega arith, refl)), ((1, (omega arith, refl)), tt)) };
+      follows = record {
+        rule = Rule.define_const_list (I_defines, (I_defines, tt)) refl refl;
+        defined =
+            ((0, (omega arith, refl)), ((1, (omega arith, refl)), tt));
+      };
       law = tt {0};
     }) in
     next (exports 1 c_is_I) four (exported _ 1 c_is_I refl (alone _ refl) refl)

@@ -76,8 +76,20 @@ is_a_proof : IsProof run.made
 is_a_proof =
     let one = next (defines c I) Each.empty (tt {0}, Takes.constant refl I_defines) in
     let two = next (says c I c_is_I) one
-    (record { premises = []; earlier = tt; follows = record { rule = Rule.define_const I_defines refl; defined = ((0, (omega arith, refl)), tt) }; law = tt {0} }) in
+    (record {
+      premises = [];
+      earlier = tt;
+      follows = record { rule = Rule.define_const I_defines refl; defined = ((0, (omega arith, refl)), tt) };
+      law =
+          tt {0};
+    }) in
     let three = next (defines d of_c) two (tt {0}, Takes.constant refl c_defines) in
     let four = next (says d of_c d_is_c) three
-    (record { premises = []; earlier = tt; follows = record { rule = Rule.define_const c_defines refl; defined = ((1, (omega arith, refl)), tt) }; law = tt {0} }) in
+    (record {
+      premises = [];
+      earlier = tt;
+      follows = record { rule = Rule.define_const c_defines refl; defined = ((1, (omega arith, refl)), tt) };
+      law =
+          tt {0};
+    }) in
     next (exports 1 d_is_c) four (exported _ 1 d_is_c refl (alone _ refl) refl)

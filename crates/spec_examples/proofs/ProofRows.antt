@@ -36,7 +36,8 @@ by_restating = record { rule = Rule.restate says_a_sequent refl; defined = tt }
 a_definition_is_a_proof : IsProof defining.run.made
 a_definition_is_a_proof =
     Each.more (Made.step (record { kind = Restate; premises = 0 ∷ []; parameters = Parameters.sequent defining.says; sequent = defining.says }))
-    (Each.more (Made.step (record { kind = DefineConst; premises = []; parameters = Parameters.constant defining.c defining.identity; sequent = defining.says }))
+    (Each.more (Made.step
+    (record { kind = DefineConst; premises = []; parameters = Parameters.constant defining.c defining.identity; sequent = defining.says }))
     (Each.more (Made.symbol (Symbol.defined (Definition.constant defining.c defining.identity))) Each.empty (tt {0}, taken) refl)
     (record { premises = []; earlier = tt; follows = by_definition; law = tt {0} }) refl)
     (record { premises = defining.says ∷ []; earlier = (refl, tt); follows = by_restating; law = tt {0} }) refl

@@ -56,7 +56,8 @@ its_lines : own_lines run
     ≡ codes "i_u : v0 : type -> term v0"
     ∷ codes "A0 : v0 : term bool -> v1 : proof (i_u (arr (arr bool bool) bool) (v1 : term bool => v1)) -> proof v0"
     ∷ codes "A1 : proof (i_u (arr (arr bool bool) bool) (v0 : term bool => v0))"
-    ∷ codes "T2 : v0 : term bool -> proof (eq bool v0 (i_u (arr (arr bool bool) bool) (v1 : term bool => v1))) := v0 : term bool => prop_ext v0 (i_u (arr (arr bool bool) bool) (v1 : term bool => v1)) (v1 : proof v0 => A1) (v1 : proof (i_u (arr (arr bool bool) bool) (v1 : term bool => v1)) => A0 v0 v1)"
+    ∷ codes
+    "T2 : v0 : term bool -> proof (eq bool v0 (i_u (arr (arr bool bool) bool) (v1 : term bool => v1))) := v0 : term bool => prop_ext v0 (i_u (arr (arr bool bool) bool) (v1 : term bool => v1)) (v1 : proof v0 => A1) (v1 : proof (i_u (arr (arr bool bool) bool) (v1 : term bool => v1)) => A0 v0 v1)"
     ∷ codes "E0 : v0 : term bool -> proof (eq bool v0 (i_u (arr (arr bool bool) bool) (v1 : term bool => v1))) := v0 : term bool => T2 v0" ∷ []
 unfolding digits numeral
 its_lines = refl
@@ -74,5 +75,6 @@ is_a_proof =
     let two = next (assumes under) one (assumed _ under under_a_sequent) in
     let three = next (assumes without) two (assumed _ without (alone _ refl)) in
     let four = next (infers DeductAntisym (0 ∷ 1 ∷ []) Parameters.nothing removed) three
-    (record { premises = under ∷ without ∷ []; earlier = (refl, (refl, tt)); follows = record { rule = Rule.deduct_antisym refl; defined = tt }; law = tt {0} }) in
+    (record { premises = under ∷ without ∷ []; earlier = (refl, (refl, tt)); follows = record { rule = Rule.deduct_antisym refl; defined = tt }; law = tt {0} })
+    in
     next (exports 2 removed) four (exported _ 2 removed refl (alone _ refl) refl)

@@ -80,8 +80,10 @@ next x before is = Each.more x before is refl
 pub assumed : (before : List Made) (s : Sequent) → IsSequent s → IsMade before (assumes s)
 assumed before s is = record { premises = []; earlier = tt; follows = record { rule = Rule.recorded is; defined = tt }; law = tt {0} }
 
-pub exported : (before : List Made) (i : ℕ) (s : Sequent) → slice_get (sequents_of before) i ≡ Some s → IsSequent s → IsTrue (within s s) → IsMade before (exports i s)
-exported before i s at is same = record { premises = s ∷ []; earlier = (at, tt {0}); follows = record { rule = Rule.restate is same; defined = tt }; law = tt {0} }
+pub exported : (before : List Made) (i : ℕ) (s : Sequent) → slice_get (sequents_of before) i ≡ Some s → IsSequent s → IsTrue (within s s)
+    → IsMade before (exports i s)
+exported before i s at is same = record
+    { premises = s ∷ []; earlier = (at, tt {0}); follows = record { rule = Rule.restate is same; defined = tt }; law = tt {0} }
 
 pub alone : (t : Term) → HasType t bool → IsSequent (derived [] t)
 unfolding IsDistinct

@@ -23,7 +23,13 @@ use Rattle.lp_spec.specs.Numerals.{numeral}
 use Rattle.spec_examples.proofs.SmallRuns.{name, infers, assumes, exports, theorem, definition, own_lines, next, assumed, exported, alone}
 
 abbrev pub names : TypeNames
-names = record { operator = name (codes "two"); abstraction = name (codes "mk"); representation = name (codes "dest"); variables = name (codes "b") ∷ name (codes "a") ∷ [] }
+names = record {
+  operator = name (codes "two");
+  abstraction = name (codes "mk");
+  representation = name (codes "dest");
+  variables =
+      name (codes "b") ∷ name (codes "a") ∷ [];
+}
 
 abbrev pub functions : HolType
 functions = function (variable (name (codes "a"))) (variable (name (codes "b")))
@@ -46,7 +52,8 @@ defines = Made.type_definition names functions holds 0
 
 abbrev run : Accepted
 run = record {
-  made = assumes one_holds ∷ defines ∷ infers FirstLaw (0 ∷ []) (Parameters.type_operator names Six) first ∷ infers SecondLaw (0 ∷ []) (Parameters.type_operator names Six) second ∷ exports 1 first ∷ [];
+  made = assumes one_holds ∷ defines ∷ infers FirstLaw (0 ∷ []) (Parameters.type_operator names Six) first ∷ infers SecondLaw (0 ∷ [])
+      (Parameters.type_operator names Six) second ∷ exports 1 first ∷ [];
   assumptions = 0 ∷ [];
   exports = 3 ∷ [];
 }
@@ -83,15 +90,18 @@ part_at s a b = applied (Sym s) (arr_of a b ∷ predicate_at a b ∷ some_at a b
 abbrev first_body : Tree
 first_body =
     Lam types (Lam types (applied (Sym fun_ext_symbol)
-    (two_of (Var 1) (Var 0) ∷ two_of (Var 1) (Var 0) ∷ Lam (term_of (two_of (Var 1) (Var 0))) (App (mk_at (Var 1) (Var 2)) (App (dest_at (Var 2) (Var 1)) (Var 0)))
+    (two_of (Var 1) (Var 0) ∷ two_of (Var 1) (Var 0) ∷ Lam (term_of (two_of (Var 1) (Var 0)))
+    (App (mk_at (Var 1) (Var 2)) (App (dest_at (Var 2) (Var 1)) (Var 0)))
     ∷ Lam (term_of (two_of (Var 1) (Var 0))) (Var 0) ∷ Lam (term_of (two_of (Var 1) (Var 0))) (App (part_at sub_abs_rep_symbol (Var 1) (Var 2)) (Var 0)) ∷ [])))
 
 -- the assumption is the premise of the definition
 its_module : image run ≡ lemmas
     ++ symbol (codes "A0") (Pi types (Pi types (Pi (term_of (arr_of (Var 1) (Var 0))) (proof_of (App (predicate_at (Var 2) (Var 1)) (Var 0))))))
     ∷ definition (codes "o_two") (Pi types (Pi types types)) (Lam types (Lam types (part_at sub_symbol (Var 0) (Var 1))))
-    ∷ definition (codes "c_mk") (Pi types (Pi types (term_of (arr_of (arr_of (Var 1) (Var 0)) (two_of (Var 0) (Var 1)))))) (Lam types (Lam types (part_at sub_abs_symbol (Var 1) (Var 0))))
-    ∷ definition (codes "c_dest") (Pi types (Pi types (term_of (arr_of (two_of (Var 1) (Var 0)) (arr_of (Var 0) (Var 1)))))) (Lam types (Lam types (part_at sub_rep_symbol (Var 0) (Var 1))))
+    ∷ definition (codes "c_mk") (Pi types (Pi types (term_of (arr_of (arr_of (Var 1) (Var 0)) (two_of (Var 0) (Var 1))))))
+    (Lam types (Lam types (part_at sub_abs_symbol (Var 1) (Var 0))))
+    ∷ definition (codes "c_dest") (Pi types (Pi types (term_of (arr_of (two_of (Var 1) (Var 0)) (arr_of (Var 0) (Var 1))))))
+    (Lam types (Lam types (part_at sub_rep_symbol (Var 0) (Var 1))))
     ∷ theorem (codes "L1") first_type first_body
     ∷ theorem (codes "E0") first_type (Lam types (Lam types (applied (Sym 24) (Var 1 ∷ Var 0 ∷ [])))) ∷ []
 unfolding numeral
@@ -104,11 +114,16 @@ its_count = (refl, refl)
 
 its_lines : own_lines run
     ≡ codes "A0 : v0 : type -> v1 : type -> v2 : term (arr v0 v1) -> proof ((v3 : term (arr v0 v1) => eq (arr v0 v1) v3 v3) v2)"
-    ∷ codes "o_two : v0 : type -> v1 : type -> type := v0 : type => v1 : type => sub (arr v1 v0) (v2 : term (arr v1 v0) => eq (arr v1 v0) v2 v2) (select (arr v1 v0) (v2 : term (arr v1 v0) => eq (arr v1 v0) v2 v2)) (A0 v1 v0 (select (arr v1 v0) (v2 : term (arr v1 v0) => eq (arr v1 v0) v2 v2)))"
-    ∷ codes "c_mk : v0 : type -> v1 : type -> term (arr (arr v0 v1) (o_two v1 v0)) := v0 : type => v1 : type => sub_abs (arr v0 v1) (v2 : term (arr v0 v1) => eq (arr v0 v1) v2 v2) (select (arr v0 v1) (v2 : term (arr v0 v1) => eq (arr v0 v1) v2 v2)) (A0 v0 v1 (select (arr v0 v1) (v2 : term (arr v0 v1) => eq (arr v0 v1) v2 v2)))"
-    ∷ codes "c_dest : v0 : type -> v1 : type -> term (arr (o_two v0 v1) (arr v1 v0)) := v0 : type => v1 : type => sub_rep (arr v1 v0) (v2 : term (arr v1 v0) => eq (arr v1 v0) v2 v2) (select (arr v1 v0) (v2 : term (arr v1 v0) => eq (arr v1 v0) v2 v2)) (A0 v1 v0 (select (arr v1 v0) (v2 : term (arr v1 v0) => eq (arr v1 v0) v2 v2)))"
-    ∷ codes "L1 : v0 : type -> v1 : type -> proof (eq (arr (o_two v0 v1) (o_two v0 v1)) (v2 : term (o_two v0 v1) => c_mk v1 v0 (c_dest v0 v1 v2)) (v2 : term (o_two v0 v1) => v2)) := v0 : type => v1 : type => fun_ext (o_two v0 v1) (o_two v0 v1) (v2 : term (o_two v0 v1) => c_mk v1 v0 (c_dest v0 v1 v2)) (v2 : term (o_two v0 v1) => v2) (v2 : term (o_two v0 v1) => sub_abs_rep (arr v1 v0) (v3 : term (arr v1 v0) => eq (arr v1 v0) v3 v3) (select (arr v1 v0) (v3 : term (arr v1 v0) => eq (arr v1 v0) v3 v3)) (A0 v1 v0 (select (arr v1 v0) (v3 : term (arr v1 v0) => eq (arr v1 v0) v3 v3))) v2)"
-    ∷ codes "E0 : v0 : type -> v1 : type -> proof (eq (arr (o_two v0 v1) (o_two v0 v1)) (v2 : term (o_two v0 v1) => c_mk v1 v0 (c_dest v0 v1 v2)) (v2 : term (o_two v0 v1) => v2)) := v0 : type => v1 : type => L1 v0 v1" ∷ []
+    ∷ codes
+    "o_two : v0 : type -> v1 : type -> type := v0 : type => v1 : type => sub (arr v1 v0) (v2 : term (arr v1 v0) => eq (arr v1 v0) v2 v2) (select (arr v1 v0) (v2 : term (arr v1 v0) => eq (arr v1 v0) v2 v2)) (A0 v1 v0 (select (arr v1 v0) (v2 : term (arr v1 v0) => eq (arr v1 v0) v2 v2)))"
+    ∷ codes
+    "c_mk : v0 : type -> v1 : type -> term (arr (arr v0 v1) (o_two v1 v0)) := v0 : type => v1 : type => sub_abs (arr v0 v1) (v2 : term (arr v0 v1) => eq (arr v0 v1) v2 v2) (select (arr v0 v1) (v2 : term (arr v0 v1) => eq (arr v0 v1) v2 v2)) (A0 v0 v1 (select (arr v0 v1) (v2 : term (arr v0 v1) => eq (arr v0 v1) v2 v2)))"
+    ∷ codes
+    "c_dest : v0 : type -> v1 : type -> term (arr (o_two v0 v1) (arr v1 v0)) := v0 : type => v1 : type => sub_rep (arr v1 v0) (v2 : term (arr v1 v0) => eq (arr v1 v0) v2 v2) (select (arr v1 v0) (v2 : term (arr v1 v0) => eq (arr v1 v0) v2 v2)) (A0 v1 v0 (select (arr v1 v0) (v2 : term (arr v1 v0) => eq (arr v1 v0) v2 v2)))"
+    ∷ codes
+    "L1 : v0 : type -> v1 : type -> proof (eq (arr (o_two v0 v1) (o_two v0 v1)) (v2 : term (o_two v0 v1) => c_mk v1 v0 (c_dest v0 v1 v2)) (v2 : term (o_two v0 v1) => v2)) := v0 : type => v1 : type => fun_ext (o_two v0 v1) (o_two v0 v1) (v2 : term (o_two v0 v1) => c_mk v1 v0 (c_dest v0 v1 v2)) (v2 : term (o_two v0 v1) => v2) (v2 : term (o_two v0 v1) => sub_abs_rep (arr v1 v0) (v3 : term (arr v1 v0) => eq (arr v1 v0) v3 v3) (select (arr v1 v0) (v3 : term (arr v1 v0) => eq (arr v1 v0) v3 v3)) (A0 v1 v0 (select (arr v1 v0) (v3 : term (arr v1 v0) => eq (arr v1 v0) v3 v3))) v2)"
+    ∷ codes
+    "E0 : v0 : type -> v1 : type -> proof (eq (arr (o_two v0 v1) (o_two v0 v1)) (v2 : term (o_two v0 v1) => c_mk v1 v0 (c_dest v0 v1 v2)) (v2 : term (o_two v0 v1) => v2)) := v0 : type => v1 : type => L1 v0 v1" ∷ []
 unfolding digits numeral
 its_lines = refl
 
@@ -118,10 +133,31 @@ is_a_definition = record { witness = free (name (codes "g")) functions; no_hypot
 is_a_proof : IsProof run.made
 is_a_proof =
     let one = next (assumes one_holds) Each.empty (assumed _ one_holds (alone _ refl)) in
-    let two = next defines one (record { one = one_holds; at = refl; defines = is_a_definition; taken = Takes.type_operator (record { operator = refl; abstraction = refl; representation = refl; apart = refl }) refl refl refl }) in
-    let of_it : IsOfDefinition (assumes one_holds ∷ defines ∷ []) names (0 ∷ []) = record { c = functions; f = holds; number = 0; among = (1, (omega arith, refl)); is = refl } in
+    let two = next defines one
+    (record {
+      one = one_holds;
+      at = refl;
+      defines = is_a_definition;
+      taken =
+          Takes.type_operator (record { operator = refl; abstraction = refl; representation = refl; apart = refl }) refl refl refl;
+    }) in
+    let of_it : IsOfDefinition (assumes one_holds ∷ defines ∷ []) names (0 ∷ []) =
+    record { c = functions; f = holds; number = 0; among = (1, (omega arith, refl)); is = refl } in
     let three = next (infers FirstLaw (0 ∷ []) (Parameters.type_operator names Six) first) two
-    (record { premises = one_holds ∷ []; earlier = (refl, tt); follows = record { rule = Rule.first_law is_a_definition refl; defined = ((0, (omega arith, refl)), tt) }; law = of_it }) in
+    (record {
+      premises = one_holds ∷ [];
+      earlier = (refl, tt);
+      follows =
+          record { rule = Rule.first_law is_a_definition refl; defined = ((0, (omega arith, refl)), tt) };
+      law = of_it;
+    }) in
     let four = next (infers SecondLaw (0 ∷ []) (Parameters.type_operator names Six) second) three
-    (record { premises = one_holds ∷ []; earlier = (refl, tt); follows = record { rule = Rule.second_law is_a_definition refl; defined = ((0, (omega arith, refl)), tt) }; law = record { c = functions; f = holds; number = 0; among = (1, (omega arith, refl)); is = refl } }) in
+    (record {
+      premises = one_holds ∷ [];
+      earlier = (refl, tt);
+      follows =
+          record { rule = Rule.second_law is_a_definition refl; defined = ((0, (omega arith, refl)), tt) };
+      law =
+          record { c = functions; f = holds; number = 0; among = (1, (omega arith, refl)); is = refl };
+    }) in
     next (exports 1 first) four (exported _ 1 first refl (alone _ refl) refl)

@@ -64,7 +64,8 @@ its_lines : own_lines run
     ≡ codes "i_n : v0 : type -> term v0"
     ∷ codes "A0 : v0 : type -> v1 : term bool -> v2 : term v0 -> proof (eq bool v1 (i_n (arr v0 bool) v2))"
     ∷ codes "A1 : v0 : type -> v1 : term v0 -> v2 : term bool -> proof (eq bool (i_n (arr v0 bool) v1) v2)"
-    ∷ codes "T2 : v0 : term bool -> v1 : term bool -> proof (eq bool v0 v1) := v0 : term bool => v1 : term bool => trans bool v0 (i_n (arr bool bool) (select bool (v2 : term bool => eq bool v2 v2))) v1 (A0 bool v0 (select bool (v2 : term bool => eq bool v2 v2))) (A1 bool (select bool (v2 : term bool => eq bool v2 v2)) v1)"
+    ∷ codes
+    "T2 : v0 : term bool -> v1 : term bool -> proof (eq bool v0 v1) := v0 : term bool => v1 : term bool => trans bool v0 (i_n (arr bool bool) (select bool (v2 : term bool => eq bool v2 v2))) v1 (A0 bool v0 (select bool (v2 : term bool => eq bool v2 v2))) (A1 bool (select bool (v2 : term bool => eq bool v2 v2)) v1)"
     ∷ codes "E0 : v0 : term bool -> v1 : term bool -> proof (eq bool v0 v1) := v0 : term bool => v1 : term bool => T2 v0 v1" ∷ []
 unfolding digits numeral
 its_lines = refl
@@ -75,5 +76,6 @@ is_a_proof =
     let two = next (assumes first) one (assumed _ first (alone _ refl)) in
     let three = next (assumes second) two (assumed _ second (alone _ refl)) in
     let four = next (infers Trans (0 ∷ 1 ∷ []) Parameters.nothing joined) three
-    (record { premises = first ∷ second ∷ []; earlier = (refl, (refl, tt)); follows = record { rule = Rule.trans refl refl refl; defined = tt }; law = tt {0} }) in
+    (record { premises = first ∷ second ∷ []; earlier = (refl, (refl, tt)); follows = record { rule = Rule.trans refl refl refl; defined = tt }; law = tt {0} })
+    in
     next (exports 2 joined) four (exported _ 2 joined refl (alone _ refl) refl)

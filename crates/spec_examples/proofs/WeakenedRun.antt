@@ -82,7 +82,8 @@ the_export = refl
 
 its_lines : own_lines run
     ≡ codes "A0 : v0 : term bool -> v1 : term bool -> v2 : proof v0 -> proof v1"
-    ∷ codes "E0 : v0 : term bool -> v1 : term bool -> v2 : term bool -> v3 : proof v0 -> v4 : proof v1 -> proof v2 := v0 : term bool => v1 : term bool => v2 : term bool => v3 : proof v0 => v4 : proof v1 => A0 v0 v2 v3" ∷ []
+    ∷ codes
+    "E0 : v0 : term bool -> v1 : term bool -> v2 : term bool -> v3 : proof v0 -> v4 : proof v1 -> proof v2 := v0 : term bool => v1 : term bool => v2 : term bool => v3 : proof v0 => v4 : proof v1 => A0 v0 v2 v3" ∷ []
 unfolding digits numeral
 its_lines = refl
 

@@ -12,7 +12,8 @@ use Rattle.bridge_spec.specs.Texts.{checked_of, accepted_line, dk_refusal_line, 
 translated : form_of (codes "bridge" ∷ codes "translate" ∷ codes "a" ∷ []) ≡ Some (translate false (codes "a" ∷ []))
 translated = refl
 
-verified : form_of (codes "bridge" ∷ codes "verify" ∷ codes "a" ∷ codes "b" ∷ codes "a" ∷ []) ≡ Some (verify false false (codes "a" ∷ codes "b" ∷ codes "a" ∷ []))
+verified : form_of (codes "bridge" ∷ codes "verify" ∷ codes "a" ∷ codes "b" ∷ codes "a" ∷ [])
+    ≡ Some (verify false false (codes "a" ∷ codes "b" ∷ codes "a" ∷ []))
 verified = refl
 
 checked : form_of (codes "bridge" ∷ codes "check" ∷ codes "a" ∷ []) ≡ Some (check false (codes "a") 100000000)
@@ -51,7 +52,8 @@ fast_translation = refl
 translated_shared : form_of (codes "bridge" ∷ codes "translate" ∷ codes "a" ∷ codes "--share" ∷ []) ≡ Some (translate true (codes "a" ∷ []))
 translated_shared = refl
 
-verified_shared : form_of (codes "bridge" ∷ codes "verify" ∷ codes "--fast" ∷ codes "a" ∷ codes "--share" ∷ codes "b" ∷ []) ≡ Some (verify true true (codes "a" ∷ codes "b" ∷ []))
+verified_shared : form_of (codes "bridge" ∷ codes "verify" ∷ codes "--fast" ∷ codes "a" ∷ codes "--share" ∷ codes "b" ∷ [])
+    ≡ Some (verify true true (codes "a" ∷ codes "b" ∷ []))
 verified_shared = refl
 
 -- not before it, not twice, not alone, and not for any other form
@@ -67,7 +69,8 @@ shared_alone = refl
 shared_check : form_of (codes "bridge" ∷ codes "check" ∷ codes "--share" ∷ codes "a" ∷ []) ≡ None
 shared_check = refl
 
-greatest : form_of (codes "bridge" ∷ codes "check" ∷ codes "a" ∷ codes "--budget" ∷ codes "18446744073709551615" ∷ []) ≡ Some (check false (codes "a") 18446744073709551615)
+greatest : form_of (codes "bridge" ∷ codes "check" ∷ codes "a" ∷ codes "--budget" ∷ codes "18446744073709551615" ∷ [])
+    ≡ Some (check false (codes "a") 18446744073709551615)
 greatest = refl
 
 shown : form_of (codes "bridge" ∷ codes "show" ∷ codes "a" ∷ []) ≡ Some (show (codes "a" ∷ []))
@@ -128,7 +131,8 @@ no_file : form_of (codes "bridge" ∷ codes "check" ∷ codes "--" ∷ codes "a"
 no_file = refl
 
 -- a symbol has no body, and a definition has one
-counted : accepted_line (checked_of (symbol (codes "x") types ∷ record { name = codes "y"; form = Def; ty = types; body = Some bools } ∷ [])) ≡ codes "accepted 2, unproved 1\n"
+counted : accepted_line (checked_of (symbol (codes "x") types ∷ record { name = codes "y"; form = Def; ty = types; body = Some bools } ∷ []))
+    ≡ codes "accepted 2, unproved 1\n"
 unfolding digits
 counted = refl
 

@@ -33,9 +33,16 @@ module _ (t u : Trees) (ns ms : List Name) (ss rs : Run) (cs : List Cell) (k : t
 -- a cell comes
 module _ (t : Trees) (ns : List Name) (ss : Run) (cs : List Cell) (c : Cell) where
   pub pushed-Grows : Grows (stored t ns ss cs) (stored t ns ss (cs ++ c ∷ []))
-  pushed-Grows = record { trees = (Grows-refl (stored t ns ss cs)).trees; names = IsFront-refl ns; lists = record { more = cell_view (stored t ns ss cs) c ∷ []; is = lists_from-push (without_lists t ns ss) cs c }; steps = omega arith }
+  pushed-Grows = record {
+    trees = (Grows-refl (stored t ns ss cs)).trees;
+    names = IsFront-refl ns;
+    lists =
+        record { more = cell_view (stored t ns ss cs) c ∷ []; is = lists_from-push (without_lists t ns ss) cs c };
+    steps = omega arith;
+  }
 
-  pub pushed-AreCells : AreCells (without_lists t ns ss) cs → IsKnown (stored t ns ss cs) c.head → IsListKnown (stored t ns ss cs) c.tail → AreCells (without_lists t ns ss) (cs ++ c ∷ [])
+  pub pushed-AreCells : AreCells (without_lists t ns ss) cs → IsKnown (stored t ns ss cs) c.head → IsListKnown (stored t ns ss cs) c.tail
+      → AreCells (without_lists t ns ss) (cs ++ c ∷ [])
   pushed-AreCells k h l = AreCells-push (without_lists t ns ss) cs c k h l
 
   count : length (lists_from (without_lists t ns ss) cs) ≡ length cs
@@ -65,9 +72,16 @@ abbrev with_one : Stored → Cell → Stored
 with_one a d = record a { lists = a.lists ++ cell_view a d ∷ [] }
 
 all-Grow : (a : Stored) (d : Cell) (cs : List Cell) → Grows a (record a { lists = lists_from (with_one a d) cs })
-all-Grow a d cs = record { trees = (Grows-refl a).trees; names = IsFront-refl a.names; lists = IsFront-trans (record { more = cell_view a d ∷ []; is = refl }) (lists_from-front (with_one a d) cs); steps = omega arith }
+all-Grow a d cs = record {
+  trees = (Grows-refl a).trees;
+  names = IsFront-refl a.names;
+  lists =
+      IsFront-trans (record { more = cell_view a d ∷ []; is = refl }) (lists_from-front (with_one a d) cs);
+  steps = omega arith;
+}
 
-first_cell : (a : Stored) (d : Cell) (cs : List Cell) → IsKnown a d.head → IsListKnown a d.tail → CellAt (record a { lists = lists_from (with_one a d) cs }) d (length a.lists + 0)
+first_cell : (a : Stored) (d : Cell) (cs : List Cell) → IsKnown a d.head → IsListKnown a d.tail
+    → CellAt (record a { lists = lists_from (with_one a d) cs }) d (length a.lists + 0)
 first_cell a d cs h t =
     let g = all-Grow a d cs in
     let z : length a.lists + 0 ≡ length a.lists = omega arith in
@@ -76,21 +90,26 @@ first_cell a d cs h t =
       tail = IsListKnown-Grows g d.tail t;
       lower = let r = rank-known a d.tail t in omega (arith, r);
       is = ap (λ n. unwrap_or (slice_get (lists_from (with_one a d) cs) n) state.Objects.none) z
-          ∙ sym (at-front state.Objects.none (a.lists ++ cell_view a d ∷ []) (lists_from (with_one a d) cs) (lists_from-front (with_one a d) cs) (length a.lists) (let l = length-append a.lists (cell_view a d ∷ []) in omega (arith, l)))
+          ∙ sym (at-front state.Objects.none (a.lists ++ cell_view a d ∷ []) (lists_from (with_one a d) cs) (lists_from-front (with_one a d) cs)
+          (length a.lists) (let l = length-append a.lists (cell_view a d ∷ []) in omega (arith, l)))
           ∙ at-last state.Objects.none a.lists (cell_view a d) ∙ cells-Grows g d h t;
     }
 
-pub cell_at : (a : Stored) (cs : List Cell) (i : ℕ) (c : Cell) → AreCells a cs → slice_get cs i ≡ Some c → CellAt (record a { lists = lists_from a cs }) c (length a.lists + i)
+pub cell_at : (a : Stored) (cs : List Cell) (i : ℕ) (c : Cell) → AreCells a cs → slice_get cs i ≡ Some c
+    → CellAt (record a { lists = lists_from a cs }) c (length a.lists + i)
 cell_at a [] i c k e = absurd (let h = slice_get_within [] i c e in omega arith)
-cell_at a (d ∷ cs) zero c k e = subst (λ w. CellAt (record a { lists = lists_from (with_one a d) cs }) w (length a.lists + 0)) (same_Some _ _ e) (first_cell a d cs k.0 k.1)
+cell_at a (d ∷ cs) zero c k e = subst (λ w. CellAt (record a { lists = lists_from (with_one a d) cs }) w (length a.lists + 0)) (same_Some _ _ e)
+    (first_cell a d cs k.0 k.1)
 cell_at a (d ∷ cs) (suc i) c k e =
     let l = length-append a.lists (cell_view a d ∷ []) in
     let n : length (a.lists ++ cell_view a d ∷ []) + i ≡ length a.lists + suc i = omega (arith, l) in
     subst (λ j. CellAt (record a { lists = lists_from (with_one a d) cs }) c j) n (cell_at (with_one a d) cs i c k.2 e)
 
 -- the same of what is kept
-pub cell_at-stored : (t : Trees) (ns : List Name) (ss : Run) (cs : List Cell) (i : ℕ) (c : Cell) → AreCells (without_lists t ns ss) cs → slice_get cs i ≡ Some c → CellAt (stored t ns ss cs) c i
-cell_at-stored t ns ss cs i c k e = let z : 0 + i ≡ i = omega arith in subst (λ j. CellAt (stored t ns ss cs) c j) z (cell_at (without_lists t ns ss) cs i c k e)
+pub cell_at-stored : (t : Trees) (ns : List Name) (ss : Run) (cs : List Cell) (i : ℕ) (c : Cell) → AreCells (without_lists t ns ss) cs → slice_get cs i ≡ Some c
+    → CellAt (stored t ns ss cs) c i
+cell_at-stored t ns ss cs i c k e = let z : 0 + i ≡ i =
+    omega arith in subst (λ j. CellAt (stored t ns ss cs) c j) z (cell_at (without_lists t ns ss) cs i c k e)
 
 pub length-stored : (t : Trees) (ns : List Name) (ss : Run) (cs : List Cell) → length (stored t ns ss cs).lists ≡ length cs
 length-stored t ns ss cs = let e = length-lists_from (without_lists t ns ss) cs in omega (arith, e)

@@ -41,12 +41,14 @@ object-within m (object.Term t) k = tt
 object-within m (object.Theorem i) k = tt
 
 -- the parts of cells come before them
-before_from : (m : Stored) (cs : List Cell) → AreCells m cs → (i : ℕ) (c : Cell) → slice_get cs i ≡ Some c → IsWithin (length m.names) (length m.lists + i) c.head × IsListWithin (length m.lists + i) c.tail
+before_from : (m : Stored) (cs : List Cell) → AreCells m cs → (i : ℕ) (c : Cell) → slice_get cs i ≡ Some c
+    → IsWithin (length m.names) (length m.lists + i) c.head × IsListWithin (length m.lists + i) c.tail
 before_from m [] k i c e = absurd (none-some c e)
 before_from m (d ∷ cs) k zero c e =
     let z : length m.lists ≡ length m.lists + 0 = omega arith in
     subst (λ n. IsWithin (length m.names) n c.head × IsListWithin n c.tail) z
-    (subst (λ x. IsWithin (length m.names) (length m.lists) x.head × IsListWithin (length m.lists) x.tail) (same_Some _ _ e) (object-within m d.head k.0, list-within m d.tail k.1))
+    (subst (λ x. IsWithin (length m.names) (length m.lists) x.head × IsListWithin (length m.lists) x.tail) (same_Some _ _ e)
+    (object-within m d.head k.0, list-within m d.tail k.1))
 before_from m (d ∷ cs) k (suc i) c e =
     let n = length-append m.lists (cell_view m d ∷ []) in
     let z : length (m.lists ++ cell_view m d ∷ []) + i ≡ length m.lists + suc i = omega (arith, n) in
@@ -58,18 +60,29 @@ AreBefore-cells t ns run cs k i c e =
     subst (λ n. IsWithin (length ns) n c.head × IsListWithin n c.tail) z (before_from (without_lists t ns run) cs k i c e)
 
 -- names and cells are given up: what is left is known, and what was held stays
-module _ (t : Trees) (ns : List Name) (run : Run) (cs : List Cell) (h : Holding) (l : length h.cells ≡ length cs) (closed : IsClosed h cs) (k : AreCells (without_lists t ns run) cs) where
-  moved : AreMoved h (numbering h) t run ns (items_where_true h.names ns) (kept_item h.names ns) [] [] cs (map (numbered_cell (numbering h)) (items_where_true h.cells cs))
+module _ (t : Trees) (ns : List Name) (run : Run) (cs : List Cell) (h : Holding) (l : length h.cells ≡ length cs) (closed : IsClosed h cs)
+    (k : AreCells (without_lists t ns run) cs) where
+  moved : AreMoved h (numbering h) t run ns (items_where_true h.names ns) (kept_item h.names ns) [] [] cs
+      (map (numbered_cell (numbering h)) (items_where_true h.cells cs))
   moved = cells_moved h (numbering h) t run ns (items_where_true h.names ns) (kept_item h.names ns) h.cells cs [] []
-      record { long = l; flagged = λ j. let z : 0 + j ≡ j = omega arith in ap (slice_get h.cells) z; numbers = λ j. let z : 0 + j ≡ j = omega arith in ap (slice_get (numbering h).cells) z; held = λ j c e s. closed j c (omega arith) e s }
+      record {
+        long = l;
+        flagged = λ j. let z : 0 + j ≡ j = omega arith in ap (slice_get h.cells) z;
+        numbers = λ j. let z : 0 + j ≡ j =
+            omega arith in ap (slice_get (numbering h).cells) z;
+        held = λ j c e s. closed j c (omega arith) e s;
+      }
       (λ i n s. absurd (omega arith)) k
 
   pub collected-AreCells : AreCells (without_lists t (items_where_true h.names ns) run) (map (numbered_cell (numbering h)) (items_where_true h.cells cs))
   collected-AreCells = moved.cells
 
-  pub collected-Moves : (g : Holding) → HoldsMore g h → Moves g (numbering h) (stored t ns run cs) (stored t (items_where_true h.names ns) run (map (numbered_cell (numbering h)) (items_where_true h.cells cs)))
+  pub collected-Moves : (g : Holding) → HoldsMore g h
+      → Moves g (numbering h) (stored t ns run cs)
+      (stored t (items_where_true h.names ns) run (map (numbered_cell (numbering h)) (items_where_true h.cells cs)))
   collected-Moves g m = record {
-    objects = λ x known held. object_moved h (numbering h) t run ns (items_where_true h.names ns) (kept_item h.names ns) _ _ moved.lists x known (held_on m x held);
+    objects = λ x known held. object_moved h (numbering h) t run ns (items_where_true h.names ns) (kept_item h.names ns) _ _ moved.lists x known
+        (held_on m x held);
     run = refl;
   }
 
@@ -79,7 +92,8 @@ AreHeld-on m [] s = tt
 AreHeld-on m (x ∷ xs) s = (held_on m x s.0, AreHeld-on m xs s.1)
 
 -- objects that are held one after another
-AreHeld-fold : (m : Stored) (h : Holding) (xs : List Object) → length h.names ≡ length m.names → length h.cells ≡ length m.lists → AreKnown m xs → AreHeld (fold holding h xs) xs
+AreHeld-fold : (m : Stored) (h : Holding) (xs : List Object) → length h.names ≡ length m.names → length h.cells ≡ length m.lists → AreKnown m xs
+    → AreHeld (fold holding h xs) xs
 AreHeld-fold m h [] n c k = tt
 AreHeld-fold m h (x ∷ xs) n c k =
     let more = more_object h x in
@@ -107,7 +121,8 @@ pub record AreRootsHeld (m : Stored) (h : Holding) (xs : List Object) (es : List
   pub name_count : length h.names ≡ length m.names
   pub cell_count : length h.cells ≡ length m.lists
 
-roots_fold : (m : Stored) (g : Holding) (xs : List Object) (es : List (ℤ × Object)) → length g.names ≡ length m.names → length g.cells ≡ length m.lists → AreKnown m xs → AreEntriesKnown m es
+roots_fold : (m : Stored) (g : Holding) (xs : List Object) (es : List (ℤ × Object)) → length g.names ≡ length m.names → length g.cells ≡ length m.lists
+    → AreKnown m xs → AreEntriesKnown m es
     → AreRootsHeld m (fold holding (fold holding g (reverse xs)) (map (λ e. e.1) es)) xs es
 roots_fold m g xs es n c k l =
     let more = more_objects g (reverse xs) in
@@ -120,11 +135,13 @@ roots_fold m g xs es n c k l =
       cell_count = rest.cell_count ∙ more.cell_count ∙ c;
     }
 
-pub roots_held : (m : Stored) (g f h : Holding) (xs : List Object) (es : List (ℤ × Object)) → g ≡ nothing_held (length m.names) (length m.lists) → f ≡ fold holding g (reverse xs) → h ≡ fold holding f (map (λ e. e.1) es)
+pub roots_held : (m : Stored) (g f h : Holding) (xs : List Object) (es : List (ℤ × Object)) → g ≡ nothing_held (length m.names) (length m.lists) → f
+    ≡ fold holding g (reverse xs) → h ≡ fold holding f (map (λ e. e.1) es)
     → AreKnown m xs → AreEntriesKnown m es → AreRootsHeld m h xs es
 roots_held m g f h xs es e i j k l =
     subst (λ w. AreRootsHeld m w xs es) (sym (j ∙ ap (λ w. fold holding w (map (λ e. e.1) es)) i))
-    (roots_fold m g xs es (ap (λ w. length w.names) e ∙ length-replicate (length m.names) false) (ap (λ w. length w.cells) e ∙ length-replicate (length m.lists) false) k l)
+    (roots_fold m g xs es (ap (λ w. length w.names) e ∙ length-replicate (length m.names) false)
+    (ap (λ w. length w.cells) e ∙ length-replicate (length m.lists) false) k l)
 
 -- the entries that these stand for
 abbrev pairs : Stored → List (ℤ × Object) → List (ℤ × state.Object)
@@ -148,10 +165,12 @@ module _ {h : Holding} {r : Numbering} {a b : Stored} (m : Moves h r a b) where
   pairs_same [] k s = refl
   pairs_same (e ∷ es) k s = ap₂ (λ x xs. (e.0, x) ∷ xs) (m.objects e.1 k.0 s.0).same (pairs_same es k.1 s.1)
 
-  entries_same : (es : List (ℤ × Object)) → AreEntriesKnown a es → AreHeld h (map (λ e. e.1) es) → dictionary_view b (numbered_entries r es) ≡ dictionary_view a es
+  entries_same : (es : List (ℤ × Object)) → AreEntriesKnown a es → AreHeld h (map (λ e. e.1) es) → dictionary_view b (numbered_entries r es)
+      ≡ dictionary_view a es
   entries_same es k s = ap entry.from_entries (pairs_same es k s)
 
-  pub shown_same : (xs : List Object) (es : List (ℤ × Object)) (p : Progress) → AreKnown a xs → AreHeld h xs → AreEntriesKnown a es → AreHeld h (map (λ e. e.1) es)
+  pub shown_same : (xs : List Object) (es : List (ℤ × Object)) (p : Progress) → AreKnown a xs → AreHeld h xs → AreEntriesKnown a es
+      → AreHeld h (map (λ e. e.1) es)
       → shown b (map (numbered r) xs) (article_state b (numbered_entries r es) p) ≡ shown a xs (article_state a es p)
   shown_same xs es p k s l t = rw (stack_same xs k s, entries_same es l t, m.run) refl
 
@@ -161,5 +180,6 @@ map-reverse_aux f [] ys = refl
 map-reverse_aux f (x ∷ xs) ys = map-reverse_aux f xs (x ∷ ys)
 
 -- the kept cells by the new numbers
-pub kept_cells : (h : Holding) (r : Numbering) (flags : List Bool) (cs ds es : List Cell) → flags ≡ h.cells → ds ≡ items_where_true flags cs → r ≡ numbering h → es ≡ map (numbered_cell r) ds → es ≡ map (numbered_cell (numbering h)) (items_where_true h.cells cs)
+pub kept_cells : (h : Holding) (r : Numbering) (flags : List Bool) (cs ds es : List Cell) → flags ≡ h.cells → ds ≡ items_where_true flags cs → r ≡ numbering h
+    → es ≡ map (numbered_cell r) ds → es ≡ map (numbered_cell (numbering h)) (items_where_true h.cells cs)
 kept_cells h r flags cs ds es f d n e = e ∙ ap₂ (λ q us. map (numbered_cell q) us) n (d ∙ ap (λ fs. items_where_true fs cs) f)

@@ -34,12 +34,15 @@ slice_get-within (x ∷ xs) zero d w = refl
 slice_get-within (x ∷ xs) (suc i) d w = slice_get-within xs i d (omega (arith, w))
 
 -- the constant before those that are made
-pub constants-more : (ps : List (Name × Variable)) (i : ℕ) (p : Name × Variable) (made : state.Objects) → slice_get ps i ≡ Some p → made ≡ constant_objects (map (λ q. q.0) (drop (suc i) ps))
+pub constants-more : (ps : List (Name × Variable)) (i : ℕ) (p : Name × Variable) (made : state.Objects) → slice_get ps i ≡ Some p → made
+    ≡ constant_objects (map (λ q. q.0) (drop (suc i) ps))
     → state.Objects.more (state.Object.constant p.0) made ≡ constant_objects (map (λ q. q.0) (drop i ps))
-constants-more ps i p made e h = ap (state.Objects.more (state.Object.constant p.0)) h ∙ sym (ap (λ qs. constant_objects (map (λ q. q.0) qs)) (drop-at ps i p e))
+constants-more ps i p made e h = ap (state.Objects.more (state.Object.constant p.0)) h ∙ sym
+    (ap (λ qs. constant_objects (map (λ q. q.0) qs)) (drop-at ps i p e))
 
 -- where none is left, all are made
-pub constants-all : (ps : List (Name × Variable)) (n : ℕ) (made : state.Objects) → n ≡ 0 → made ≡ constant_objects (map (λ q. q.0) (drop n ps)) → made ≡ constant_objects (map (λ q. q.0) ps)
+pub constants-all : (ps : List (Name × Variable)) (n : ℕ) (made : state.Objects) → n ≡ 0 → made ≡ constant_objects (map (λ q. q.0) (drop n ps)) → made
+    ≡ constant_objects (map (λ q. q.0) ps)
 constants-all [] n made z h = h ∙ ap (λ k. constant_objects (map (λ (q : Name × Variable). q.0) (drop k []))) z
 constants-all (p ∷ ps) n made z h = h ∙ ap (λ k. constant_objects (map (λ q. q.0) (drop k (p ∷ ps)))) z
 
@@ -58,7 +61,8 @@ abbrev pub list_rule : ConstantPairs → List Made → ℕ → State → Result 
 list_rule pairs made one = defining (map Symbol.defined (definitions_in pairs (sequent_at made one).hypotheses)) (define_const_list_step made pairs one)
 
 -- it is the same where more is kept
-pub list_rule-after : {a m b : Stored} {r : Result ℕ Fault} (ps : List (Name × Variable)) (one : ℕ) → Grows a m → m.run ≡ a.run → AreConstantPairsKnown a.trees ps
+pub list_rule-after : {a m b : Stored} {r : Result ℕ Fault} (ps : List (Name × Variable)) (one : ℕ) → Grows a m → m.run ≡ a.run
+    → AreConstantPairsKnown a.trees ps
     → Infers m (list_rule (constant_pairs_at m.trees ps) m.run.made one) b r → Infers a (list_rule (constant_pairs_at a.trees ps) a.run.made one) b r
 list_rule-after {a = a} {m = m} {b = b} {r = r} ps one g e k h =
     let pairs = subst (λ q. Infers m (list_rule q m.run.made one) b r) (sym (constant_pairs_at-Keeps g.trees ps k)) h in

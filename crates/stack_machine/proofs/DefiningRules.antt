@@ -30,7 +30,8 @@ pub record DefinesNoStep (rule : Result NewType Kind) : Type 0 where
   pub none : (x : NewType) → rule ≡ Ok x → steps_of (x.definition ∷ []) ≡ []
 
 made_of_type-no_step : (version : Version) (names : TypeNames) (i : ℕ) (c : HolType) (f : Term) → DefinesNoStep (Ok (made_of_type version names i c f))
-made_of_type-no_step version names i c f = record { none = λ x e. let same : made_of_type version names i c f ≡ x = cc in subst (λ (y : NewType). steps_of (y.definition ∷ []) ≡ []) same refl }
+made_of_type-no_step version names i c f = record
+    { none = λ x e. let same : made_of_type version names i c f ≡ x = cc in subst (λ (y : NewType). steps_of (y.definition ∷ []) ≡ []) same refl }
 
 then-no_step : (r : Result (Unit {0}) Kind) (q : Result NewType Kind) → DefinesNoStep q → DefinesNoStep (r >> q)
 then-no_step (Ok x) q h = h
@@ -50,19 +51,25 @@ type_laws-no_step version made names i =
     bind-no_step (typed parts.1) _ (λ c.
     then-no_step (in_limits (type_measures version names c parts.0)) _ (made_of_type-no_step version names i c parts.0))))))
 
-module _ (s : State) (t : Term) (n : Name) (below rest : List state.Object) (e : pop as_term s.stack ≡ Ok (t, below)) (f : pop as_name below ≡ Ok (n, rest)) where
-  pub obey-DefineConst : obey s word.DefineConst ≡ defining (Symbol.defined (Definition.constant n t) ∷ []) (define_const_step s.made n t) (with_stack s (state.Object.constant n ∷ rest))
-  obey-DefineConst = next _ _ _ _ e (next _ _ _ _ f refl)
+module _ (s : State) (t : Term) (n : Name) (below rest : List state.Object) (e : pop as_term s.stack ≡ Ok (t, below)) (f : pop as_name below ≡ Ok (n, rest))
+  where
+    pub obey-DefineConst : obey s word.DefineConst ≡ defining (Symbol.defined (Definition.constant n t) ∷ []) (define_const_step s.made n t)
+        (with_stack s (state.Object.constant n ∷ rest))
+    obey-DefineConst = next _ _ _ _ e (next _ _ _ _ f refl)
 
-module _ (s : State) (i : ℕ) (pairs : ConstantPairs) (below rest : List state.Object) (e : pop as_theorem s.stack ≡ Ok (i, below)) (f : pop as_constant_pairs below ≡ Ok (pairs, rest)) where
+module _ (s : State) (i : ℕ) (pairs : ConstantPairs) (below rest : List state.Object) (e : pop as_theorem s.stack ≡ Ok (i, below))
+    (f : pop as_constant_pairs below ≡ Ok (pairs, rest)) where
   pub obey-DefineConstList : obey s word.DefineConstList
-      ≡ defining (map Symbol.defined (definitions_in pairs (sequent_at s.made i).hypotheses)) (define_const_list_step s.made pairs i) (with_stack s (state.Object.list (constant_objects (names_of pairs)) ∷ rest))
+      ≡ defining (map Symbol.defined (definitions_in pairs (sequent_at s.made i).hypotheses)) (define_const_list_step s.made pairs i)
+      (with_stack s (state.Object.list (constant_objects (names_of pairs)) ∷ rest))
   obey-DefineConstList = next _ _ _ _ e (next _ _ _ _ f refl)
 
 module _ (s : State) (i : ℕ) (op abs rep : Name) (names : List Name) (one two three four rest : List state.Object)
-    (e : pop as_theorem s.stack ≡ Ok (i, one)) (f : pop as_names one ≡ Ok (names, two)) (g : pop as_name two ≡ Ok (rep, three)) (h : pop as_name three ≡ Ok (abs, four)) (j : pop as_name four ≡ Ok (op, rest)) where
+    (e : pop as_theorem s.stack ≡ Ok (i, one)) (f : pop as_names one ≡ Ok (names, two)) (g : pop as_name two ≡ Ok (rep, three))
+    (h : pop as_name three ≡ Ok (abs, four)) (j : pop as_name four ≡ Ok (op, rest)) where
   pub obey-DefineTypeOp : (version : Version) → version_at s.place ≡ version → obey s word.DefineTypeOp
-      ≡ defining_type (type_laws version s.made (named op abs rep names) i) (with_stack s (state.Object.constant rep ∷ state.Object.constant abs ∷ state.Object.type_operator op ∷ rest))
+      ≡ defining_type (type_laws version s.made (named op abs rep names) i)
+      (with_stack s (state.Object.constant rep ∷ state.Object.constant abs ∷ state.Object.type_operator op ∷ rest))
   obey-DefineTypeOp version v =
       let after = with_stack s (state.Object.constant rep ∷ state.Object.constant abs ∷ state.Object.type_operator op ∷ rest) in
       next _ _ _ _ e (next _ _ _ _ f (next _ _ _ _ g (next _ _ _ _ h (next _ _ _ _ j refl))))

@@ -20,7 +20,8 @@ module _ (m : Stored) where
   abbrev pairs : List (ℤ × Object) → List (ℤ × state.Object)
   pairs es = map (λ e. (e.0, object_view m e.1)) es
 
-  either_value : (b : Bool) (x : Object) (o : Option state.Object) (q : Option Object) → o ≡ option_map (object_view m) q → cond b (Some (object_view m x)) o ≡ option_map (object_view m) (cond b (Some x) q)
+  either_value : (b : Bool) (x : Object) (o : Option state.Object) (q : Option Object) → o ≡ option_map (object_view m) q → cond b (Some (object_view m x)) o
+      ≡ option_map (object_view m) (cond b (Some x) q)
   either_value true x o q e = refl
   either_value false x o q e = e
 
@@ -37,19 +38,24 @@ module _ (m : Stored) where
   put-pairs (e ∷ es) k x = by_cases (int_cmp k e.0) (put-pairs es k x)
     where
       by_cases : (r : Ordering) → pairs (insert_entry int_cmp es k x) ≡ put int_cmp k (object_view m x) (pairs es)
-          → pairs (match_ordering r ((k, x) ∷ e ∷ es) ((e.0, x) ∷ es) (e ∷ insert_entry int_cmp es k x)) ≡ by_order r ((k, object_view m x) ∷ pairs (e ∷ es)) ((e.0, object_view m x) ∷ pairs es) ((e.0, object_view m e.1) ∷ put int_cmp k (object_view m x) (pairs es))
+          → pairs (match_ordering r ((k, x) ∷ e ∷ es) ((e.0, x) ∷ es) (e ∷ insert_entry int_cmp es k x))
+          ≡ by_order r ((k, object_view m x) ∷ pairs (e ∷ es)) ((e.0, object_view m x) ∷ pairs es)
+          ((e.0, object_view m e.1) ∷ put int_cmp k (object_view m x) (pairs es))
       by_cases Less h = refl
       by_cases Equal h = refl
       by_cases Greater h = ap (λ zs. (e.0, object_view m e.1) ∷ zs) h
 
-  find-put-pairs : (es : List (ℤ × Object)) (k q : ℤ) (x : Object) → find int_cmp q (pairs (insert_entry int_cmp es k x)) ≡ cond (eq_by_cmp int_cmp q k) (Some (object_view m x)) (find int_cmp q (pairs es))
+  find-put-pairs : (es : List (ℤ × Object)) (k q : ℤ) (x : Object) → find int_cmp q (pairs (insert_entry int_cmp es k x))
+      ≡ cond (eq_by_cmp int_cmp q k) (Some (object_view m x)) (find int_cmp q (pairs es))
   find-put-pairs es k q x = ap (find int_cmp q) (put-pairs es k x) ∙ find-put int_cmp int_cmp_total q k (object_view m x) (pairs es)
 
   -- an entry more, or another in its place
-  pub dictionary-insert : (es : List (ℤ × Object)) (k : ℤ) (x : Object) → dictionary_view m (insert_entry int_cmp es k x) ≡ entry.insert (dictionary_view m es) k (object_view m x)
+  pub dictionary-insert : (es : List (ℤ × Object)) (k : ℤ) (x : Object) → dictionary_view m (insert_entry int_cmp es k x)
+      ≡ entry.insert (dictionary_view m es) k (object_view m x)
   dictionary-insert es k x = entry.same_map int_cmp_total entry.int_cmp-IsAntisymmetric _ _
       (λ q. entry.get-from_entries int_cmp_total (pairs (insert_entry int_cmp es k x)) q ∙ find-put-pairs es k q x
-      ∙ sym (entry.get-insert int_cmp_total (dictionary_view m es) k (object_view m x) q ∙ ap (cond (eq_by_cmp int_cmp q k) (Some (object_view m x))) (entry.get-from_entries int_cmp_total (pairs es) q)))
+      ∙ sym (entry.get-insert int_cmp_total (dictionary_view m es) k (object_view m x) q
+      ∙ ap (cond (eq_by_cmp int_cmp q k) (Some (object_view m x))) (entry.get-from_entries int_cmp_total (pairs es) q)))
 
   -- an entry less
   turned : (r : Ordering) → is_eq (ordering_reverse r) ≡ is_eq r
@@ -64,7 +70,9 @@ module _ (m : Stored) where
   without_value true q = refl
   without_value false q = refl
 
-  pub dictionary-remove : (es fs : List (ℤ × Object)) (k : ℤ) → ((q : ℤ) → lookup (is_at (int_cmp q)) fs ≡ cond (is_eq (int_cmp k q)) None (lookup (is_at (int_cmp q)) es)) → dictionary_view m fs ≡ entry.remove (dictionary_view m es) k
+  pub dictionary-remove : (es fs : List (ℤ × Object)) (k : ℤ)
+      → ((q : ℤ) → lookup (is_at (int_cmp q)) fs ≡ cond (is_eq (int_cmp k q)) None (lookup (is_at (int_cmp q)) es)) → dictionary_view m fs
+      ≡ entry.remove (dictionary_view m es) k
   dictionary-remove es fs k h = entry.same_map int_cmp_total entry.int_cmp-IsAntisymmetric _ _
       (λ q. dictionary-get fs q ∙ ap (option_map (object_view m)) (h q) ∙ without_value (is_eq (int_cmp k q)) (lookup (is_at (int_cmp q)) es)
       ∙ sym (entry.get-remove int_cmp_total (dictionary_view m es) k q ∙ ap₂ (λ b o. cond b None o) (same_either_way q k) (dictionary-get es q)))
@@ -78,11 +86,13 @@ known_found m p (f ∷ es) x h e = either (p f.0) e (known_found m p es x h.1)
     either true g r = let s : f.1 ≡ x = cc in subst (IsKnown m) s h.0
     either false g r = r g
 
-pub known_inserted : (m : Stored) (es : List (ℤ × Object)) (k : ℤ) (x : Object) → AreEntriesKnown m es → IsKnown m x → AreEntriesKnown m (insert_entry int_cmp es k x)
+pub known_inserted : (m : Stored) (es : List (ℤ × Object)) (k : ℤ) (x : Object) → AreEntriesKnown m es → IsKnown m x
+    → AreEntriesKnown m (insert_entry int_cmp es k x)
 known_inserted m [] k x h l = (l, tt)
 known_inserted m (e ∷ es) k x h l = either (int_cmp k e.0) (known_inserted m es k x h.1 l)
   where
-    either : (r : Ordering) → AreEntriesKnown m (insert_entry int_cmp es k x) → AreEntriesKnown m (match_ordering r ((k, x) ∷ e ∷ es) ((e.0, x) ∷ es) (e ∷ insert_entry int_cmp es k x))
+    either : (r : Ordering) → AreEntriesKnown m (insert_entry int_cmp es k x)
+        → AreEntriesKnown m (match_ordering r ((k, x) ∷ e ∷ es) ((e.0, x) ∷ es) (e ∷ insert_entry int_cmp es k x))
     either Less r = (l, h)
     either Equal r = (l, h.1)
     either Greater r = (h.0, r)

@@ -32,7 +32,8 @@ module _ {A : Type 0} (as_one : state.Object → Result A Kind) where
   none_read whole = record { on = λ more e. e; off = λ k e. e }
 
   -- one element more
-  pub one_read : (whole rest tail : state.Objects) (before : List A) (x : state.Object) (a : A) → rest ≡ state.Objects.more x tail → as_one x ≡ Ok a → IsRead whole rest before → IsRead whole tail (before ++ a ∷ [])
+  pub one_read : (whole rest tail : state.Objects) (before : List A) (x : state.Object) (a : A) → rest ≡ state.Objects.more x tail → as_one x ≡ Ok a
+      → IsRead whole rest before → IsRead whole tail (before ++ a ∷ [])
   one_read whole rest tail before x a is e h = record {
     on = λ more f. h.on (a ∷ more) (rw (is, e, f) refl) ∙ ap Ok (sym (append_assoc before (a ∷ []) more));
     off = λ k f. h.off k (rw (is, e, f) refl);
@@ -41,7 +42,8 @@ module _ {A : Type 0} (as_one : state.Object → Result A Kind) where
   pub all_read : (whole rest : state.Objects) (before : List A) → rest ≡ state.Objects.none → IsRead whole rest before → each as_one whole ≡ Ok before
   all_read whole rest before is h = h.on [] (rw is refl) ∙ ap Ok (append-nil before)
 
-  pub other_read : (fault : Fault) (whole rest tail : state.Objects) (before : List A) (x : state.Object) → rest ≡ state.Objects.more x tail → Fails fault (as_one x) → IsRead whole rest before → Fails fault (each as_one whole)
+  pub other_read : (fault : Fault) (whole rest tail : state.Objects) (before : List A) (x : state.Object) → rest ≡ state.Objects.more x tail
+      → Fails fault (as_one x) → IsRead whole rest before → Fails fault (each as_one whole)
   other_read Memory whole rest tail before x is f h = tt
   other_read (Refused k) whole rest tail before x is f h = h.off k (rw (is, f) refl)
 
@@ -61,27 +63,33 @@ AreTermsAt-push trees [] id h k = (k, tt)
 AreTermsAt-push trees (i ∷ ids) id h k = (h.0, AreTermsAt-push trees ids id h.1 k)
 
 -- one pair more
-pub pairs_at-push : (trees : List HolType) (ps : List (Name × TypeId)) (p : Name × TypeId) → pairs_at trees (ps ++ p ∷ []) ≡ pairs_at trees ps ++ (p.0, tree_at trees p.1.0) ∷ []
+pub pairs_at-push : (trees : List HolType) (ps : List (Name × TypeId)) (p : Name × TypeId) → pairs_at trees (ps ++ p ∷ []) ≡ pairs_at trees ps
+    ++ (p.0, tree_at trees p.1.0) ∷ []
 pairs_at-push trees [] p = refl
 pairs_at-push trees (q ∷ ps) p = ap (λ l. (q.0, tree_at trees q.1.0) ∷ l) (pairs_at-push trees ps p)
 
-pub ArePairsKnown-push : (trees : List HolType) (ps : List (Name × TypeId)) (p : Name × TypeId) → ArePairsKnown trees ps → p.1.0 < length trees → ArePairsKnown trees (ps ++ p ∷ [])
+pub ArePairsKnown-push : (trees : List HolType) (ps : List (Name × TypeId)) (p : Name × TypeId) → ArePairsKnown trees ps → p.1.0 < length trees
+    → ArePairsKnown trees (ps ++ p ∷ [])
 ArePairsKnown-push trees [] p h k = (k, tt)
 ArePairsKnown-push trees (q ∷ ps) p h k = (h.0, ArePairsKnown-push trees ps p h.1 k)
 
-pub term_pairs_at-push : (trees : Trees) (ps : List (Variable × TermId)) (p : Variable × TermId) → term_pairs_at trees (ps ++ p ∷ []) ≡ term_pairs_at trees ps ++ (variable_view trees p.0, term_at trees p.1.0) ∷ []
+pub term_pairs_at-push : (trees : Trees) (ps : List (Variable × TermId)) (p : Variable × TermId) → term_pairs_at trees (ps ++ p ∷ []) ≡ term_pairs_at trees ps
+    ++ (variable_view trees p.0, term_at trees p.1.0) ∷ []
 term_pairs_at-push trees [] p = refl
 term_pairs_at-push trees (q ∷ ps) p = ap (λ l. ((q.0.name, type_at trees q.0.ty.0), term_at trees q.1.0) ∷ l) (term_pairs_at-push trees ps p)
 
-pub AreTermPairs-push : (trees : Trees) (ps : List (Variable × TermId)) (p : Variable × TermId) → AreTermPairs trees ps → p.0.ty.0 < length trees.types → IsTermAt trees p.1.0 → AreTermPairs trees (ps ++ p ∷ [])
+pub AreTermPairs-push : (trees : Trees) (ps : List (Variable × TermId)) (p : Variable × TermId) → AreTermPairs trees ps → p.0.ty.0 < length trees.types
+    → IsTermAt trees p.1.0 → AreTermPairs trees (ps ++ p ∷ [])
 AreTermPairs-push trees [] p h k l = (k, (l, tt))
 AreTermPairs-push trees (q ∷ ps) p h k l = (h.0, (h.1.0, AreTermPairs-push trees ps p h.1.1 k l))
 
 -- one pair of a constant more
-pub constant_pairs_at-push : (trees : Trees) (ps : List (Name × Variable)) (p : Name × Variable) → constant_pairs_at trees (ps ++ p ∷ []) ≡ constant_pairs_at trees ps ++ (p.0, variable_view trees p.1) ∷ []
+pub constant_pairs_at-push : (trees : Trees) (ps : List (Name × Variable)) (p : Name × Variable) → constant_pairs_at trees (ps ++ p ∷ [])
+    ≡ constant_pairs_at trees ps ++ (p.0, variable_view trees p.1) ∷ []
 constant_pairs_at-push trees ps p = map-append (λ (q : Name × Variable). (q.0, variable_view trees q.1)) ps (p ∷ [])
 
-pub AreConstantPairsKnown-push : (trees : Trees) (ps : List (Name × Variable)) (p : Name × Variable) → AreConstantPairsKnown trees ps → p.1.ty.0 < length trees.types → AreConstantPairsKnown trees (ps ++ p ∷ [])
+pub AreConstantPairsKnown-push : (trees : Trees) (ps : List (Name × Variable)) (p : Name × Variable) → AreConstantPairsKnown trees ps
+    → p.1.ty.0 < length trees.types → AreConstantPairsKnown trees (ps ++ p ∷ [])
 AreConstantPairsKnown-push trees [] p h k = (k, tt)
 AreConstantPairsKnown-push trees (q ∷ ps) p h k = (h.0, AreConstantPairsKnown-push trees ps p h.1 k)
 

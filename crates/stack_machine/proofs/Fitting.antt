@@ -121,10 +121,13 @@ module _ (symbols : List Symbol) (n : Name) (ts : List HolType) where
   operator_within h w = rw (arity_within (operator_arity symbols n) (length ts) h) (type_within (operator n (types_of ts)) w)
 
   pub operator_unused : (fault : Fault) → RefusesOperator fault (operator_arity symbols n) (length ts) → Fails fault (operator_fits symbols n ts)
-  operator_unused fault h = condition_fails fault (arity_fits (operator_arity symbols n) (length ts)) (type_in_limits (operator n (types_of ts))) (arity_fails fault (operator_arity symbols n) (length ts) h)
+  operator_unused fault h = condition_fails fault (arity_fits (operator_arity symbols n) (length ts)) (type_in_limits (operator n (types_of ts)))
+      (arity_fails fault (operator_arity symbols n) (length ts) h)
 
-  pub operator_unmade : (fault : Fault) → FitsArity (operator_arity symbols n) (length ts) → RefusesType fault (operator n (types_of ts)) → Fails fault (operator_fits symbols n ts)
-  operator_unmade fault h r = then_fails fault (arity_fits (operator_arity symbols n) (length ts)) (type_in_limits (operator n (types_of ts))) (arity_within (operator_arity symbols n) (length ts) h) (type_fails fault (operator n (types_of ts)) r)
+  pub operator_unmade : (fault : Fault) → FitsArity (operator_arity symbols n) (length ts) → RefusesType fault (operator n (types_of ts))
+      → Fails fault (operator_fits symbols n ts)
+  operator_unmade fault h r = then_fails fault (arity_fits (operator_arity symbols n) (length ts)) (type_in_limits (operator n (types_of ts)))
+      (arity_within (operator_arity symbols n) (length ts) h) (type_fails fault (operator n (types_of ts)) r)
 
 -- a constant's generic type is judged first, and then its limits
 module _ (symbols : List Symbol) (n : Name) (a : HolType) where
@@ -132,10 +135,12 @@ module _ (symbols : List Symbol) (n : Name) (a : HolType) where
   constant_within h w = rw (generic_within (generic_type symbols n) a h) (term_within (constant n a) w)
 
   pub constant_unused : (fault : Fault) → RefusesConstant fault (generic_type symbols n) a → Fails fault (constant_fits symbols n a)
-  constant_unused fault h = condition_fails fault (generic_fits (generic_type symbols n) a) (term_in_limits (constant n a)) (generic_fails fault (generic_type symbols n) a h)
+  constant_unused fault h = condition_fails fault (generic_fits (generic_type symbols n) a) (term_in_limits (constant n a))
+      (generic_fails fault (generic_type symbols n) a h)
 
   pub constant_unmade : (fault : Fault) → FitsGeneric (generic_type symbols n) a → RefusesTerm fault (constant n a) → Fails fault (constant_fits symbols n a)
-  constant_unmade fault h r = then_fails fault (generic_fits (generic_type symbols n) a) (term_in_limits (constant n a)) (generic_within (generic_type symbols n) a h) (term_fails fault (constant n a) r)
+  constant_unmade fault h r = then_fails fault (generic_fits (generic_type symbols n) a) (term_in_limits (constant n a))
+      (generic_within (generic_type symbols n) a h) (term_fails fault (constant n a) r)
 
 -- what is settled takes no symbol
 pub no_operator : (symbols : List Symbol) (n : Name) (k : ℕ) → is_some (operator_arity symbols n) ≡ true → new_operator symbols n k ≡ []

@@ -30,17 +30,21 @@ pub shown-Grows : {a b : Stored} → Grows a b → (xs : List Object) (es : List
 shown-Grows h xs es p k l e = rw (objects_view-Grows h xs k, dictionary-Grows h es l, e) refl
 
 -- an object is put on, where the store grows
-pub placed-shown : {a b : Stored} → Grows a b → (xs new : List Object) (v : state.Object) (es : List (ℤ × Object)) (p : Progress) → AreEntriesKnown a es → objects_view b new ≡ v ∷ objects_view a xs → b.run ≡ a.run
+pub placed-shown : {a b : Stored} → Grows a b → (xs new : List Object) (v : state.Object) (es : List (ℤ × Object)) (p : Progress) → AreEntriesKnown a es
+    → objects_view b new ≡ v ∷ objects_view a xs → b.run ≡ a.run
     → with_stack (shown a xs (article_state a es p)) (v ∷ objects_view a xs) ≡ shown b new (article_state b es p)
 placed-shown h xs new v es p k e f = rw (dictionary-Grows h es k, e, f) refl
 
 -- what is known of the machine's parts stays known
-pub parts-known : {a b : Stored} {K L : Type 0} → Grows a b → (es : List (ℤ × Object)) (ps : List (Lists × Substitution)) → K → L × AreEntriesKnown a es × AreRemembered a ps → K × AreEntriesKnown b es × AreRemembered b ps
+pub parts-known : {a b : Stored} {K L : Type 0} → Grows a b → (es : List (ℤ × Object)) (ps : List (Lists × Substitution)) → K → L × AreEntriesKnown a es
+    × AreRemembered a ps → K × AreEntriesKnown b es × AreRemembered b ps
 parts-known h es ps l k = (l, entries-Grow h es k.1, remembered-Grow h ps k.2)
 
 -- a word that is obeyed over what is kept and the stack is obeyed in the machine's state
-module _ {word : Word} {a b : Stored} {xs ys : List Object} {r : Result (Unit {0}) Fault} (es : List (ℤ × Object)) (p : Progress) {R : Type 0} (k : AreKnown a xs × AreEntriesKnown a es × R) where
-  pub ObeysIn-shown : {version : Version} → version_at (place_view p) ≡ version → ObeysIn version word a xs b ys r → IsObeyed word (shown a xs (article_state a es p)) (shown b ys (article_state b es p)) r
+module _ {word : Word} {a b : Stored} {xs ys : List Object} {r : Result (Unit {0}) Fault} (es : List (ℤ × Object)) (p : Progress) {R : Type 0}
+    (k : AreKnown a xs × AreEntriesKnown a es × R) where
+  pub ObeysIn-shown : {version : Version} → version_at (place_view p) ≡ version → ObeysIn version word a xs b ys r
+      → IsObeyed word (shown a xs (article_state a es p)) (shown b ys (article_state b es p)) r
   ObeysIn-shown v h = record {
     taken = OnOk-map r _ _ h.taken (λ f. f (article_state a es p) v ∙ ap (λ s. Ok (shown b ys s)) (article-Grows h.grows es p k.1));
     refused = IfErr-map r _ _ h.refused (λ fault f. f (article_state a es p) v);

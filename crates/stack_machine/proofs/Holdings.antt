@@ -37,7 +37,13 @@ pub HoldsMore-refl : (h : Holding) → HoldsMore h h
 HoldsMore-refl h = record { names = λ i s. s; cells = λ i s. s; name_count = refl; cell_count = refl }
 
 pub HoldsMore-trans : {a b c : Holding} → HoldsMore a b → HoldsMore b c → HoldsMore a c
-HoldsMore-trans h k = record { names = λ i s. k.names i (h.names i s); cells = λ i s. k.cells i (h.cells i s); name_count = k.name_count ∙ h.name_count; cell_count = k.cell_count ∙ h.cell_count }
+HoldsMore-trans h k = record {
+  names = λ i s. k.names i (h.names i s);
+  cells = λ i s. k.cells i (h.cells i s);
+  name_count = k.name_count ∙ h.name_count;
+  cell_count =
+      k.cell_count ∙ h.cell_count;
+}
 
 more_name : (h : Holding) (n : ℕ) → HoldsMore h (record { names = slice_set h.names n true; cells = h.cells })
 more_name h n = record { names = λ i s. IsSet-more h.names n i s; cells = λ i s. s; name_count = length-set h.names n true; cell_count = refl }
@@ -124,16 +130,29 @@ set_or (b ∷ flags) zero (suc j) s = inr s
 set_or (b ∷ flags) (suc i) zero s = inr s
 set_or (b ∷ flags) (suc i) (suc j) s = elim (set_or flags i j s) [ inl e ↦ inl (ap suc e) | inr t ↦ inr t ]
 
-no_more_set : (flags more : List Bool) (i : ℕ) → IsSet more i → ((j : ℕ) → IsSet flags j → IsSet more j) → (j : ℕ) → IsSet (slice_set flags i true) j → IsSet more j
+no_more_set : (flags more : List Bool) (i : ℕ) → IsSet more i → ((j : ℕ) → IsSet flags j → IsSet more j) → (j : ℕ) → IsSet (slice_set flags i true) j
+    → IsSet more j
 no_more_set flags more i h f j s = elim (set_or flags i j s) [ inl e ↦ subst (IsSet more) (sym e) h | inr t ↦ f j t ]
 
 module _ (k : Holding) where
   no_more_name : (h : Holding) (n : ℕ) → IsSet k.names n → HoldsMore h k → HoldsMore (record { names = slice_set h.names n true; cells = h.cells }) k
-  no_more_name h n s m = record { names = no_more_set h.names k.names n s m.names; cells = m.cells; name_count = m.name_count ∙ sym (length-set h.names n true); cell_count = m.cell_count }
+  no_more_name h n s m = record {
+    names = no_more_set h.names k.names n s m.names;
+    cells = m.cells;
+    name_count = m.name_count ∙ sym (length-set h.names n true);
+    cell_count =
+        m.cell_count;
+  }
 
   no_more_list : (h : Holding) (xs : AList) → IsListHeld k xs → HoldsMore h k → HoldsMore (holding_list h xs) k
   no_more_list h Empty s m = m
-  no_more_list h (CellOf c) s m = record { names = m.names; cells = no_more_set h.cells k.cells c.0 s m.cells; name_count = m.name_count; cell_count = m.cell_count ∙ sym (length-set h.cells c.0 true) }
+  no_more_list h (CellOf c) s m = record {
+    names = m.names;
+    cells = no_more_set h.cells k.cells c.0 s m.cells;
+    name_count = m.name_count;
+    cell_count =
+        m.cell_count ∙ sym (length-set h.cells c.0 true);
+  }
 
   no_more_object : (h : Holding) (x : Object) → IsHeld k x → HoldsMore h k → HoldsMore (holding h x) k
   no_more_object h (object.Number z) s m = m
@@ -146,13 +165,15 @@ module _ (k : Holding) where
   no_more_object h (object.Term t) s m = m
   no_more_object h (object.Theorem i) s m = m
 
-  pub no_more_parts : (cells : List Cell) → IsClosed k cells → (i : ℕ) (c : Cell) → slice_get cells i ≡ Some c → (h : Holding) → IsSet h.cells i → HoldsMore h k → HoldsMore (holding_parts h c) k
+  pub no_more_parts : (cells : List Cell) → IsClosed k cells → (i : ℕ) (c : Cell) → slice_get cells i ≡ Some c → (h : Holding) → IsSet h.cells i → HoldsMore h k
+      → HoldsMore (holding_parts h c) k
   no_more_parts cells closed i c e h s m =
       let held = closed i c (omega arith) e (m.cells i s) in
       no_more_list (holding h c.head) c.tail held.1 (no_more_object h c.head held.0 m)
 
 -- the parts of a cell are held, one pass down
-module _ (h : Holding) (cells : List Cell) (i : ℕ) (c : Cell) (e : slice_get cells i ≡ Some c) (b : AreBefore (length h.names) cells) (l : length h.cells ≡ length cells) where
+module _ (h : Holding) (cells : List Cell) (i : ℕ) (c : Cell) (e : slice_get cells i ≡ Some c) (b : AreBefore (length h.names) cells)
+    (l : length h.cells ≡ length cells) where
   within : i < length h.cells
   within = let w = slice_get_within cells i c e in omega (arith, w, l)
 

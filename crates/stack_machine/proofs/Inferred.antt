@@ -61,7 +61,8 @@ module _ {a b : Kept} {rule : Result Step Kind} {r : Result ℕ Fault} (h : Conc
   pub Concludes-more : IsMore a b
   Concludes-more = record { trees = h.keeps; steps = by_answer r h.concluded h.unchanged }
     where
-      by_answer : (r : Result ℕ Fault) → IfOk r (λ i. (i ≡ proof.step_count a) × ((x : Step) × (limited rule ≡ Ok x) × (b.made ≡ a.made ++ Made.step x ∷ []))) → OnErr r (b.made ≡ a.made) → IsFront (steps_of a.made) (steps_of b.made)
+      by_answer : (r : Result ℕ Fault) → IfOk r (λ i. (i ≡ proof.step_count a) × ((x : Step) × (limited rule ≡ Ok x) × (b.made ≡ a.made ++ Made.step x ∷ [])))
+          → OnErr r (b.made ≡ a.made) → IsFront (steps_of a.made) (steps_of b.made)
       by_answer (Ok i) c u = record { more = c.1.0 ∷ []; is = ap steps_of c.1.2 ∙ steps_of-push a.made c.1.0 }
       by_answer (Err x) c u = IsFront-same (ap steps_of u)
 
@@ -69,7 +70,8 @@ module _ {a b : Kept} {rule : Result Step Kind} {r : Result ℕ Fault} (h : Conc
   Concludes-made = IfOk-map r _ _ h.concluded (λ i c. let e = ap (λ made. length (steps_of made)) c.1.2 ∙ count-step a.made c.1.0 in omega (arith, e, c.0))
 
   module _ (us ws : List ℕ) (p : ℕ) where
-    pub Concludes-taken : IfOk r (λ i. (s : State) (below : List state.Object) → by_step rule (in_state s below (run_view a.made us ws p)) ≡ Ok (in_state s (state.Object.theorem i ∷ below) (run_view b.made us ws p)))
+    pub Concludes-taken : IfOk r (λ i. (s : State) (below : List state.Object) → by_step rule (in_state s below (run_view a.made us ws p))
+        ≡ Ok (in_state s (state.Object.theorem i ∷ below) (run_view b.made us ws p)))
     Concludes-taken = IfOk-map r _ _ h.concluded (λ i c s below. limited-Ok (with_theorem (in_state s below (run_view a.made us ws p))) rule c.1.0 c.1.1
         ∙ ap₂ (λ j made. Ok (in_state s (state.Object.theorem j ∷ below) (run_view made us ws p))) (sym c.0) (sym c.1.2))
 
@@ -79,7 +81,8 @@ module _ {a b : Kept} {rule : Result Step Kind} {r : Result ℕ Fault} (h : Conc
     pub Concludes-run : OnErr r (run_view b.made us ws p ≡ run_view a.made us ws p)
     Concludes-run = OnErr-map r _ _ h.unchanged (λ e. ap (λ made. run_view made us ws p) e)
 
-module _ {a b : Kept} {rule : Result Step Kind} {r : Result ℕ Fault} {ns : List Name} {cs : List Cell} {us ws : List Said} {p : ℕ} (h : Concludes a rule b r) (i : IsStore a ns cs us ws p) where
+module _ {a b : Kept} {rule : Result Step Kind} {r : Result ℕ Fault} {ns : List Name} {cs : List Cell} {us ws : List Said} {p : ℕ} (h : Concludes a rule b r)
+    (i : IsStore a ns cs us ws p) where
   pub Concludes-IsStore : IsStore b ns cs us ws p
   Concludes-IsStore = IsStore-more (Concludes-more h) i
 
@@ -93,12 +96,14 @@ module _ {a b : Kept} {rule : Result Step Kind} {r : Result ℕ Fault} {ns : Lis
   }
 
 -- a word whose operands are off the stack, and which its rule refuses or obeys
-module _ {word : Word} {a b : Stored} {stack : List Object} {f : State → Result State Kind} (n : ℕ) (e : (s : State) → obey (shown a stack s) word ≡ f (in_state s (objects_view a (drop n stack)) a.run)) (k : AreKnown a stack) where
+module _ {word : Word} {a b : Stored} {stack : List Object} {f : State → Result State Kind} (n : ℕ)
+    (e : (s : State) → obey (shown a stack s) word ≡ f (in_state s (objects_view a (drop n stack)) a.run)) (k : AreKnown a stack) where
   pub Infers-fails : (r : Result (Unit {0}) Fault) (x : Fault) → IsErrAnd r (λ y. y ≡ x) → Infers a f b (Err x) → Obeys word a stack b stack r
   Infers-fails r x h i = failed r x h k i.grows i.run (λ s. subst (Fails x) (sym (e s)) (i.refused s (objects_view a (drop n stack))))
 
   pub Infers-obeys : {new : List Object} {i : ℕ} → Infers a f b (Ok i) → new ≡ object.Theorem i ∷ drop n stack → Obeys word a stack b new (Ok tt)
-  Infers-obeys {i = i} h put = placed n (object.Theorem i ∷ []) (state.Object.theorem i ∷ []) b.run k h.grows put (h.made, tt) refl refl (λ s. e s ∙ h.taken s (objects_view a (drop n stack)))
+  Infers-obeys {i = i} h put = placed n (object.Theorem i ∷ []) (state.Object.theorem i ∷ []) b.run k h.grows put (h.made, tt) refl refl
+      (λ s. e s ∙ h.taken s (objects_view a (drop n stack)))
 
   pub Exports-fails : (r : Result (Unit {0}) Fault) (x : Fault) → IsErrAnd r (λ y. y ≡ x) → Exports a f b (Err x) → Obeys word a stack b stack r
   Exports-fails r x h i = failed r x h k i.grows i.run (λ s. subst (Fails x) (sym (e s)) (i.refused s (objects_view a (drop n stack))))
@@ -107,7 +112,8 @@ module _ {word : Word} {a b : Stored} {stack : List Object} {f : State → Resul
   Exports-obeys h dropped = placed n [] [] b.run k h.grows dropped tt refl refl (λ s. e s ∙ h.taken s (objects_view a (drop n stack)))
 
 -- what the store knows the proof knows
-module _ {a : Kept} {ns : List Name} {cs : List Cell} {us ws : List Said} {p : ℕ} {m : Stored} (i : IsStore a ns cs us ws p) (is : store_view a ns cs us ws p ≡ m) where
+module _ {a : Kept} {ns : List Name} {cs : List Cell} {us ws : List Said} {p : ℕ} {m : Stored} (i : IsStore a ns cs us ws p)
+    (is : store_view a ns cs us ws p ≡ m) where
   pub term-there : {t : ℕ} → IsTerm m t → IsTermAt a.trees t
   term-there {t = t} h = (subst (λ m. IsTerm m t) (sym is) h).typed
 
@@ -117,15 +123,20 @@ module _ {a : Kept} {ns : List Name} {cs : List Cell} {us ws : List Said} {p : �
   pub step-there : {j : ℕ} → IsStep m j → j < proof.step_count a
   step-there {j = j} h = subst (λ m. IsStep m j) (sym is) h
 
-  pub rule-infers : {b : Kept} {step : Result ℕ Fault} (rule : Stored → Result Step Kind) → Concludes a (rule (store_view a ns cs us ws p)) b step → Infers m (by_step (rule m)) (store_view b ns cs us ws p) step
+  pub rule-infers : {b : Kept} {step : Result ℕ Fault} (rule : Stored → Result Step Kind) → Concludes a (rule (store_view a ns cs us ws p)) b step
+      → Infers m (by_step (rule m)) (store_view b ns cs us ws p) step
   rule-infers {b = b} {step = step} rule h = subst (λ m. Infers m (by_step (rule m)) (store_view b ns cs us ws p) step) is (Concludes-Infers h i)
 
   -- a word whose operands are off the stack, and whose rule makes the next step or is refused
-  module _ {word : Word} {b : Kept} {stack new : List Object} {step : Result ℕ Fault} {r : Result (Unit {0}) Fault} (n : ℕ) (rule : Stored → Result Step Kind) where
-    pub rule-obeys : Concludes a (rule (store_view a ns cs us ws p)) b step → IsConcluded n stack step new r → AreKnown m stack
-        → ((s : State) → obey (shown m stack s) word ≡ by_step (rule m) (in_state s (objects_view m (drop n stack)) m.run)) → Obeys word m stack (store_view b ns cs us ws p) new r
-    rule-obeys h put k e = by_answer step (rule-infers rule h) put
-      where
-        by_answer : (step : Result ℕ Fault) → Infers m (by_step (rule m)) (store_view b ns cs us ws p) step → IsConcluded n stack step new r → Obeys word m stack (store_view b ns cs us ws p) new r
-        by_answer (Ok j) g c = subst (Obeys word m stack (store_view b ns cs us ws p) new) (sym c.concluded) (Infers-obeys n e k g c.theorem)
-        by_answer (Err x) g c = subst (λ xs. Obeys word m stack (store_view b ns cs us ws p) xs r) (sym c.same) (Infers-fails n e k r x (subst (λ q. IsErrAnd q (λ y. y ≡ x)) (sym c.refused) refl) g)
+  module _ {word : Word} {b : Kept} {stack new : List Object} {step : Result ℕ Fault} {r : Result (Unit {0}) Fault} (n : ℕ) (rule : Stored → Result Step Kind)
+    where
+      pub rule-obeys : Concludes a (rule (store_view a ns cs us ws p)) b step → IsConcluded n stack step new r → AreKnown m stack
+          → ((s : State) → obey (shown m stack s) word ≡ by_step (rule m) (in_state s (objects_view m (drop n stack)) m.run))
+          → Obeys word m stack (store_view b ns cs us ws p) new r
+      rule-obeys h put k e = by_answer step (rule-infers rule h) put
+        where
+          by_answer : (step : Result ℕ Fault) → Infers m (by_step (rule m)) (store_view b ns cs us ws p) step → IsConcluded n stack step new r
+              → Obeys word m stack (store_view b ns cs us ws p) new r
+          by_answer (Ok j) g c = subst (Obeys word m stack (store_view b ns cs us ws p) new) (sym c.concluded) (Infers-obeys n e k g c.theorem)
+          by_answer (Err x) g c = subst (λ xs. Obeys word m stack (store_view b ns cs us ws p) xs r) (sym c.same)
+              (Infers-fails n e k r x (subst (λ q. IsErrAnd q (λ y. y ≡ x)) (sym c.refused) refl) g)

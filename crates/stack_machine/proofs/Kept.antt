@@ -28,7 +28,8 @@ module _ {X : Type 0} (ys : List X) (k i : ℕ) (d : X) (l : i < length ys) (b :
   drop-swapped = drop-set-lt (i + 1) (set ys k (get_or ys i d)) i (get_or ys k d) (omega arith) ∙ drop-set-lt (i + 1) ys k (get_or ys i d) (omega arith)
 
 -- the loop's step where an item is kept, and where it is not
-some_more : {X : Type 0} (flags : List Bool) (ys zs : List X) (k i : ℕ) (d : X) → i < length flags → length ys ≡ length flags → k ≤ i → get_or flags i false ≡ true → zs ≡ set (set ys k (get_or ys i d)) i (get_or ys k d)
+some_more : {X : Type 0} (flags : List Bool) (ys zs : List X) (k i : ℕ) (d : X) → i < length flags → length ys ≡ length flags → k ≤ i → get_or flags i false
+    ≡ true → zs ≡ set (set ys k (get_or ys i d)) i (get_or ys k d)
     → take (k + 1) zs ++ items_where_true (drop (i + 1) flags) (drop (i + 1) zs) ≡ take k ys ++ items_where_true (drop i flags) (drop i ys)
 some_more flags ys zs k i d l e b t s =
     let m : i < length ys = omega arith in
@@ -36,7 +37,8 @@ some_more flags ys zs k i d l e b t s =
     ∙ append_assoc (take k ys) (get_or ys i d ∷ []) (items_where_true (drop (i + 1) flags) (drop (i + 1) ys))
     ∙ ap₂ (λ us vs. take k ys ++ items_where_true us vs) (sym (drop_here flags i false l ∙ ap (λ x. x ∷ drop (i + 1) flags) t)) (sym (drop_here ys i d m)))
 
-pub kept_more : {X : Type 0} (flags : List Bool) (ys zs : List X) (k i : ℕ) → i < length flags → length ys ≡ length flags → k ≤ i → get_or flags i false ≡ true → zs ≡ swap ys k i
+pub kept_more : {X : Type 0} (flags : List Bool) (ys zs : List X) (k i : ℕ) → i < length flags → length ys ≡ length flags → k ≤ i → get_or flags i false ≡ true
+    → zs ≡ swap ys k i
     → take (k + 1) zs ++ items_where_true (drop (i + 1) flags) (drop (i + 1) zs) ≡ take k ys ++ items_where_true (drop i flags) (drop i ys)
 kept_more flags [] zs k i l e b t s = absurd (omega arith)
 kept_more flags (y ∷ ys) zs k i l e b t s = some_more flags (y ∷ ys) zs k i y l e b t (s ∙ sym (swap_is (y ∷ ys) k i y (omega arith) (omega arith)))
@@ -46,18 +48,24 @@ pub passed_more : {X : Type 0} (flags : List Bool) (ys : List X) (k i : ℕ) →
 passed_more flags [] k i l e t = absurd (omega arith)
 passed_more flags (y ∷ ys) k i l e t =
     let m : i < length (y ∷ ys) = omega arith in
-    ap₂ (λ us vs. take k (y ∷ ys) ++ items_where_true us vs) (sym (drop_here flags i false l ∙ ap (λ x. x ∷ drop (i + 1) flags) t)) (sym (drop_here (y ∷ ys) i y m))
+    ap₂ (λ us vs. take k (y ∷ ys) ++ items_where_true us vs) (sym (drop_here flags i false l ∙ ap (λ x. x ∷ drop (i + 1) flags) t))
+    (sym (drop_here (y ∷ ys) i y m))
 
 -- one item more is rewritten
-pub written_more : {X : Type 0} (f : X → X) (xs ys zs : List X) (i : ℕ) (d x : X) → zs ≡ xs → i < length zs → length ys ≡ length zs → ys ≡ map f (take i xs) ++ drop i xs → x ≡ f (get_or ys i d) → set ys i x ≡ map f (take (i + 1) xs) ++ drop (i + 1) xs
-written_more f xs ys zs i d x s l n e w = rw w (map_over_more f xs ys i (get_or ys i d) (omega (arith, ap length s)) e (get_or_default ys i d (get_or ys i d) (omega arith)))
+pub written_more : {X : Type 0} (f : X → X) (xs ys zs : List X) (i : ℕ) (d x : X) → zs ≡ xs → i < length zs → length ys ≡ length zs → ys ≡ map f (take i xs)
+    ++ drop i xs → x ≡ f (get_or ys i d) → set ys i x ≡ map f (take (i + 1) xs) ++ drop (i + 1) xs
+written_more f xs ys zs i d x s l n e w = rw w
+    (map_over_more f xs ys i (get_or ys i d) (omega (arith, ap length s)) e (get_or_default ys i d (get_or ys i d) (omega arith)))
 
 -- one number more, and all numbers
-pub numbered_more : (flags : List Bool) (numbers more all : List ℕ) (i n m : ℕ) → i < length flags → cond (get_or flags i false) (n + 1) n ≡ m → more ≡ numbers ++ n ∷ [] → numbers ++ new_numbers n (drop i flags) ≡ all
+pub numbered_more : (flags : List Bool) (numbers more all : List ℕ) (i n m : ℕ) → i < length flags → cond (get_or flags i false) (n + 1) n ≡ m → more ≡ numbers
+    ++ n ∷ [] → numbers ++ new_numbers n (drop i flags) ≡ all
     → more ++ new_numbers m (drop (i + 1) flags) ≡ all
 numbered_more flags numbers more all i n m l g e h =
-    let next : new_numbers n (drop i flags) ≡ n ∷ new_numbers m (drop (i + 1) flags) = ap (new_numbers n) (drop_here flags i false l) ∙ ap (λ k. n ∷ new_numbers k (drop (i + 1) flags)) g in
-    ap (λ xs. xs ++ new_numbers m (drop (i + 1) flags)) e ∙ append_assoc numbers (n ∷ []) (new_numbers m (drop (i + 1) flags)) ∙ ap (λ xs. numbers ++ xs) (sym next) ∙ h
+    let next : new_numbers n (drop i flags) ≡ n ∷ new_numbers m (drop (i + 1) flags) =
+    ap (new_numbers n) (drop_here flags i false l) ∙ ap (λ k. n ∷ new_numbers k (drop (i + 1) flags)) g in
+    ap (λ xs. xs ++ new_numbers m (drop (i + 1) flags)) e ∙ append_assoc numbers (n ∷ []) (new_numbers m (drop (i + 1) flags))
+    ∙ ap (λ xs. numbers ++ xs) (sym next) ∙ h
 
 pub numbered_all : (flags : List Bool) (numbers all : List ℕ) (i n : ℕ) → length flags ≤ i → numbers ++ new_numbers n (drop i flags) ≡ all → numbers ≡ all
 numbered_all flags numbers all i n l h = sym (append-nil numbers) ∙ ap (λ bs. numbers ++ new_numbers n bs) (sym (drop_of_length-le flags l)) ∙ h

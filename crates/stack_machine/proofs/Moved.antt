@@ -54,13 +54,15 @@ placed n (false ∷ flags) (x ∷ xs) (suc i) l s =
     let p = placed n flags xs i (omega arith) s in
     record { place = p.place; number = p.number; same = p.same }
 
-pub kept_item : {A : Type 0} (flags : List Bool) (xs : List A) (i : ℕ) → i < length xs → IsSet flags i → slice_get (items_where_true flags xs) (new_number (new_numbers 0 flags) i) ≡ slice_get xs i
+pub kept_item : {A : Type 0} (flags : List Bool) (xs : List A) (i : ℕ) → i < length xs → IsSet flags i
+    → slice_get (items_where_true flags xs) (new_number (new_numbers 0 flags) i) ≡ slice_get xs i
 kept_item flags xs i l s =
     let p = placed 0 flags xs i l s in
     let e : 0 + p.place ≡ p.place = omega arith in
     ap (λ o. slice_get (items_where_true flags xs) (unwrap_or o i)) (p.number ∙ ap Some e) ∙ p.same
 
-module _ (h : Holding) (r : Numbering) (t : Trees) (run : Run) (an bn : List Name) (names : (i : ℕ) → i < length an → IsSet h.names i → slice_get bn (new_number r.names i) ≡ slice_get an i) where
+module _ (h : Holding) (r : Numbering) (t : Trees) (run : Run) (an bn : List Name)
+    (names : (i : ℕ) → i < length an → IsSet h.names i → slice_get bn (new_number r.names i) ≡ slice_get an i) where
   abbrev pub before : List state.Objects → Stored
   before ls = record { trees = t; names = an; lists = ls; run = run }
 
@@ -72,7 +74,8 @@ module _ (h : Holding) (r : Numbering) (t : Trees) (run : Run) (an bn : List Nam
   Move al bl = (i : ℕ) → i < length al → IsSet h.cells i → slice_get bl (new_number r.cells i) ≡ slice_get al i
 
   -- one more, and one that is given up
-  move_more : (al bl : List state.Objects) (x y : state.Objects) → x ≡ y → new_number r.cells (length al) ≡ length bl → Move al bl → Move (al ++ x ∷ []) (bl ++ y ∷ [])
+  move_more : (al bl : List state.Objects) (x y : state.Objects) → x ≡ y → new_number r.cells (length al) ≡ length bl → Move al bl
+      → Move (al ++ x ∷ []) (bl ++ y ∷ [])
   move_more al bl x y e n m i l s = by_order (cases_lt i (length al))
     where
       here : i ≡ length al → slice_get (bl ++ y ∷ []) (new_number r.cells i) ≡ slice_get (al ++ x ∷ []) i
@@ -97,11 +100,13 @@ module _ (h : Holding) (r : Numbering) (t : Trees) (run : Run) (an bn : List Nam
       by_order (inr ge) = absurd (here (let n = length-append al (x ∷ []) in omega (arith, n)))
 
   -- a list and an object by the new numbers
-  list_known : (al bl : List state.Objects) → Move al bl → (xs : AList) → IsListKnown (before al) xs → IsListHeld h xs → IsListKnown (after bl) (numbered_list r xs)
+  list_known : (al bl : List state.Objects) → Move al bl → (xs : AList) → IsListKnown (before al) xs → IsListHeld h xs
+      → IsListKnown (after bl) (numbered_list r xs)
   list_known al bl m Empty k s = tt
   list_known al bl m (CellOf c) k s = within al bl c.0 (new_number r.cells c.0) (m c.0 k s) k
 
-  list_same : (al bl : List state.Objects) → Move al bl → (xs : AList) → IsListKnown (before al) xs → IsListHeld h xs → list_view (after bl) (numbered_list r xs) ≡ list_view (before al) xs
+  list_same : (al bl : List state.Objects) → Move al bl → (xs : AList) → IsListKnown (before al) xs → IsListHeld h xs
+      → list_view (after bl) (numbered_list r xs) ≡ list_view (before al) xs
   list_same al bl m Empty k s = refl
   list_same al bl m (CellOf c) k s = ap (λ o. unwrap_or o state.Objects.none) (m c.0 k s)
 
@@ -118,7 +123,8 @@ module _ (h : Holding) (r : Numbering) (t : Trees) (run : Run) (an bn : List Nam
   object_moved al bl m (object.TypeOperator n) k s = record { known = name_known n.0 k s; same = ap state.Object.type_operator (name_same n.0 k s) }
   object_moved al bl m (object.Type u) k s = record { known = k; same = refl }
   object_moved al bl m (object.Constant n) k s = record { known = name_known n.0 k s; same = ap state.Object.constant (name_same n.0 k s) }
-  object_moved al bl m (object.Variable n u) k s = record { known = (name_known n.0 k.0 s, k.1); same = ap (λ w. state.Object.variable (w, type_at t u.0)) (name_same n.0 k.0 s) }
+  object_moved al bl m (object.Variable n u) k s =
+      record { known = (name_known n.0 k.0 s, k.1); same = ap (λ w. state.Object.variable (w, type_at t u.0)) (name_same n.0 k.0 s) }
   object_moved al bl m (object.Term u) k s = record { known = record { known = k.known; typed = k.typed }; same = refl }
   object_moved al bl m (object.Theorem i) k s = record { known = k; same = refl }
 
@@ -135,16 +141,21 @@ module _ (h : Holding) (r : Numbering) (t : Trees) (run : Run) (an bn : List Nam
     pub held : (j : ℕ) (c : Cell) → slice_get cs j ≡ Some c → IsSet flags j → IsHeld h c.head × IsListHeld h c.tail
 
   -- one cell less is left
-  next_flagged : (b : Bool) (flags : List Bool) (al : List state.Objects) (x : state.Objects) → ((j : ℕ) → slice_get h.cells (length al + j) ≡ slice_get (b ∷ flags) j) → (j : ℕ) → slice_get h.cells (length (al ++ x ∷ []) + j) ≡ slice_get flags j
-  next_flagged b flags al x f j = let n = length-append al (x ∷ []) in let e : length (al ++ x ∷ []) + j ≡ length al + suc j = omega (arith, n) in ap (slice_get h.cells) e ∙ f (suc j)
+  next_flagged : (b : Bool) (flags : List Bool) (al : List state.Objects) (x : state.Objects)
+      → ((j : ℕ) → slice_get h.cells (length al + j) ≡ slice_get (b ∷ flags) j) → (j : ℕ) → slice_get h.cells (length (al ++ x ∷ []) + j) ≡ slice_get flags j
+  next_flagged b flags al x f j = let n = length-append al (x ∷ []) in let e : length (al ++ x ∷ []) + j ≡ length al + suc j =
+      omega (arith, n) in ap (slice_get h.cells) e ∙ f (suc j)
 
-  next_numbers : (al : List state.Objects) (x : state.Objects) (n k l : ℕ) (flags : List Bool) → l ≡ k → ((j : ℕ) → slice_get r.cells (length al + j) ≡ slice_get (n ∷ new_numbers k flags) j) → (j : ℕ) → slice_get r.cells (length (al ++ x ∷ []) + j) ≡ slice_get (new_numbers l flags) j
+  next_numbers : (al : List state.Objects) (x : state.Objects) (n k l : ℕ) (flags : List Bool) → l ≡ k
+      → ((j : ℕ) → slice_get r.cells (length al + j) ≡ slice_get (n ∷ new_numbers k flags) j) → (j : ℕ) → slice_get r.cells (length (al ++ x ∷ []) + j)
+      ≡ slice_get (new_numbers l flags) j
   next_numbers al x n k l flags q f j =
       let m = length-append al (x ∷ []) in
       let e : length (al ++ x ∷ []) + j ≡ length al + suc j = omega (arith, m) in
       ap (slice_get r.cells) e ∙ f (suc j) ∙ ap (λ i. slice_get (new_numbers i flags) j) (sym q)
 
-  left_kept : (flags : List Bool) (c : Cell) (cs : List Cell) (al bl : List state.Objects) (x y : state.Objects) → IsLeft (true ∷ flags) (c ∷ cs) al bl → IsLeft flags cs (al ++ x ∷ []) (bl ++ y ∷ [])
+  left_kept : (flags : List Bool) (c : Cell) (cs : List Cell) (al bl : List state.Objects) (x y : state.Objects) → IsLeft (true ∷ flags) (c ∷ cs) al bl
+      → IsLeft flags cs (al ++ x ∷ []) (bl ++ y ∷ [])
   left_kept flags c cs al bl x y g = record {
     long = let l = g.long in omega (arith, l);
     flagged = next_flagged true flags al x g.flagged;
@@ -152,7 +163,8 @@ module _ (h : Holding) (r : Numbering) (t : Trees) (run : Run) (an bn : List Nam
     held = λ j d e s. g.held (suc j) d e s;
   }
 
-  left_given : (flags : List Bool) (c : Cell) (cs : List Cell) (al bl : List state.Objects) (x : state.Objects) → IsLeft (false ∷ flags) (c ∷ cs) al bl → IsLeft flags cs (al ++ x ∷ []) bl
+  left_given : (flags : List Bool) (c : Cell) (cs : List Cell) (al bl : List state.Objects) (x : state.Objects) → IsLeft (false ∷ flags) (c ∷ cs) al bl
+      → IsLeft flags cs (al ++ x ∷ []) bl
   left_given flags c cs al bl x g = record {
     long = let l = g.long in omega (arith, l);
     flagged = next_flagged false flags al x g.flagged;
@@ -161,12 +173,14 @@ module _ (h : Holding) (r : Numbering) (t : Trees) (run : Run) (an bn : List Nam
   }
 
   -- the next number is the new one of a cell that is kept
-  next_number : (al bl : List state.Objects) (rest : List ℕ) → ((j : ℕ) → slice_get r.cells (length al + j) ≡ slice_get (length bl ∷ rest) j) → new_number r.cells (length al) ≡ length bl
+  next_number : (al bl : List state.Objects) (rest : List ℕ) → ((j : ℕ) → slice_get r.cells (length al + j) ≡ slice_get (length bl ∷ rest) j)
+      → new_number r.cells (length al) ≡ length bl
   next_number al bl rest f =
       let e : length al ≡ length al + 0 = omega arith in
       ap (λ o. unwrap_or o (length al)) (ap (slice_get r.cells) e ∙ f 0)
 
-  pub cells_moved : (flags : List Bool) (cs : List Cell) (al bl : List state.Objects) → IsLeft flags cs al bl → Move al bl → AreCells (before al) cs → AreMoved al bl cs (map (numbered_cell r) (items_where_true flags cs))
+  pub cells_moved : (flags : List Bool) (cs : List Cell) (al bl : List state.Objects) → IsLeft flags cs al bl → Move al bl → AreCells (before al) cs
+      → AreMoved al bl cs (map (numbered_cell r) (items_where_true flags cs))
   cells_moved [] [] al bl g m k = record { lists = m; cells = tt }
   cells_moved (b ∷ flags) [] al bl g m k = absurd (let l = g.long in omega (arith, l))
   cells_moved [] (c ∷ cs) al bl g m k = absurd (let l = g.long in omega (arith, l))
@@ -175,9 +189,11 @@ module _ (h : Holding) (r : Numbering) (t : Trees) (run : Run) (an bn : List Nam
       let head = object_moved al bl m c.head k.0 s.0 in
       let tail = list_same al bl m c.tail k.1 s.1 in
       let same : cell_view (before al) c ≡ cell_view (after bl) (numbered_cell r c) = sym (ap₂ state.Objects.more head.same tail) in
-      let rest = cells_moved flags cs (al ++ cell_view (before al) c ∷ []) (bl ++ cell_view (after bl) (numbered_cell r c) ∷ []) (left_kept flags c cs al bl _ _ g) (move_more al bl _ _ same (next_number al bl _ g.numbers) m) k.2 in
+      let rest = cells_moved flags cs (al ++ cell_view (before al) c ∷ []) (bl ++ cell_view (after bl) (numbered_cell r c) ∷ [])
+      (left_kept flags c cs al bl _ _ g) (move_more al bl _ _ same (next_number al bl _ g.numbers) m) k.2 in
       record { lists = rest.lists; cells = (head.known, list_known al bl m c.tail k.1 s.1, rest.cells) }
   cells_moved (false ∷ flags) (c ∷ cs) al bl g m k =
       let e : length al ≡ length al + 0 = omega arith in
-      let rest = cells_moved flags cs (al ++ cell_view (before al) c ∷ []) bl (left_given flags c cs al bl _ g) (move_less al bl _ (ap (slice_get h.cells) e ∙ g.flagged 0) m) k.2 in
+      let rest = cells_moved flags cs (al ++ cell_view (before al) c ∷ []) bl (left_given flags c cs al bl _ g)
+      (move_less al bl _ (ap (slice_get h.cells) e ∙ g.flagged 0) m) k.2 in
       record { lists = rest.lists; cells = rest.cells }

@@ -65,10 +65,12 @@ memory_fails fault r e = rw e tt
 
 -- the conditions of what is made, met and refused
 module _ {B : Type 0} (p : Result B Kind) where
-  pub application_passes : (t : Term) (y : Result B Kind) → application_fits t ≡ Ok tt → p ≡ y → (demand (is_some (type_of t)) TypeMismatch >> (term_in_limits t >> p)) ≡ y
+  pub application_passes : (t : Term) (y : Result B Kind) → application_fits t ≡ Ok tt → p ≡ y
+      → (demand (is_some (type_of t)) TypeMismatch >> (term_in_limits t >> p)) ≡ y
   application_passes t y e h = conditions_pass (demand (is_some (type_of t)) TypeMismatch) (term_in_limits t) p y e h
 
-  pub application_fails : (t : Term) (fault : Fault) → Fails fault (application_fits t) → Fails fault (demand (is_some (type_of t)) TypeMismatch >> (term_in_limits t >> p))
+  pub application_fails : (t : Term) (fault : Fault) → Fails fault (application_fits t)
+      → Fails fault (demand (is_some (type_of t)) TypeMismatch >> (term_in_limits t >> p))
   application_fails t fault h = conditions_fail fault (demand (is_some (type_of t)) TypeMismatch) (term_in_limits t) p h
 
   pub constant_passes : (symbols : List Symbol) (n : Name) (a : HolType) (y : Result B Kind) → constant_fits symbols n a ≡ Ok tt → p ≡ y
@@ -85,15 +87,18 @@ module _ {B : Type 0} (p : Result B Kind) where
 
   pub operator_fails : (symbols : List Symbol) (n : Name) (ts : List HolType) (fault : Fault) → Fails fault (operator_fits symbols n ts)
       → Fails fault (arity_fits (operator_arity symbols n) (length ts) >> (type_in_limits (operator n (types_of ts)) >> p))
-  operator_fails symbols n ts fault h = conditions_fail fault (arity_fits (operator_arity symbols n) (length ts)) (type_in_limits (operator n (types_of ts))) p h
+  operator_fails symbols n ts fault h = conditions_fail fault (arity_fits (operator_arity symbols n) (length ts)) (type_in_limits (operator n (types_of ts))) p
+      h
 
 -- an empty list has no first element
-pub hdTl-none : (s : State) (below : List state.Object) (xs : state.Objects) → pop as_list s.stack ≡ Ok (xs, below) → xs ≡ state.Objects.none → obey s word.HdTl ≡ Err EmptyList
+pub hdTl-none : (s : State) (below : List state.Object) (xs : state.Objects) → pop as_list s.stack ≡ Ok (xs, below) → xs ≡ state.Objects.none → obey s word.HdTl
+    ≡ Err EmptyList
 hdTl-none s below xs e f = rw (e, f) refl
 
 module _ {word : Word} {a b : Stored} {stack : List Object} where
   -- a fault, where more may be kept
-  pub failed : (r : Result (Unit {0}) Fault) (x : Fault) → IsErrAnd r (λ e. e ≡ x) → AreKnown a stack → Grows a b → b.run ≡ a.run → ((s : State) → Fails x (obey (shown a stack s) word)) → Obeys word a stack b stack r
+  pub failed : (r : Result (Unit {0}) Fault) (x : Fault) → IsErrAnd r (λ e. e ≡ x) → AreKnown a stack → Grows a b → b.run ≡ a.run
+      → ((s : State) → Fails x (obey (shown a stack s) word)) → Obeys word a stack b stack r
   failed (Ok y) x h k g e f = absurd h
   failed (Err z) x h k g e f = record {
     taken = tt;
@@ -105,7 +110,8 @@ module _ {word : Word} {a b : Stored} {stack : List Object} where
   }
 
   -- some objects in place of so many on top
-  pub placed : {new : List Object} (n : ℕ) (ys : List Object) (vs : List state.Object) (run : Run) → AreKnown a stack → Grows a b → new ≡ ys ++ drop n stack → AreKnown b ys → objects_view b ys ≡ vs → b.run ≡ run
+  pub placed : {new : List Object} (n : ℕ) (ys : List Object) (vs : List state.Object) (run : Run) → AreKnown a stack → Grows a b → new ≡ ys ++ drop n stack
+      → AreKnown b ys → objects_view b ys ≡ vs → b.run ≡ run
       → ((s : State) → obey (shown a stack s) word ≡ Ok (in_state s (vs ++ objects_view a (drop n stack)) run)) → Obeys word a stack b new (Ok tt)
   placed {new = new} n ys vs run k g e l v f h = record {
     taken = λ s. h s ∙ ap₂ (λ xs ys. Ok (in_state s xs ys)) (sym (placed-view g stack new ys n k e vs v)) (sym f);
@@ -117,11 +123,13 @@ module _ {word : Word} {a b : Stored} {stack : List Object} where
   }
 
 -- a fault, where nothing changes
-pub stopped : {word : Word} {a : Stored} {stack : List Object} (r : Result (Unit {0}) Fault) (x : Fault) → IsErrAnd r (λ e. e ≡ x) → AreKnown a stack → ((s : State) → Fails x (obey (shown a stack s) word)) → Obeys word a stack a stack r
+pub stopped : {word : Word} {a : Stored} {stack : List Object} (r : Result (Unit {0}) Fault) (x : Fault) → IsErrAnd r (λ e. e ≡ x) → AreKnown a stack
+    → ((s : State) → Fails x (obey (shown a stack s) word)) → Obeys word a stack a stack r
 stopped {a = a} r x h k f = failed r x h k (Grows-refl a) refl f
 
 -- a word that is obeyed in each article is obeyed in one of a version
-pub Obeys-In : (version : Version) {word : Word} {a b : Stored} {stack new : List Object} (r : Result (Unit {0}) Fault) → Obeys word a stack b new r → ObeysIn version word a stack b new r
+pub Obeys-In : (version : Version) {word : Word} {a b : Stored} {stack new : List Object} (r : Result (Unit {0}) Fault) → Obeys word a stack b new r
+    → ObeysIn version word a stack b new r
 Obeys-In version (Ok x) h = record { taken = λ s v. h.taken s; refused = tt; known = h.known; grows = h.grows; same = tt; run = tt }
 Obeys-In version (Err x) h = record { taken = tt; refused = λ s v. h.refused s; known = h.known; grows = h.grows; same = h.same; run = h.run }
 

@@ -26,7 +26,8 @@ objects_view-Grows h (x ∷ xs) k = ap₂ (λ y ys. y ∷ ys) (object_view-Grows
 -- objects in place of so many on top
 module _ {a b : Stored} (h : Grows a b) (stack new ys : List Object) (n : ℕ) (k : AreKnown a stack) (e : new ≡ ys ++ drop n stack) where
   pub placed-view : (vs : List state.Object) → objects_view b ys ≡ vs → objects_view b new ≡ vs ++ objects_view a (drop n stack)
-  placed-view vs v = ap (objects_view b) e ∙ map-append (object_view b) ys (drop n stack) ∙ ap₂ (λ us ws. us ++ ws) v (sym (objects_view-Grows h (drop n stack) (known-drop a n stack k)))
+  placed-view vs v = ap (objects_view b) e ∙ map-append (object_view b) ys (drop n stack) ∙ ap₂ (λ us ws. us ++ ws) v
+      (sym (objects_view-Grows h (drop n stack) (known-drop a n stack k)))
 
   pub placed-known : AreKnown b ys → AreKnown b new
   placed-known l = subst (AreKnown b) (sym e) (known-append b ys (drop n stack) l (AreKnown-Grows h (drop n stack) (known-drop a n stack k)))

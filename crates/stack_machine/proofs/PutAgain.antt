@@ -52,15 +52,18 @@ lists-exact : (a b : Lists) → is_at (lists_cmp a) b ≡ true → a ≡ b
 lists-exact a b h = lists-same a b (matches_eq-law a b ∙ h)
 
 -- what is found for lists is what they put
-found : (m : Stored) (lists : Lists) (es : List (Lists × Substitution)) (put : Substitution) → AreRemembered m es → lookup (is_at (lists_cmp lists)) es ≡ Some put → IsPutBy m lists put
+found : (m : Stored) (lists : Lists) (es : List (Lists × Substitution)) (put : Substitution) → AreRemembered m es → lookup (is_at (lists_cmp lists)) es
+    ≡ Some put → IsPutBy m lists put
 found m lists [] put h e = absurd (cc)
 found m lists (x ∷ es) put h e = either (is_at (lists_cmp lists) x.0) refl e (found m lists es put h.1)
   where
-    either : (b : Bool) → is_at (lists_cmp lists) x.0 ≡ b → cond b (Some x.1) (lookup (is_at (lists_cmp lists)) es) ≡ Some put → (lookup (is_at (lists_cmp lists)) es ≡ Some put → IsPutBy m lists put) → IsPutBy m lists put
+    either : (b : Bool) → is_at (lists_cmp lists) x.0 ≡ b → cond b (Some x.1) (lookup (is_at (lists_cmp lists)) es) ≡ Some put
+        → (lookup (is_at (lists_cmp lists)) es ≡ Some put → IsPutBy m lists put) → IsPutBy m lists put
     either true d g r = let s : x.1 ≡ put = cc in subst (IsPutBy m lists) s (subst (λ l. IsPutBy m l x.1) (sym (lists-exact lists x.0 d)) h.0)
     either false d g r = r g
 
-pub found-put : (m : Stored) (lists : Lists) (es : List (Lists × Substitution)) (o : Option Substitution) → o ≡ lookup (is_at (lists_cmp lists)) es → AreRemembered m es → IfSome o (IsPutBy m lists)
+pub found-put : (m : Stored) (lists : Lists) (es : List (Lists × Substitution)) (o : Option Substitution) → o ≡ lookup (is_at (lists_cmp lists)) es
+    → AreRemembered m es → IfSome o (IsPutBy m lists)
 found-put m lists es None e h = tt
 found-put m lists es (Some put) e h = found m lists es put h (sym e)
 
@@ -70,11 +73,13 @@ borrowed P None h = tt
 borrowed P (Some x) h = h
 
 -- one more is remembered, or another in its place
-pub kept-remembered : (m : Stored) (lists : Lists) (put : Substitution) (es : List (Lists × Substitution)) → AreRemembered m es → IsPutBy m lists put → AreRemembered m (insert_entry lists_cmp es lists put)
+pub kept-remembered : (m : Stored) (lists : Lists) (put : Substitution) (es : List (Lists × Substitution)) → AreRemembered m es → IsPutBy m lists put
+    → AreRemembered m (insert_entry lists_cmp es lists put)
 kept-remembered m lists put [] h l = (l, tt)
 kept-remembered m lists put (x ∷ es) h l = either (lists_cmp lists x.0) refl (kept-remembered m lists put es h.1 l)
   where
-    either : (r : Ordering) → lists_cmp lists x.0 ≡ r → AreRemembered m (insert_entry lists_cmp es lists put) → AreRemembered m (match_ordering r ((lists, put) ∷ x ∷ es) ((x.0, put) ∷ es) (x ∷ insert_entry lists_cmp es lists put))
+    either : (r : Ordering) → lists_cmp lists x.0 ≡ r → AreRemembered m (insert_entry lists_cmp es lists put)
+        → AreRemembered m (match_ordering r ((lists, put) ∷ x ∷ es) ((x.0, put) ∷ es) (x ∷ insert_entry lists_cmp es lists put))
     either Less d k = (l, h)
     either Equal d k = (subst (λ lists. IsPutBy m lists put) (lists-exact lists x.0 (ap is_eq d)) l, h.1)
     either Greater d k = (h.0, k)
@@ -90,12 +95,16 @@ module _ {a b : Trees} (k : Keeps a b) where
 
   pairs-Keep : (ps : List (Variable × TermId)) → AreTermPairs a ps → term_pairs_at a ps ≡ term_pairs_at b ps
   pairs-Keep [] h = refl
-  pairs-Keep (p ∷ ps) h = ap₂ (λ q l. q ∷ l) (ap₂ (λ t u. ((p.0.name, t), u)) (type_law.tree_at-Stays k.types.stays p.0.ty.0 h.0) (term-stays p.1.0 h.1.0)) (pairs-Keep ps h.1.1)
+  pairs-Keep (p ∷ ps) h = ap₂ (λ q l. q ∷ l) (ap₂ (λ t u. ((p.0.name, t), u)) (type_law.tree_at-Stays k.types.stays p.0.ty.0 h.0) (term-stays p.1.0 h.1.0))
+      (pairs-Keep ps h.1.1)
 
   fits-Keep : (ps : List (Variable × TermId)) → AreTermPairs a ps → ArePairsFitting a ps → ArePairsFitting b ps
   fits-Keep [] h f = tt
-  fits-Keep (p ∷ ps) h f =
-      (subst (HasType (term_at b p.1.0)) (type_law.tree_at-Stays k.types.stays p.0.ty.0 h.0) (subst (λ t. HasType t (type_at a p.0.ty.0)) (term-stays p.1.0 h.1.0) f.0), fits-Keep ps h.1.1 f.1)
+  fits-Keep (p ∷ ps) h f = (
+    subst (HasType (term_at b p.1.0)) (type_law.tree_at-Stays k.types.stays p.0.ty.0 h.0)
+        (subst (λ t. HasType t (type_at a p.0.ty.0)) (term-stays p.1.0 h.1.0) f.0),
+    fits-Keep ps h.1.1 f.1,
+  )
 
   ready-Keep : (put : Substitution) → IsReady a put → IsReady b put
   ready-Keep put h = record {

@@ -84,7 +84,8 @@ pair-kind : (x : state.Object) → IsReadOnly (pair_of as_name as_type x)
 pair-kind x =
     subst IsReadOnly (sym (pair_of-two as_name as_type x))
     (bind-kind (ok_or (two_objects x) WrongKind) (read_both as_name as_type) (two-kind (two_objects x))
-    (λ p. bind-kind (as_name p.0) (λ a. as_type p.1 >>= λ b. Ok (a, b)) (name-kind p.0) (λ a. bind-kind (as_type p.1) (λ b. Ok (a, b)) (type-kind p.1) (λ b. tt))))
+    (λ p. bind-kind (as_name p.0) (λ a. as_type p.1 >>= λ b. Ok (a, b)) (name-kind p.0)
+    (λ a. bind-kind (as_type p.1) (λ b. Ok (a, b)) (type-kind p.1) (λ b. tt))))
 
 pairs-kind : (xs : state.Objects) → IsReadOnly (each (pair_of as_name as_type) xs)
 pairs-kind state.Objects.none = tt
@@ -113,7 +114,8 @@ lists-before {A} {B} f g only (Ok xs) (Err k) h = go (f xs) (only xs)
 -- a substitution is what its two lists hold
 as_substitution-lists : (x : state.Object) → as_substitution x ≡ (as_lists x >>= pairs_of)
 as_substitution-lists x =
-    pair_of-two (list_of (pair_of as_name as_type)) (list_of (pair_of as_variable as_term)) x ∙ go (ok_or (two_objects x) WrongKind) ∙ sym (ap (λ r. r >>= pairs_of) (pair_of-two as_list as_list x))
+    pair_of-two (list_of (pair_of as_name as_type)) (list_of (pair_of as_variable as_term)) x ∙ go (ok_or (two_objects x) WrongKind)
+    ∙ sym (ap (λ r. r >>= pairs_of) (pair_of-two as_list as_list x))
   where
     go : (r : Result (state.Object × state.Object) Kind)
         → (r >>= read_both (list_of (pair_of as_name as_type)) (list_of (pair_of as_variable as_term))) ≡ ((r >>= read_both as_list as_list) >>= pairs_of)
@@ -129,7 +131,8 @@ popped-lists : (objects : List state.Object) → pop as_substitution objects ≡
 popped-lists [] = refl
 popped-lists (x ∷ below) = ap (λ r. r >>= over below) (as_substitution-lists x) ∙ go (as_lists x)
   where
-    go : (r : Result (state.Objects × state.Objects) Kind) → ((r >>= pairs_of) >>= over below) ≡ (◌>>=◌ {B = (state.Objects × state.Objects) × List state.Object} r (λ top. Ok (top, below)) >>= λ p. (pairs_of p.0 >>= over p.1))
+    go : (r : Result (state.Objects × state.Objects) Kind) → ((r >>= pairs_of) >>= over below)
+        ≡ (◌>>=◌ {B = (state.Objects × state.Objects) × List state.Object} r (λ top. Ok (top, below)) >>= λ p. (pairs_of p.0 >>= over p.1))
     go (Ok lists) = refl
     go (Err k) = refl
 
@@ -141,14 +144,16 @@ err-fails A B (Refused j) k h = let e : k ≡ j = cc in ap Err e
 module _ (s : State) (i : ℕ) (below : List state.Object) (e : pop as_theorem s.stack ≡ Ok (i, below)) where
   -- the lists are missing, or are none
   pub lists-fail : (fault : Fault) → Fails fault (pop as_lists below) → Fails fault (obey s word.Subst)
-  lists-fail fault h = next_fails fault _ _ _ e (first_fails fault _ _ (subst (Fails fault) (sym (popped-lists below)) (first_fails fault (pop as_lists below) _ h)))
+  lists-fail fault h = next_fails fault _ _ _ e
+      (first_fails fault _ _ (subst (Fails fault) (sym (popped-lists below)) (first_fails fault (pop as_lists below) _ h)))
 
   module _ (lists : state.Objects × state.Objects) (rest : List state.Object) (f : pop as_lists below ≡ Ok (lists, rest)) where
     pairs-popped : (r : Result (TypePairs × TermPairs) Kind) → pairs_of lists ≡ r → pop as_substitution below ≡ (r >>= over rest)
     pairs-popped r g = popped-lists below ∙ next _ _ _ _ f (ap (λ r. r >>= over rest) g)
 
     -- the lists hold these pairs
-    pub subst-obeyed : (types : TypePairs) (terms : TermPairs) → pairs_of lists ≡ Ok (types, terms) → obey s word.Subst ≡ by_step (subst_step s.made types terms i) (with_stack s rest)
+    pub subst-obeyed : (types : TypePairs) (terms : TermPairs) → pairs_of lists ≡ Ok (types, terms) → obey s word.Subst
+        ≡ by_step (subst_step s.made types terms i) (with_stack s rest)
     subst-obeyed types terms g = obey-Subst s i types terms below rest e (pairs-popped (Ok (types, terms)) g)
 
     -- they hold other than pairs, or pairs that don't fit
@@ -158,13 +163,16 @@ module _ (s : State) (i : ℕ) (below : List state.Object) (e : pop as_theorem s
         go : (r : Result (TypePairs × TermPairs) Kind) → pairs_of lists ≡ r → Fails fault (r >>= λ p. pairs_fit p.1) → Fails fault (obey s word.Subst)
         go (Err k) g d = next_fails fault _ _ _ e (first_fails fault _ _ (subst (Fails fault) (sym (pairs-popped (Err k) g)) (err-fails _ _ fault k d)))
         go (Ok p) g d =
-            subst (Fails fault) (sym (subst-obeyed p.0 p.1 g)) (first_fails fault (subst_step s.made p.0 p.1 i) (conclude (with_stack s rest)) (condition_fails fault (pairs_fit p.1) _ d))
+            subst (Fails fault) (sym (subst-obeyed p.0 p.1 g))
+            (first_fails fault (subst_step s.made p.0 p.1 i) (conclude (with_stack s rest)) (condition_fails fault (pairs_fit p.1) _ d))
 
 -- an object that isn't read
-pub unread : {A B : Type 0} {m : Stored} {as_one : state.Object → Result A Kind} {value : B → A} {IsOne : B → Type 0} {x : Object} (r : Result B Fault) (fault : Fault)
+pub unread : {A B : Type 0} {m : Stored} {as_one : state.Object → Result A Kind} {value : B → A} {IsOne : B → Type 0} {x : Object} (r : Result B Fault)
+    (fault : Fault)
     → IsErrAnd r (λ e. e ≡ fault) → Fails fault (as_one (object_view m x)) → Reads m as_one value IsOne x r
 unread (Ok y) fault h f = absurd h
-unread {m = m} {as_one} {value} {IsOne} {x} (Err e) fault h f = record { taken = tt; known = tt; refused = subst (λ w. Fails w (as_one (object_view m x))) (sym h) f }
+unread {m = m} {as_one} {value} {IsOne} {x} (Err e) fault h f =
+    record { taken = tt; known = tt; refused = subst (λ w. Fails w (as_one (object_view m x))) (sym h) f }
 
 -- what two lists hold, read one after the other
 module _ (m : Stored) (lists : Lists) where
@@ -187,11 +195,13 @@ module _ (m : Stored) (lists : Lists) where
       pairs-read : pairs_of (lists_view m lists) ≡ Ok (pairs_at m.trees.types types, term_pairs_at m.trees terms)
       pairs-read = next as_types (λ a. as_terms >>= λ b. Ok (a, b)) _ _ e (next as_terms (λ b. Ok (pairs_at m.trees.types types, b)) _ _ f refl)
 
-      pub pairs-unfit : (r : Result Substitution Fault) → IfErr r (λ fault. Fails fault (pairs_fit (term_pairs_at m.trees terms))) → IfErr r (λ fault. Fails fault (lists_fit (lists_view m lists)))
+      pub pairs-unfit : (r : Result Substitution Fault) → IfErr r (λ fault. Fails fault (pairs_fit (term_pairs_at m.trees terms)))
+          → IfErr r (λ fault. Fails fault (lists_fit (lists_view m lists)))
       pairs-unfit r h = IfErr-map r _ _ h (λ fault d. next_fails fault (pairs_of (lists_view m lists)) (λ p. pairs_fit p.1) _ pairs-read d)
 
       pub put-read : AreListsKnown m lists → ArePairsKnown m.trees.types types → AreTermPairs m.trees terms → (r : Result Substitution Fault)
-          → IfOk r (λ put. put.types.items ≡ types) → IfOk r (λ put. put.terms.items ≡ terms) → OnOk r (ArePairsFitting m.trees terms) → IfOk r (IsPutBy m lists)
+          → IfOk r (λ put. put.types.items ≡ types) → IfOk r (λ put. put.terms.items ≡ terms) → OnOk r (ArePairsFitting m.trees terms)
+          → IfOk r (IsPutBy m lists)
       put-read known k l (Err fault) t u fits = tt
       put-read known k l (Ok put) t u fits = record {
         known = known;

@@ -24,7 +24,8 @@ known-at m (y ∷ xs) (suc d) x e k = known-at m xs d x e k.1
 
 module _ {A B : Type 0} (m : Stored) (as_one : state.Object → Result A Kind) (value : B → A) (IsOne : B → Type 0) (stack : List Object) (depth : ℕ) where
   -- what is read of the object there
-  pub operand-there : (x : Object) (result : Result B Fault) → slice_get stack depth ≡ Some x → Reads m as_one value IsOne x result → Operand m as_one value IsOne stack depth result
+  pub operand-there : (x : Object) (result : Result B Fault) → slice_get stack depth ≡ Some x → Reads m as_one value IsOne x result
+      → Operand m as_one value IsOne stack depth result
   operand-there x (Ok y) e h = record {
     taken = rw (drop-at stack depth x e, h.taken) refl;
     there = slice_get_within stack depth x e;
@@ -53,12 +54,14 @@ answered x y u v e = (ap (first_or x) e, ap (second_or u) e)
 
 -- a list of objects of one kind on top
 module _ {A : Type 0} (as_one : state.Object → Result A Kind) where
-  elements_popped : (objects below : List state.Object) (xs : state.Objects) (ys : List A) → pop as_list objects ≡ Ok (xs, below) → each as_one xs ≡ Ok ys → pop (list_of as_one) objects ≡ Ok (ys, below)
+  elements_popped : (objects below : List state.Object) (xs : state.Objects) (ys : List A) → pop as_list objects ≡ Ok (xs, below) → each as_one xs ≡ Ok ys
+      → pop (list_of as_one) objects ≡ Ok (ys, below)
   elements_popped [] below xs ys p e = absurd (cc)
   elements_popped (state.Object.list zs ∷ rest) below xs ys p e = let f = answered zs xs rest below p in rw (f.0, f.1, e) refl
   elements_popped (x ∷ rest) below xs ys p e = absurd (cc)
 
-  elements_fail : (fault : Fault) (objects below : List state.Object) (xs : state.Objects) → pop as_list objects ≡ Ok (xs, below) → Fails fault (each as_one xs) → Fails fault (pop (list_of as_one) objects)
+  elements_fail : (fault : Fault) (objects below : List state.Object) (xs : state.Objects) → pop as_list objects ≡ Ok (xs, below) → Fails fault (each as_one xs)
+      → Fails fault (pop (list_of as_one) objects)
   elements_fail Memory objects below xs p h = tt
   elements_fail (Refused k) [] below xs p h = absurd (cc)
   elements_fail (Refused k) (state.Object.list zs ∷ rest) below xs p h = let f = answered zs xs rest below p in rw (f.0, h) refl
@@ -72,12 +75,20 @@ module _ {A : Type 0} (as_one : state.Object → Result A Kind) where
 
   module _ {B : Type 0} (m : Stored) (value : B → List A) (IsOne : B → Type 0) (stack : List Object) (depth : ℕ) where
     -- no list is there
-    pub elements-unread : (r : Result B Fault) (x : Fault) → IsErrAnd r (λ e. e ≡ x) → Fails x (pop as_list (objects_view m (drop depth stack))) → Operand m (list_of as_one) value IsOne stack depth r
+    pub elements-unread : (r : Result B Fault) (x : Fault) → IsErrAnd r (λ e. e ≡ x) → Fails x (pop as_list (objects_view m (drop depth stack)))
+        → Operand m (list_of as_one) value IsOne stack depth r
     elements-unread (Ok y) x h f = absurd h
-    elements-unread (Err e) x h f = record { taken = tt; there = tt; known = tt; refused = subst (λ w. Fails w (pop (list_of as_one) (objects_view m (drop depth stack)))) (sym h) (list_fails x _ f) }
+    elements-unread (Err e) x h f = record {
+      taken = tt;
+      there = tt;
+      known = tt;
+      refused = subst (λ w. Fails w (pop (list_of as_one) (objects_view m (drop depth stack)))) (sym h)
+          (list_fails x _ f);
+    }
 
     -- the elements of the list there are read
-    pub elements-read : (xs : AList) (r : Result B Fault) → Operand m as_list (list_view m) (IsListKnown m) stack depth (Ok xs) → IfOk r (λ ys. each as_one (list_view m xs) ≡ Ok (value ys)) → IfOk r IsOne
+    pub elements-read : (xs : AList) (r : Result B Fault) → Operand m as_list (list_view m) (IsListKnown m) stack depth (Ok xs)
+        → IfOk r (λ ys. each as_one (list_view m xs) ≡ Ok (value ys)) → IfOk r IsOne
         → IfErr r (λ fault. Fails fault (each as_one (list_view m xs))) → Operand m (list_of as_one) value IsOne stack depth r
     elements-read xs (Ok ys) h e k f = record { taken = elements_popped _ _ _ _ h.taken e; there = h.there; known = λ _. k; refused = tt }
     elements-read xs (Err x) h e k f = record { taken = tt; there = tt; known = tt; refused = elements_fail x _ _ _ h.taken f }

@@ -23,14 +23,17 @@ module _ (s : State) (t : Term) (rest : List state.Object) (e : pop as_term s.st
   pub obey-BetaConv : obey s word.BetaConv ≡ by_step (beta_conv_step t) (with_stack s rest)
   obey-BetaConv = next _ _ _ _ e refl
 
-pub obey-Sym : (s : State) (i : ℕ) (rest : List state.Object) → pop as_theorem s.stack ≡ Ok (i, rest) → obey s word.Sym ≡ by_step (sym_step s.made i) (with_stack s rest)
+pub obey-Sym : (s : State) (i : ℕ) (rest : List state.Object) → pop as_theorem s.stack ≡ Ok (i, rest) → obey s word.Sym
+    ≡ by_step (sym_step s.made i) (with_stack s rest)
 obey-Sym s i rest e = next _ _ _ _ e refl
 
-pub obey-AbsThm : (s : State) (i : ℕ) (v : Variable) (below rest : List state.Object) → pop as_theorem s.stack ≡ Ok (i, below) → pop as_variable below ≡ Ok (v, rest)
+pub obey-AbsThm : (s : State) (i : ℕ) (v : Variable) (below rest : List state.Object) → pop as_theorem s.stack ≡ Ok (i, below) → pop as_variable below
+    ≡ Ok (v, rest)
     → obey s word.AbsThm ≡ by_step (abs_thm_step s.made v i) (with_stack s rest)
 obey-AbsThm s i v below rest e f = next _ _ _ _ e (next _ _ _ _ f refl)
 
-pub obey-Subst : (s : State) (i : ℕ) (types : TypePairs) (terms : TermPairs) (below rest : List state.Object) → pop as_theorem s.stack ≡ Ok (i, below) → pop as_substitution below ≡ Ok ((types, terms), rest)
+pub obey-Subst : (s : State) (i : ℕ) (types : TypePairs) (terms : TermPairs) (below rest : List state.Object) → pop as_theorem s.stack ≡ Ok (i, below)
+    → pop as_substitution below ≡ Ok ((types, terms), rest)
     → obey s word.Subst ≡ by_step (subst_step s.made types terms i) (with_stack s rest)
 obey-Subst s i types terms below rest e f = next _ _ _ _ e (next _ _ _ _ f refl)
 
@@ -52,7 +55,8 @@ module _ (s : State) (i j : ℕ) (below rest : List state.Object) (e : pop as_th
   obey-ProveHyp = next _ _ _ _ e (next _ _ _ _ f refl)
 
 -- what is stated
-module _ (s : State) (c : Term) (hs : List Term) (below rest : List state.Object) (e : pop as_term s.stack ≡ Ok (c, below)) (f : pop as_terms below ≡ Ok (hs, rest)) where
+module _ (s : State) (c : Term) (hs : List Term) (below rest : List state.Object) (e : pop as_term s.stack ≡ Ok (c, below))
+    (f : pop as_terms below ≡ Ok (hs, rest)) where
   pub obey-Axiom : obey s word.Axiom ≡ assuming hs c (with_stack s rest)
   obey-Axiom = next _ _ _ _ e (next _ _ _ _ f refl)
 

@@ -78,7 +78,8 @@ module _ {A : Type 0} (test : A → Bool) where
   pub find-later : (x : A) (xs : List A) → test x ≡ false → find test (x ∷ xs) ≡ find test xs
   find-later x xs e = ap (λ b. cond b (Some x) (find test xs)) e
 
-pub found-step : (made : List Made) (test : ℕ → Bool) (ids : List ℕ) (r : Option ℕ) → AreSteps made ids → r ≡ find test ids → IfSome r (λ i. i < length (steps_of made))
+pub found-step : (made : List Made) (test : ℕ → Bool) (ids : List ℕ) (r : Option ℕ) → AreSteps made ids → r ≡ find test ids
+    → IfSome r (λ i. i < length (steps_of made))
 found-step made test ids None h e = tt
 found-step made test ids (Some i) h e = find-All test (λ j. j < length (steps_of made)) ids i h (sym e)
 
@@ -86,7 +87,8 @@ found-step made test ids (Some i) h e = find-All test (λ j. j < length (steps_o
 pub known_term : (trees : Trees) (id : ℕ) → IsTermAt trees id → id < length trees.terms
 known_term trees id h = go (slice_get_cases trees.terms id).1
   where
-    go : ((x : Term) × (id < length trees.terms) × (slice_get trees.terms id ≡ Some x) × (get_or trees.terms id x ≡ x)) ⊎ ((length trees.terms ≤ id) × (slice_get trees.terms id ≡ None)) → id < length trees.terms
+    go : ((x : Term) × (id < length trees.terms) × (slice_get trees.terms id ≡ Some x) × (get_or trees.terms id x ≡ x))
+        ⊎ ((length trees.terms ≤ id) × (slice_get trees.terms id ≡ None)) → id < length trees.terms
     go (inl w) = w.1
     go (inr w) = absurd (let e = ap (λ o. unwrap_or o (bound 0)) w.1 in let f = subst IsTerm e h in cc)
 
@@ -123,7 +125,8 @@ module _ (kept : Kept) (sequent : Numbered) where
       go (is_same_at kept.trees sequent s)
       ∙ ap₂ (λ b o. cond b (Some s.step) o) (ap (λ t. same t (numbers.sequent_at kept.trees sequent)) (sym h.0.says)) (find-said pool h.1)
     where
-      go : (b : Bool) → step_of (cond b (Some s) (find (is_same_at kept.trees sequent) pool)) ≡ cond b (Some s.step) (step_of (find (is_same_at kept.trees sequent) pool))
+      go : (b : Bool) → step_of (cond b (Some s) (find (is_same_at kept.trees sequent) pool))
+          ≡ cond b (Some s.step) (step_of (find (is_same_at kept.trees sequent) pool))
       go true = refl
       go false = refl
 
@@ -171,16 +174,21 @@ pub same-all_bool : (one : Sequent) (hs : List Term) (c : Term) → IsSequent on
 same-all_bool one hs c h e =
     let back = second_half (within one (stated hs c)) (within (stated hs c) one) e in
     let among = first_half (list_all (λ t. is_in term_eq t one.hypotheses) (distinct term_eq hs)) (term_eq c one.conclusion) back in
-    let concl : c ≡ one.conclusion = (term_eq-Decides c one.conclusion).0 (second_half (list_all (λ t. is_in term_eq t one.hypotheses) (distinct term_eq hs)) (term_eq c one.conclusion) back) in
+    let concl : c ≡ one.conclusion = (term_eq-Decides c one.conclusion).0
+    (second_half (list_all (λ t. is_in term_eq t one.hypotheses) (distinct term_eq hs)) (term_eq c one.conclusion) back) in
     ap (λ b. demand b NotBool) (both (is_of_type bool c) (list_all (is_of_type bool) hs)
     (bool-is_of_type c (subst (λ t. HasType t bool) (sym concl) h.conclusion))
-    (each-bool hs (λ t k. bool-is_of_type t (All-at (λ u. HasType u bool) one.hypotheses t h.hypotheses (is_in-IsIn term_eq term_eq-Decides one.hypotheses t (all-in (distinct term_eq hs) one.hypotheses among t (IsIn-distinct term_eq term_eq-Decides hs t k)))))))
+    (each-bool hs (λ t k. bool-is_of_type t
+    (All-at (λ u. HasType u bool) one.hypotheses t h.hypotheses
+    (is_in-IsIn term_eq term_eq-Decides one.hypotheses t
+    (all-in (distinct term_eq hs) one.hypotheses among t (IsIn-distinct term_eq term_eq-Decides hs t k)))))))
 
 -- a step of a proof says a sequent
 IsSequent-at : (made : List Made) → IsProof made → (i : ℕ) → i < length (steps_of made) → IsSequent (sequent_at made i)
 IsSequent-at made p i l = All-get IsSequent (sequents_of made) i (sequent_at made i) (proof-sequents made p) (from (steps_of made) i l)
   where
-    from : (xs : List Step) (i : ℕ) → i < length xs → slice_get (map (λ (y : Step). y.sequent) xs) i ≡ Some (slice_index_or (map (λ (y : Step). y.sequent) xs) i (record { hypotheses = []; conclusion = Term.bound 0 }))
+    from : (xs : List Step) (i : ℕ) → i < length xs → slice_get (map (λ (y : Step). y.sequent) xs) i
+        ≡ Some (slice_index_or (map (λ (y : Step). y.sequent) xs) i (record { hypotheses = []; conclusion = Term.bound 0 }))
     from [] i l = absurd (omega arith)
     from (x ∷ xs) zero l = refl
     from (x ∷ xs) (suc i) l = from xs i (omega arith)
@@ -212,7 +220,8 @@ module _ (s : State) (hs : List Term) (c : Term) where
   assumption = step_by by_rule.Axiom [] (Parameters.sequent (stated hs c)) (stated hs c)
 
   assuming-known : (o : Option ℕ) → known ≡ o → assuming hs c s ≡ (all_bool (c ∷ hs) >> assume_or_meet s assumption o)
-  assuming-known o e = once (all_bool (c ∷ hs)) assumption (λ x. assume_or_meet s x (option_or (first_same s s.pool x.sequent) (first_same s s.assumptions x.sequent)))
+  assuming-known o e = once (all_bool (c ∷ hs)) assumption
+      (λ x. assume_or_meet s x (option_or (first_same s s.pool x.sequent) (first_same s s.assumptions x.sequent)))
       ∙ ap (λ o. all_bool (c ∷ hs) >> assume_or_meet s assumption o) e
 
   passed : (r q : Result (Unit {0}) Kind) (x : Step) → q ≡ Ok tt → (r >> conclude s x) ≡ by_step (r >> (q >> Ok x)) s
@@ -222,7 +231,8 @@ module _ (s : State) (hs : List Term) (c : Term) where
 
   pub assuming-met : (i : ℕ) → known ≡ Some i → assuming hs c s ≡ by_step (restate_step s.made i hs c) s
   assuming-met i e = assuming-known (Some i) e
-      ∙ passed (all_bool (c ∷ hs)) (follows (sequent_at s.made i) (stated hs c)) (restatement i (stated hs c)) (same-follows (sequent_at s.made i) (stated hs c) (known-says i e))
+      ∙ passed (all_bool (c ∷ hs)) (follows (sequent_at s.made i) (stated hs c)) (restatement i (stated hs c))
+      (same-follows (sequent_at s.made i) (stated hs c) (known-says i e))
 
   recorded : (r : Result (Unit {0}) Kind) (t : State) (x : Step) → (r >> conclude t x) ≡ by_step (r >> Ok x) t
   recorded (Ok u) t x = refl
@@ -237,16 +247,20 @@ module _ (s : State) (hs : List Term) (c : Term) where
     exports_it o = all_bool (c ∷ hs) >> (follows (sequent_at s.made i) (stated hs c) >> export s (restatement i (stated hs c)) o)
 
     exporting-known : (o : Option ℕ) → first_same s s.exports (stated hs c) ≡ o → exporting i hs c s ≡ exports_it o
-    exporting-known o e = twice (all_bool (c ∷ hs)) (follows (sequent_at s.made i) (stated hs c)) (restatement i (stated hs c)) (λ x. export s x (first_same s s.exports x.sequent)) ∙ ap exports_it e
+    exporting-known o e = twice (all_bool (c ∷ hs)) (follows (sequent_at s.made i) (stated hs c)) (restatement i (stated hs c))
+        (λ x. export s x (first_same s s.exports x.sequent)) ∙ ap exports_it e
 
-    pub exporting-again : (j : ℕ) → first_same s s.exports (stated hs c) ≡ Some j → all_bool (c ∷ hs) ≡ Ok tt → exporting i hs c s ≡ (follows (sequent_at s.made i) (stated hs c) >> Ok s)
+    pub exporting-again : (j : ℕ) → first_same s s.exports (stated hs c) ≡ Some j → all_bool (c ∷ hs) ≡ Ok tt → exporting i hs c s
+        ≡ (follows (sequent_at s.made i) (stated hs c) >> Ok s)
     exporting-again j e a = exporting-known (Some j) e ∙ ap (λ r. r >> (follows (sequent_at s.made i) (stated hs c) >> Ok s)) a
 
     pub exporting-new : first_same s s.exports (stated hs c) ≡ None → exporting i hs c s ≡ restating i hs c s
-    exporting-new e = exporting-known None e ∙ sym (twice (all_bool (c ∷ hs)) (follows (sequent_at s.made i) (stated hs c)) (restatement i (stated hs c)) (exported s))
+    exporting-new e = exporting-known None e ∙ sym
+        (twice (all_bool (c ∷ hs)) (follows (sequent_at s.made i) (stated hs c)) (restatement i (stated hs c)) (exported s))
 
 -- the same, said of what is kept
-module _ {old new : Stored} {f g : State → Result State Kind} (e : (s : State) (below : List state.Object) → f (in_state s below old.run) ≡ g (in_state s below old.run)) where
+module _ {old new : Stored} {f g : State → Result State Kind}
+    (e : (s : State) (below : List state.Object) → f (in_state s below old.run) ≡ g (in_state s below old.run)) where
   pub Infers-as : {r : Result ℕ Fault} → Infers old g new r → Infers old f new r
   Infers-as {r = r} h = record {
     taken = IfOk-map r _ _ h.taken (λ i t s below. e s below ∙ t s below);
@@ -267,25 +281,47 @@ module _ {old new : Stored} {f g : State → Result State Kind} (e : (s : State)
 -- nothing is kept for want of memory
 pub Infers-memory : {old : Stored} {f : State → Result State Kind} (r : Result ℕ Fault) → IsErrAnd r (λ x. x ≡ Memory) → Infers old f old r
 Infers-memory (Ok i) h = absurd h
-Infers-memory {old = old} {f = f} (Err x) h = record { taken = tt; made = tt; refused = subst (λ y. (s : State) (below : List state.Object) → Fails y (f (in_state s below old.run))) (sym h) (λ s below. tt); run = refl; grows = Grows-refl old }
+Infers-memory {old = old} {f = f} (Err x) h = record {
+  taken = tt;
+  made = tt;
+  refused = subst (λ y. (s : State) (below : List state.Object) → Fails y (f (in_state s below old.run))) (sym h) (λ s below. tt);
+  run = refl;
+  grows = Grows-refl old;
+}
 
 pub Concludes-memory : {k : Kept} {rule : Result Step Kind} (r : Result ℕ Fault) → IsErrAnd r (λ x. x ≡ Memory) → Concludes k rule k r
 Concludes-memory (Ok i) h = absurd h
-Concludes-memory {k = k} {rule = rule} (Err x) h = record { concluded = tt; refused = subst (λ y. Fails y (limited rule)) (sym h) tt; unchanged = refl; keeps = Keeps-refl k.trees }
+Concludes-memory {k = k} {rule = rule} (Err x) h =
+    record { concluded = tt; refused = subst (λ y. Fails y (limited rule)) (sym h) tt; unchanged = refl; keeps = Keeps-refl k.trees }
 
 pub Exports-memory : {old : Stored} {f : State → Result State Kind} (r : Result (Unit {0}) Fault) → IsErrAnd r (λ x. x ≡ Memory) → Exports old f old r
 Exports-memory (Ok i) h = absurd h
-Exports-memory {old = old} {f = f} (Err x) h = record { taken = tt; refused = subst (λ y. (s : State) (below : List state.Object) → Fails y (f (in_state s below old.run))) (sym h) (λ s below. tt); run = refl; grows = Grows-refl old }
+Exports-memory {old = old} {f = f} (Err x) h = record {
+  taken = tt;
+  refused = subst (λ y. (s : State) (below : List state.Object) → Fails y (f (in_state s below old.run))) (sym h) (λ s below. tt);
+  run =
+      refl;
+  grows = Grows-refl old;
+}
 
 pub InfersTwo-memory : {old : Stored} {f : State → Result State Kind} (r : Result (ℕ × ℕ) Fault) → IsErrAnd r (λ x. x ≡ Memory) → InfersTwo old f old r
 InfersTwo-memory (Ok i) h = absurd h
-InfersTwo-memory {old = old} {f = f} (Err x) h = record { taken = tt; made = tt; refused = subst (λ y. (s : State) (below : List state.Object) → Fails y (f (in_state s below old.run))) (sym h) (λ s below. tt); run = refl; grows = Grows-refl old }
+InfersTwo-memory {old = old} {f = f} (Err x) h = record {
+  taken = tt;
+  made = tt;
+  refused = subst (λ y. (s : State) (below : List state.Object) → Fails y (f (in_state s below old.run))) (sym h) (λ s below. tt);
+  run = refl;
+  grows = Grows-refl old;
+}
 
 -- an export again, where nothing is kept
-pub Exports-again : {old : Stored} {f : State → Result State Kind} (q : Result (Unit {0}) Kind) (r : Result (Unit {0}) Fault) → ((s : State) (below : List state.Object) → f (in_state s below old.run) ≡ (q >> Ok (in_state s below old.run)))
+pub Exports-again : {old : Stored} {f : State → Result State Kind} (q : Result (Unit {0}) Kind) (r : Result (Unit {0}) Fault)
+    → ((s : State) (below : List state.Object) → f (in_state s below old.run) ≡ (q >> Ok (in_state s below old.run)))
     → OnOk r (q ≡ Ok tt) → IfErr r (λ x. Fails x q) → Exports old f old r
-Exports-again {old = old} q (Ok u) e a b = record { taken = λ s below. e s below ∙ ap (λ t. t >> Ok (in_state s below old.run)) a; refused = tt; run = tt; grows = Grows-refl old }
-Exports-again {old = old} {f = f} q (Err x) e a b = record { taken = tt; refused = λ s below. subst (Fails x) (sym (e s below)) (fails x b (in_state s below old.run)); run = refl; grows = Grows-refl old }
+Exports-again {old = old} q (Ok u) e a b = record
+    { taken = λ s below. e s below ∙ ap (λ t. t >> Ok (in_state s below old.run)) a; refused = tt; run = tt; grows = Grows-refl old }
+Exports-again {old = old} {f = f} q (Err x) e a b =
+    record { taken = tt; refused = λ s below. subst (Fails x) (sym (e s below)) (fails x b (in_state s below old.run)); run = refl; grows = Grows-refl old }
   where
     fails : (x : Fault) → Fails x q → (s : State) → Fails x (q >> Ok s)
     fails Memory h s = tt
@@ -293,20 +329,31 @@ Exports-again {old = old} {f = f} q (Err x) e a b = record { taken = tt; refused
 
 module _ {old : Stored} (n : ℕ) (hs : List Term) (c : Term) (q : Sequent) (is : q ≡ stated hs c) (r : Result (Unit {0}) Fault) where
   -- a sequent that an export says is judged, and nothing is made
-  pub Exports-known : (j : ℕ) → IsProof old.run.made → AreSteps old.run.made old.run.exports → Some j ≡ find (λ i. same (sequent_at old.run.made i) q) old.run.exports
-      → OnOk r (follows (sequent_at old.run.made n) q ≡ Ok tt) → IfErr r (λ x. Fails x (follows (sequent_at old.run.made n) q)) → Exports old (exporting n hs c) old r
+  pub Exports-known : (j : ℕ) → IsProof old.run.made → AreSteps old.run.made old.run.exports → Some j
+      ≡ find (λ i. same (sequent_at old.run.made i) q) old.run.exports
+      → OnOk r (follows (sequent_at old.run.made n) q ≡ Ok tt) → IfErr r (λ x. Fails x (follows (sequent_at old.run.made n) q))
+      → Exports old (exporting n hs c) old r
   Exports-known j proof steps first passes fails =
-      let found : find (λ i. same (sequent_at old.run.made i) (stated hs c)) old.run.exports ≡ Some j = sym (subst (λ t. Some j ≡ find (λ i. same (sequent_at old.run.made i) t) old.run.exports) is first) in
-      let says : same (sequent_at old.run.made j) (stated hs c) ≡ true = find-passes (λ i. same (sequent_at old.run.made i) (stated hs c)) old.run.exports j found in
-      let truths = same-all_bool (sequent_at old.run.made j) hs c (IsSequent-at old.run.made proof j (find-All (λ i. same (sequent_at old.run.made i) (stated hs c)) (λ i. i < length (steps_of old.run.made)) old.run.exports j steps found)) says in
+      let found : find (λ i. same (sequent_at old.run.made i) (stated hs c)) old.run.exports ≡ Some j =
+      sym (subst (λ t. Some j ≡ find (λ i. same (sequent_at old.run.made i) t) old.run.exports) is first) in
+      let says : same (sequent_at old.run.made j) (stated hs c) ≡ true =
+      find-passes (λ i. same (sequent_at old.run.made i) (stated hs c)) old.run.exports j found in
+      let truths = same-all_bool (sequent_at old.run.made j) hs c
+      (IsSequent-at old.run.made proof j
+      (find-All (λ i. same (sequent_at old.run.made i) (stated hs c)) (λ i. i < length (steps_of old.run.made)) old.run.exports j steps found)) says in
       Exports-again (follows (sequent_at old.run.made n) (stated hs c)) r (λ s below. exporting-again (in_state s below old.run) hs c n j found truths)
-      (subst (λ t. OnOk r (follows (sequent_at old.run.made n) t ≡ Ok tt)) is passes) (subst (λ t. IfErr r (λ x. Fails x (follows (sequent_at old.run.made n) t))) is fails)
+      (subst (λ t. OnOk r (follows (sequent_at old.run.made n) t ≡ Ok tt)) is passes)
+      (subst (λ t. IfErr r (λ x. Fails x (follows (sequent_at old.run.made n) t))) is fails)
 
   -- another is restated
-  pub Exports-new : {new : Stored} → None ≡ find (λ i. same (sequent_at old.run.made i) q) old.run.exports → Exports old (restating n hs c) new r → Exports old (exporting n hs c) new r
-  Exports-new none e = Exports-as (λ s below. exporting-new (in_state s below old.run) hs c n (sym (subst (λ t. None ≡ find (λ i. same (sequent_at old.run.made i) t) old.run.exports) is none))) e
+  pub Exports-new : {new : Stored} → None ≡ find (λ i. same (sequent_at old.run.made i) q) old.run.exports → Exports old (restating n hs c) new r
+      → Exports old (exporting n hs c) new r
+  Exports-new none e = Exports-as
+      (λ s below. exporting-new (in_state s below old.run) hs c n
+      (sym (subst (λ t. None ≡ find (λ i. same (sequent_at old.run.made i) t) old.run.exports) is none))) e
 
-pub Exports-handed : {old new : Stored} {f : State → Result State Kind} (r : Result (Unit {0}) Fault) (x : Fault) → IsErrAnd r (λ y. y ≡ x) → Exports old f new (Err x) → Exports old f new r
+pub Exports-handed : {old new : Stored} {f : State → Result State Kind} (r : Result (Unit {0}) Fault) (x : Fault) → IsErrAnd r (λ y. y ≡ x)
+    → Exports old f new (Err x) → Exports old f new r
 Exports-handed (Ok u) x h e = absurd h
 Exports-handed {old = old} {new = new} {f = f} (Err y) x h e = subst (λ z. Exports old f new (Err z)) (sym h) e
 
@@ -325,7 +372,8 @@ axiom-sequent hs c y e = limited-sequent (all_bool (c ∷ hs)) (step_by by_rule.
 pub restate-sequent : (made : List Made) (n : ℕ) (hs : List Term) (c : Term) (y : Step) → limited (restate_step made n hs c) ≡ Ok y → y.sequent ≡ stated hs c
 restate-sequent made n hs c y e = go (all_bool (c ∷ hs)) e
   where
-    go : (r : Result (Unit {0}) Kind) → limited (r >> (follows (sequent_at made n) (stated hs c) >> Ok (restatement n (stated hs c)))) ≡ Ok y → y.sequent ≡ stated hs c
+    go : (r : Result (Unit {0}) Kind) → limited (r >> (follows (sequent_at made n) (stated hs c) >> Ok (restatement n (stated hs c)))) ≡ Ok y → y.sequent
+        ≡ stated hs c
     go (Ok u) f = limited-sequent (follows (sequent_at made n) (stated hs c)) (restatement n (stated hs c)) y f
     go (Err k) f = absurd (cc)
 
@@ -355,14 +403,17 @@ module _ {a b : Kept} {rule : Result Step Kind} {r : Result ℕ Fault} (h : Conc
       more : AreSteps b.made (steps_in us)
       more = AreSteps-more a.made b.made (more-steps (Concludes-more h)) (steps_in us) k
 
-      by_answer : (r : Result ℕ Fault) → IfOk r (λ i. (i ≡ proof.step_count a) × ((x : Step) × (limited rule ≡ Ok x) × (b.made ≡ a.made ++ Made.step x ∷ []))) → OnOk r (steps_in vs ≡ steps_in us ++ length (steps_of a.made) ∷ []) → OnErr r (steps_in vs ≡ steps_in us) → AreSteps b.made (steps_in vs)
-      by_answer (Ok i) c n u = let e = ap (λ made. length (steps_of made)) c.1.2 ∙ count-step a.made c.1.0 in subst (AreSteps b.made) (sym n) (AreSteps-push b.made (steps_in us) (length (steps_of a.made)) more (omega (arith, e)))
+      by_answer : (r : Result ℕ Fault) → IfOk r (λ i. (i ≡ proof.step_count a) × ((x : Step) × (limited rule ≡ Ok x) × (b.made ≡ a.made ++ Made.step x ∷ [])))
+          → OnOk r (steps_in vs ≡ steps_in us ++ length (steps_of a.made) ∷ []) → OnErr r (steps_in vs ≡ steps_in us) → AreSteps b.made (steps_in vs)
+      by_answer (Ok i) c n u = let e = ap (λ made. length (steps_of made)) c.1.2 ∙ count-step a.made c.1.0 in subst (AreSteps b.made) (sym n)
+          (AreSteps-push b.made (steps_in us) (length (steps_of a.made)) more (omega (arith, e)))
       by_answer (Err x) c n u = subst (AreSteps b.made) (sym u) more
 
   noted-longer : (p : ℕ) → p ≤ length (steps_in us) → p ≤ length (steps_in vs)
   noted-longer p l = by_answer r noted-steps same-steps
     where
-      by_answer : (r : Result ℕ Fault) → OnOk r (steps_in vs ≡ steps_in us ++ length (steps_of a.made) ∷ []) → OnErr r (steps_in vs ≡ steps_in us) → p ≤ length (steps_in vs)
+      by_answer : (r : Result ℕ Fault) → OnOk r (steps_in vs ≡ steps_in us ++ length (steps_of a.made) ∷ []) → OnErr r (steps_in vs ≡ steps_in us)
+          → p ≤ length (steps_in vs)
       by_answer (Ok i) n u = let e = ap length n ∙ length-append (steps_in us) (length (steps_of a.made) ∷ []) in omega (arith, l, e)
       by_answer (Err x) n u = let e = ap length u in omega (arith, l, e)
 
@@ -380,8 +431,10 @@ module _ {a b : Kept} {rule : Result Step Kind} {r : Result ℕ Fault} (h : Conc
           says = ap (λ made. sequent_at made (length (steps_of a.made))) f ∙ sequent_at-last a.made x ∙ rule_says x e ∙ sym is.is ∙ sym w.1;
         }
 
-        by_answer : (r : Result ℕ Fault) → IfOk r (λ i. (i ≡ proof.step_count a) × ((x : Step) × (limited rule ≡ Ok x) × (b.made ≡ a.made ++ Made.step x ∷ []))) → OnOk r (vs ≡ us ++ said sequent (length (steps_of a.made)) ∷ []) → OnErr r (vs ≡ us) → AreSaid b vs
-        by_answer (Ok i) c n u = subst (AreSaid b) (sym n) (All-append (IsSaid b) us (said sequent (length (steps_of a.made)) ∷ []) more (last c.1.0 c.1.1 c.1.2, tt {0}))
+        by_answer : (r : Result ℕ Fault) → IfOk r (λ i. (i ≡ proof.step_count a) × ((x : Step) × (limited rule ≡ Ok x) × (b.made ≡ a.made ++ Made.step x ∷ [])))
+            → OnOk r (vs ≡ us ++ said sequent (length (steps_of a.made)) ∷ []) → OnErr r (vs ≡ us) → AreSaid b vs
+        by_answer (Ok i) c n u = subst (AreSaid b) (sym n)
+            (All-append (IsSaid b) us (said sequent (length (steps_of a.made)) ∷ []) more (last c.1.0 c.1.1 c.1.2, tt {0}))
         by_answer (Err x) c n u = subst (AreSaid b) (sym u) more
 
     -- an assumption
@@ -408,23 +461,29 @@ module _ {a b : Kept} {rule : Result Step Kind} {r : Result ℕ Fault} (h : Conc
     assumed-run = OnErr-map2 r _ _ _ same-steps h.unchanged (λ e f. ap₂ (λ l made. run_view made l (steps_in ws) p) e f)
 
     assumed-taken : IfOk r (λ j. (s : State) (below : List state.Object)
-        → by_step rule (in_state s below (run_view a.made (steps_in us ++ length (steps_of a.made) ∷ []) (steps_in ws) p)) ≡ Ok (in_state s (state.Object.theorem j ∷ below) (run_of b vs ws p)))
+        → by_step rule (in_state s below (run_view a.made (steps_in us ++ length (steps_of a.made) ∷ []) (steps_in ws) p))
+        ≡ Ok (in_state s (state.Object.theorem j ∷ below) (run_of b vs ws p)))
     assumed-taken = by_answer r noted-steps (Concludes-taken h (steps_in us ++ length (steps_of a.made) ∷ []) (steps_in ws) p)
       where
         by_answer : (r : Result ℕ Fault) → OnOk r (steps_in vs ≡ steps_in us ++ length (steps_of a.made) ∷ [])
             → IfOk r (λ j. (s : State) (below : List state.Object)
-            → by_step rule (in_state s below (run_view a.made (steps_in us ++ length (steps_of a.made) ∷ []) (steps_in ws) p)) ≡ Ok (in_state s (state.Object.theorem j ∷ below) (run_view b.made (steps_in us ++ length (steps_of a.made) ∷ []) (steps_in ws) p)))
+            → by_step rule (in_state s below (run_view a.made (steps_in us ++ length (steps_of a.made) ∷ []) (steps_in ws) p))
+            ≡ Ok (in_state s (state.Object.theorem j ∷ below) (run_view b.made (steps_in us ++ length (steps_of a.made) ∷ []) (steps_in ws) p)))
             → IfOk r (λ j. (s : State) (below : List state.Object)
-            → by_step rule (in_state s below (run_view a.made (steps_in us ++ length (steps_of a.made) ∷ []) (steps_in ws) p)) ≡ Ok (in_state s (state.Object.theorem j ∷ below) (run_of b vs ws p)))
+            → by_step rule (in_state s below (run_view a.made (steps_in us ++ length (steps_of a.made) ∷ []) (steps_in ws) p))
+            ≡ Ok (in_state s (state.Object.theorem j ∷ below) (run_of b vs ws p)))
         by_answer (Ok j) n t = λ s below. t s below ∙ ap (λ l. Ok (in_state s (state.Object.theorem j ∷ below) (run_view b.made l (steps_in ws) p))) (sym n)
         by_answer (Err x) n t = tt
 
-  exported-grows : {ns : List Name} {cs : List Cell} {ws : List Said} {p : ℕ} → IsStore a ns cs ws us p → Grows (store_view a ns cs ws us p) (store_view b ns cs ws vs p)
+  exported-grows : {ns : List Name} {cs : List Cell} {ws : List Said} {p : ℕ} → IsStore a ns cs ws us p
+      → Grows (store_view a ns cs ws us p) (store_view b ns cs ws vs p)
   exported-grows {ns = ns} {ws = ws} {p = p} i = Grows-run (Concludes-more h) i ws vs p (IsFront-refl ns)
 
-pub assumed-Infers : (hs : List Term) (c : Term) {a b : Kept} {r : Result ℕ Fault} (h : Concludes a (axiom_step hs c) b r) (sequent : Numbered) (us vs : List Said)
+pub assumed-Infers : (hs : List Term) (c : Term) {a b : Kept} {r : Result ℕ Fault} (h : Concludes a (axiom_step hs c) b r) (sequent : Numbered)
+    (us vs : List Said)
     → OnOk r (vs ≡ us ++ said sequent (length (steps_of a.made)) ∷ []) → OnErr r (vs ≡ us)
-    → {ns : List Name} {cs : List Cell} {ws : List Said} {p : ℕ} → IsStore a ns cs us ws p → Infers (store_view a ns cs us ws p) (recording hs c) (store_view b ns cs vs ws p) r
+    → {ns : List Name} {cs : List Cell} {ws : List Said} {p : ℕ} → IsStore a ns cs us ws p
+    → Infers (store_view a ns cs us ws p) (recording hs c) (store_view b ns cs vs ws p) r
 assumed-Infers hs c {a = a} h sequent us vs noted unchanged {ws = ws} {p = p} i = record {
   taken = assumed-taken h sequent us vs noted unchanged i;
   made = Concludes-made h;
@@ -437,8 +496,10 @@ assumed-Infers hs c {a = a} h sequent us vs noted unchanged {ws = ws} {p = p} i 
 abbrev with_export : State → Step → State
 with_export s x = record (with_step s x) { exports = s.exports ++ next_step s ∷ [] }
 
-pub exported-Exports : (n : ℕ) (hs : List Term) (c : Term) {a b : Kept} {j : ℕ} (h : Concludes a (restate_step a.made n hs c) b (Ok j)) (sequent : Numbered) (us vs : List Said) → vs ≡ us ++ said sequent (length (steps_of a.made)) ∷ []
-    → {ns : List Name} {cs : List Cell} {ws : List Said} {p : ℕ} → IsStore a ns cs ws us p → Exports (store_view a ns cs ws us p) (restating n hs c) (store_view b ns cs ws vs p) (Ok tt)
+pub exported-Exports : (n : ℕ) (hs : List Term) (c : Term) {a b : Kept} {j : ℕ} (h : Concludes a (restate_step a.made n hs c) b (Ok j)) (sequent : Numbered)
+    (us vs : List Said) → vs ≡ us ++ said sequent (length (steps_of a.made)) ∷ []
+    → {ns : List Name} {cs : List Cell} {ws : List Said} {p : ℕ} → IsStore a ns cs ws us p
+    → Exports (store_view a ns cs ws us p) (restating n hs c) (store_view b ns cs ws vs p) (Ok tt)
 exported-Exports n hs c {a = a} h sequent us vs noted {ws = ws} {p = p} i =
     let m : steps_in vs ≡ steps_in us ++ length (steps_of a.made) ∷ [] = noted-steps h sequent us vs noted tt in
     let q : take p (steps_in vs) ≡ take p (steps_in us) = ap (take p) m ∙ take-append-le p (steps_in us) (length (steps_of a.made) ∷ []) i.run_known.earlier in
@@ -450,8 +511,10 @@ exported-Exports n hs c {a = a} h sequent us vs noted {ws = ws} {p = p} i =
       grows = exported-grows h sequent us vs noted tt i;
     }
 
-pub exported-fails : (n : ℕ) (hs : List Term) (c : Term) {a b : Kept} {x : Fault} (h : Concludes a (restate_step a.made n hs c) b (Err x)) (sequent : Numbered) (us vs : List Said) → vs ≡ us
-    → {ns : List Name} {cs : List Cell} {ws : List Said} {p : ℕ} → IsStore a ns cs ws us p → Exports (store_view a ns cs ws us p) (restating n hs c) (store_view b ns cs ws vs p) (Err x)
+pub exported-fails : (n : ℕ) (hs : List Term) (c : Term) {a b : Kept} {x : Fault} (h : Concludes a (restate_step a.made n hs c) b (Err x)) (sequent : Numbered)
+    (us vs : List Said) → vs ≡ us
+    → {ns : List Name} {cs : List Cell} {ws : List Said} {p : ℕ} → IsStore a ns cs ws us p
+    → Exports (store_view a ns cs ws us p) (restating n hs c) (store_view b ns cs ws vs p) (Err x)
 exported-fails n hs c {a = a} {x = x} h sequent us vs unchanged {ws = ws} {p = p} i = record {
   taken = tt;
   refused = λ s below. limited-fails (with_export (in_state s below (run_of a ws us p))) (restate_step a.made n hs c) x h.refused;

@@ -51,13 +51,15 @@ module _ {a b : Kept} (m : IsMore a b) where
   sequent_at-more i l =
       ap (λ xs. slice_index_or (map (λ (x : Step). x.sequent) xs) i (record { hypotheses = []; conclusion = bound 0 })) m.steps.is
       ∙ ap (λ ss. slice_index_or ss i (record { hypotheses = []; conclusion = bound 0 })) (map-append (λ (x : Step). x.sequent) (steps_of a.made) m.steps.more)
-      ∙ get_or_append_left (sequents_of a.made) (map (λ (x : Step). x.sequent) m.steps.more) (record { hypotheses = []; conclusion = bound 0 }) i (let e = length_map (λ (x : Step). x.sequent) (steps_of a.made) in omega (arith, e, l))
+      ∙ get_or_append_left (sequents_of a.made) (map (λ (x : Step). x.sequent) m.steps.more) (record { hypotheses = []; conclusion = bound 0 }) i
+      (let e = length_map (λ (x : Step). x.sequent) (steps_of a.made) in omega (arith, e, l))
 
   -- a sequent of known numbers stays
   pub sequent-more : (s : Sequent) → numbers.IsKnown a.trees s → numbers.IsKnown b.trees s × (numbers.sequent_at b.trees s ≡ numbers.sequent_at a.trees s)
   sequent-more s k = (
     (AreKnown-Keeps m.trees s.hyps k.0, omega (arith, k.1, m.trees.longer)),
-    sym (ap₂ (λ hypotheses conclusion. record { hypotheses = hypotheses; conclusion = conclusion }) (terms_at-Keeps m.trees s.hyps k.0) (term_in-Stays m.trees.stays s.concl.0 k.1)),
+    sym (ap₂ (λ hypotheses conclusion. record { hypotheses = hypotheses; conclusion = conclusion }) (terms_at-Keeps m.trees s.hyps k.0)
+        (term_in-Stays m.trees.stays s.concl.0 k.1)),
   )
 
   -- what steps say, they say on
@@ -69,7 +71,8 @@ module _ {a b : Kept} (m : IsMore a b) where
 
 module _ {a b : Kept} {ns : List Name} {cs : List Cell} {us ws : List Said} {p : ℕ} (m : IsMore a b) (h : IsStore a ns cs us ws p) where
   -- with other names, assumptions and exports
-  pub IsStore-run : {ms : List Name} {vs xs : List Said} {q : ℕ} → IsFront ns ms → IsRunKnown b.made (steps_in vs) (steps_in xs) q → AreSaid b vs → AreSaid b xs → IsStore b ms cs vs xs q
+  pub IsStore-run : {ms : List Name} {vs xs : List Said} {q : ℕ} → IsFront ns ms → IsRunKnown b.made (steps_in vs) (steps_in xs) q → AreSaid b vs → AreSaid b xs
+      → IsStore b ms cs vs xs q
   IsStore-run f r k l = record { cells_known = stored-AreCells _ _ _ _ _ _ _ m.trees f (more-steps m) h.cells_known; run_known = r; assumed = k; exported = l }
 
   pub Grows-run : {ms : List Name} (vs xs : List Said) (q : ℕ) → IsFront ns ms → Grows (store_view a ns cs us ws p) (store_view b ms cs vs xs q)
@@ -77,7 +80,8 @@ module _ {a b : Kept} {ns : List Name} {cs : List Cell} {us ws : List Said} {p :
 
   -- with the same names, assumptions and exports
   pub IsStore-more : IsStore b ns cs us ws p
-  IsStore-more = IsStore-run (IsFront-refl ns) (IsRunKnown-more a.made b.made (more-steps m) (steps_in us) (steps_in ws) p h.run_known) (AreSaid-more m us h.run_known.assumed h.assumed) (AreSaid-more m ws h.run_known.exported h.exported)
+  IsStore-more = IsStore-run (IsFront-refl ns) (IsRunKnown-more a.made b.made (more-steps m) (steps_in us) (steps_in ws) p h.run_known)
+      (AreSaid-more m us h.run_known.assumed h.assumed) (AreSaid-more m ws h.run_known.exported h.exported)
 
   pub Grows-more : Grows (store_view a ns cs us ws p) (store_view b ns cs us ws p)
   Grows-more = Grows-run us ws p (IsFront-refl ns)
@@ -97,7 +101,8 @@ pub none_taken : (made : List Made) (new : List Symbol) → new ≡ [] → made 
 none_taken made new e = rw e (append-nil made)
 
 -- a call that takes symbols where it answers Ok
-module _ {A E : Type 0} (r : Result A E) (a b : Kept) (k : Keeps a.trees b.trees) (new : List Symbol) (takes : OnOk r (b.made ≡ a.made ++ map Made.symbol new)) (unchanged : OnErr r (b.made ≡ a.made)) where
+module _ {A E : Type 0} (r : Result A E) (a b : Kept) (k : Keeps a.trees b.trees) (new : List Symbol) (takes : OnOk r (b.made ≡ a.made ++ map Made.symbol new))
+    (unchanged : OnErr r (b.made ≡ a.made)) where
   pub more-taken : IsMore a b
   more-taken = record { trees = k; steps = by_answer r takes unchanged }
     where

@@ -20,7 +20,8 @@ reverse-take xs ys k n e f = rw f (either (cases_lt (length xs) n))
         let p : length (reverse xs) ≤ n = omega (arith, d, h) in
         rw z (sym (drop_of_length-le (reverse xs) p))
     either (inr h) =
-        let g : reverse xs ≡ reverse (drop (k - n) xs) ++ reverse (take (k - n) xs) = ap reverse (sym (take-append-drop (k - n) xs)) ∙ reverse-append (take (k - n) xs) (drop (k - n) xs) in
+        let g : reverse xs ≡ reverse (drop (k - n) xs) ++ reverse (take (k - n) xs) =
+        ap reverse (sym (take-append-drop (k - n) xs)) ∙ reverse-append (take (k - n) xs) (drop (k - n) xs) in
         let a = length-reverse (drop (k - n) xs) in
         let b = length-drop (k - n) xs in
         let l : length (reverse (drop (k - n) xs)) ≡ n = omega (arith, a, b, h, e) in
@@ -47,7 +48,8 @@ turned : {A : Type 0} (xs zs : List A) (y : A) → reverse (xs ++ y ∷ zs) ≡ 
 turned xs zs y = reverse-append xs (y ∷ zs) ∙ ap (λ l. l ++ reverse xs) (reverse-append (y ∷ []) zs) ∙ append_assoc (reverse zs) (y ∷ []) (reverse xs)
 
 -- an item is set at a depth
-pub reverse-slice_set : {A : Type 0} (xs : List A) (k d : ℕ) (x : A) → k ≡ length xs → d < length (reverse xs) → reverse (slice_set xs (k - 1 - d) x) ≡ slice_set (reverse xs) d x
+pub reverse-slice_set : {A : Type 0} (xs : List A) (k d : ℕ) (x : A) → k ≡ length xs → d < length (reverse xs) → reverse (slice_set xs (k - 1 - d) x)
+    ≡ slice_set (reverse xs) d x
 reverse-slice_set xs k d x e h =
     let r = length-reverse xs in
     let n : ℕ = k - 1 - d in
@@ -60,7 +62,8 @@ reverse-slice_set xs k d x e h =
     let front : length (take n xs) ≡ n = omega (arith, a, below) in
     let back : length (reverse (drop (suc n) xs)) ≡ d = omega (arith, b, c, e, h, r) in
     ap (λ l. reverse (slice_set l n x)) s ∙ ap reverse (slice_set-behind (take n xs) (drop (suc n) xs) y x n front) ∙ turned (take n xs) (drop (suc n) xs) x
-    ∙ sym (ap (λ l. slice_set (reverse l) d x) s ∙ ap (λ l. slice_set l d x) (turned (take n xs) (drop (suc n) xs) y) ∙ slice_set-behind (reverse (drop (suc n) xs)) (reverse (take n xs)) y x d back)
+    ∙ sym (ap (λ l. slice_set (reverse l) d x) s ∙ ap (λ l. slice_set l d x) (turned (take n xs) (drop (suc n) xs) y)
+    ∙ slice_set-behind (reverse (drop (suc n) xs)) (reverse (take n xs)) y x d back)
 
 -- an item in place of so many on top
 set-drop-suc : {A : Type 0} (xs : List A) (k : ℕ) (x : A) → k < length xs → slice_set (drop k xs) 0 x ≡ x ∷ drop (suc k) xs

@@ -35,7 +35,8 @@ two_objects-fails (Refused k) (state.Object.variable v) h = let same : WrongKind
 two_objects-fails (Refused k) (state.Object.term t) h = let same : WrongKind ≡ k = cc in ap Err same
 two_objects-fails (Refused k) (state.Object.theorem i) h = let same : WrongKind ≡ k = cc in ap Err same
 
-pub two_of-one : (xs : state.Objects) (x : state.Object) (fault : Fault) → Fails fault (ok_or (one_object xs) WrongKind) → Fails fault (ok_or (two_of (state.Objects.more x xs)) WrongKind)
+pub two_of-one : (xs : state.Objects) (x : state.Object) (fault : Fault) → Fails fault (ok_or (one_object xs) WrongKind)
+    → Fails fault (ok_or (two_of (state.Objects.more x xs)) WrongKind)
 two_of-one xs x fault h = go (one_object xs) fault h
   where
     go : (o : Option state.Object) (fault : Fault) → Fails fault (ok_or o WrongKind) → Fails fault (ok_or (with_first x o) WrongKind)
@@ -86,7 +87,8 @@ module _ {A B : Type 0} (as_one : state.Object → Result A Kind) (as_two : stat
 
     module _ (a : A) (f : as_one u ≡ Ok a) where
       pub second-fails : (fault : Fault) → Fails fault (as_two v) → Fails fault (pair_of as_one as_two x)
-      second-fails fault h = subst (Fails fault) (sym both-read) (next_fails fault (as_one u) (λ a. as_two v >>= λ b. Ok (a, b)) a f (first_fails fault (as_two v) (λ b. Ok (a, b)) h))
+      second-fails fault h = subst (Fails fault) (sym both-read)
+          (next_fails fault (as_one u) (λ a. as_two v >>= λ b. Ok (a, b)) a f (first_fails fault (as_two v) (λ b. Ok (a, b)) h))
 
       pub pair-taken : (b : B) → as_two v ≡ Ok b → pair_of as_one as_two x ≡ Ok (a, b)
       pair-taken b g = both-read ∙ next (as_one u) (λ a. as_two v >>= λ b. Ok (a, b)) a _ f (next (as_two v) (λ b. Ok (a, b)) b _ g refl)

@@ -54,7 +54,8 @@ first_saying m sequent ids = find (λ i. same (sequent_at m.run.made i) sequent)
 
 -- The run becomes that of a word's next state, in which the theorem of a step that was made is pushed; or the word is refused as its definition says. What had a number keeps it. After a fault the run is as before.
 pub record Infers (old : Stored) (obeyed : State → Result State Kind) (new : Stored) (result : Result ℕ Fault) : Type 0 where
-  pub taken : IfOk result (λ i. (s : State) (below : List state.Object) → obeyed (in_state s below old.run) ≡ Ok (in_state s (state.Object.theorem i ∷ below) new.run))
+  pub taken : IfOk result (λ i. (s : State) (below : List state.Object) → obeyed (in_state s below old.run)
+      ≡ Ok (in_state s (state.Object.theorem i ∷ below) new.run))
   pub made : IfOk result (λ i. IsStep new i)
   pub refused : IfErr result (λ fault. (s : State) (below : List state.Object) → Fails fault (obeyed (in_state s below old.run)))
   pub run : OnErr result (new.run ≡ old.run)
@@ -69,7 +70,8 @@ pub record Exports (old : Stored) (obeyed : State → Result State Kind) (new : 
 
 -- The same of a word that pushes the theorems of two steps, the second on top.
 pub record InfersTwo (old : Stored) (obeyed : State → Result State Kind) (new : Stored) (result : Result (ℕ × ℕ) Fault) : Type 0 where
-  pub taken : IfOk result (λ ids. (s : State) (below : List state.Object) → obeyed (in_state s below old.run) ≡ Ok (in_state s (state.Object.theorem ids.1 ∷ state.Object.theorem ids.0 ∷ below) new.run))
+  pub taken : IfOk result (λ ids. (s : State) (below : List state.Object) → obeyed (in_state s below old.run)
+      ≡ Ok (in_state s (state.Object.theorem ids.1 ∷ state.Object.theorem ids.0 ∷ below) new.run))
   pub made : IfOk result (λ ids. IsStep new ids.0 × IsStep new ids.1)
   pub refused : IfErr result (λ fault. (s : State) (below : List state.Object) → Fails fault (obeyed (in_state s below old.run)))
   pub run : OnErr result (new.run ≡ old.run)

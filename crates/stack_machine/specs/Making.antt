@@ -16,7 +16,8 @@ pub record Run : Type 0 where
   pub pool : List ℕ
 
 abbrev pub coded_run : Coded Run
-coded_run = code_by ((List Made × List ℕ) × (List ℕ × List ℕ)) (coded× (coded× (coded_list coded_made) (coded_list coded_ℕ)) (coded× (coded_list coded_ℕ) (coded_list coded_ℕ)))
+coded_run = code_by ((List Made × List ℕ) × (List ℕ × List ℕ))
+    (coded× (coded× (coded_list coded_made) (coded_list coded_ℕ)) (coded× (coded_list coded_ℕ) (coded_list coded_ℕ)))
     (λ r. ((r.made, r.assumptions), (r.exports, r.pool))) (λ p. record { made = p.0.0; assumptions = p.0.1; exports = p.1.0; pool = p.1.1 }) (λ _. refl)
 
 -- the run with these symbols taken

@@ -19,7 +19,8 @@ module _ (a b : List Made) (l : length (steps_of a) ≤ length (steps_of b)) whe
   AreSteps-more (i ∷ ids) h = (omega (arith, l, h.0), AreSteps-more ids h.1)
 
   pub IsRunKnown-more : (assumptions exports : List ℕ) (pool : ℕ) → IsRunKnown a assumptions exports pool → IsRunKnown b assumptions exports pool
-  IsRunKnown-more assumptions exports pool h = record { assumed = AreSteps-more assumptions h.assumed; exported = AreSteps-more exports h.exported; earlier = h.earlier }
+  IsRunKnown-more assumptions exports pool h = record
+      { assumed = AreSteps-more assumptions h.assumed; exported = AreSteps-more exports h.exported; earlier = h.earlier }
 
 pub AreSteps-push : (made : List Made) (ids : List ℕ) (i : ℕ) → AreSteps made ids → i < length (steps_of made) → AreSteps made (ids ++ i ∷ [])
 AreSteps-push made ids i h l = All-append (λ j. j < length (steps_of made)) ids (i ∷ []) h (l, tt {0})

@@ -20,7 +20,8 @@ pub record Obeys (word : Word) (old : Stored) (stack : List Object) (new : Store
   pub run : OnErr result (new.run ≡ old.run)
 
 -- The same in an article of a version.
-pub record ObeysIn (version : Version) (word : Word) (old : Stored) (stack : List Object) (new : Stored) (after : List Object) (result : Result (Unit {0}) Fault) : Type 0 where
+pub record ObeysIn (version : Version) (word : Word) (old : Stored) (stack : List Object) (new : Stored) (after : List Object)
+    (result : Result (Unit {0}) Fault) : Type 0 where
   pub taken : OnOk result ((s : State) → version_at s.place ≡ version → obey (shown old stack s) word ≡ Ok (shown new after s))
   pub refused : IfErr result (λ fault. (s : State) → version_at s.place ≡ version → Fails fault (obey (shown old stack s) word))
   pub known : AreKnown new after

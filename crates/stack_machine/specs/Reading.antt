@@ -9,13 +9,15 @@ use Rattle.stack_machine.specs.declared.object.Object.{Object}
 use Rattle.stack_machine.specs.Stored.{Stored, object_view, objects_view, IsKnown, AreKnown}
 
 -- An object is read as one of a kind, or is of another. What is read stands for this value, and is known where the object is.
-pub record Reads {A B : Type 0} (m : Stored) (as_one : state.Object → Result A Kind) (value : B → A) (IsOne : B → Type 0) (x : Object) (result : Result B Fault) : Type 0 where
+pub record Reads {A B : Type 0} (m : Stored) (as_one : state.Object → Result A Kind) (value : B → A) (IsOne : B → Type 0) (x : Object)
+    (result : Result B Fault) : Type 0 where
   pub taken : IfOk result (λ y. as_one (object_view m x) ≡ Ok (value y))
   pub known : IfOk result (λ y. IsKnown m x → IsOne y)
   pub refused : IfErr result (λ fault. Fails fault (as_one (object_view m x)))
 
 -- An operand: the object at a depth of the stack is read as one of a kind, as a command pops it there.
-pub record Operand {A B : Type 0} (m : Stored) (as_one : state.Object → Result A Kind) (value : B → A) (IsOne : B → Type 0) (stack : List Object) (depth : ℕ) (result : Result B Fault) : Type 0 where
+pub record Operand {A B : Type 0} (m : Stored) (as_one : state.Object → Result A Kind) (value : B → A) (IsOne : B → Type 0) (stack : List Object) (depth : ℕ)
+    (result : Result B Fault) : Type 0 where
   pub taken : IfOk result (λ y. pop as_one (objects_view m (drop depth stack)) ≡ Ok (value y, objects_view m (drop (suc depth) stack)))
   pub there : IfOk result (λ y. depth < length stack)
   pub known : IfOk result (λ y. AreKnown m stack → IsOne y)

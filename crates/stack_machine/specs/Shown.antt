@@ -33,4 +33,5 @@ place_view (Running version) = state.Stage.body version
 
 -- the state without its stack and its run
 abbrev pub article_state : Stored → List (ℤ × Object) → Progress → State
-article_state m entries p = record { stack = []; dictionary = dictionary_view m entries; place = place_view p; made = []; assumptions = []; exports = []; pool = [] }
+article_state m entries p = record
+    { stack = []; dictionary = dictionary_view m entries; place = place_view p; made = []; assumptions = []; exports = []; pool = [] }

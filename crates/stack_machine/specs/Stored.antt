@@ -32,7 +32,8 @@ abbrev coded_objects : Coded state.Objects
 coded_objects = record { code = objects_code; inj = objects_inj }
 
 abbrev pub coded_stored : Coded Stored
-coded_stored = code_by ((Trees × List Name) × (List state.Objects × Run)) (coded× (coded× coded_trees (coded_list coded_name)) (coded× (coded_list coded_objects) coded_run))
+coded_stored = code_by ((Trees × List Name) × (List state.Objects × Run))
+    (coded× (coded× coded_trees (coded_list coded_name)) (coded× (coded_list coded_objects) coded_run))
     (λ m. ((m.trees, m.names), (m.lists, m.run))) (λ p. record { trees = p.0.0; names = p.0.1; lists = p.1.0; run = p.1.1 }) (λ _. refl)
 
 -- the symbols that are taken

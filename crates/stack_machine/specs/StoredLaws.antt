@@ -36,7 +36,13 @@ pub Grows-refl : (a : Stored) → Grows a a
 Grows-refl a = record { trees = table_law.Keeps-refl a.trees; names = IsFront-refl a.names; lists = IsFront-refl a.lists; steps = omega arith }
 
 pub Grows-trans : {a b c : Stored} → Grows a b → Grows b c → Grows a c
-Grows-trans h k = record { trees = table_law.Keeps-trans h.trees k.trees; names = IsFront-trans h.names k.names; lists = IsFront-trans h.lists k.lists; steps = omega (arith, h.steps, k.steps) }
+Grows-trans h k = record {
+  trees = table_law.Keeps-trans h.trees k.trees;
+  names = IsFront-trans h.names k.names;
+  lists = IsFront-trans h.lists k.lists;
+  steps =
+      omega (arith, h.steps, k.steps);
+}
 
 -- an object stays
 pub list_view-Grows : {a b : Stored} → Grows a b → (xs : AList) → IsListKnown a xs → list_view a xs ≡ list_view b xs
@@ -53,7 +59,8 @@ object_view-Grows h (object.List xs) k = ap state.Object.list (list_view-Grows h
 object_view-Grows h (object.TypeOperator n) k = ap state.Object.type_operator (name_at-Grows h n.0 k)
 object_view-Grows h (object.Type t) k = ap state.Object.type (type_law.tree_at-Stays h.trees.types.stays t.0 k)
 object_view-Grows h (object.Constant n) k = ap state.Object.constant (name_at-Grows h n.0 k)
-object_view-Grows h (object.Variable n t) k = ap state.Object.variable (ap₂ (λ m a. (m, a)) (name_at-Grows h n.0 k.0) (type_law.tree_at-Stays h.trees.types.stays t.0 k.1))
+object_view-Grows h (object.Variable n t) k = ap state.Object.variable
+    (ap₂ (λ m a. (m, a)) (name_at-Grows h n.0 k.0) (type_law.tree_at-Stays h.trees.types.stays t.0 k.1))
 object_view-Grows h (object.Term t) k = ap state.Object.term (table_law.term_in-Stays h.trees.stays t.0 k.known)
 object_view-Grows h (object.Theorem i) k = refl
 
@@ -63,7 +70,8 @@ IsListKnown-Grows h Empty k = tt
 IsListKnown-Grows h (CellOf c) k = longer h.lists c.0 k
 
 pub IsTerm-Grows : {a b : Stored} → Grows a b → (t : ℕ) → IsTerm a t → IsTerm b t
-IsTerm-Grows h t k = record { known = omega (arith, k.known, h.trees.longer); typed = subst hol.IsTerm (table_law.term_in-Stays h.trees.stays t k.known) k.typed }
+IsTerm-Grows h t k = record
+    { known = omega (arith, k.known, h.trees.longer); typed = subst hol.IsTerm (table_law.term_in-Stays h.trees.stays t k.known) k.typed }
 
 pub IsKnown-Grows : {a b : Stored} → Grows a b → (x : Object) → IsKnown a x → IsKnown b x
 IsKnown-Grows h (object.Number z) k = tt
@@ -100,23 +108,30 @@ lists_from-Grows a b h e (c ∷ cs) k =
 pub AreCells-Grows : (a b : Stored) → Grows a b → a.lists ≡ b.lists → (cs : List Cell) → AreCells a cs → AreCells b cs
 AreCells-Grows a b h e [] k = tt
 AreCells-Grows a b h e (c ∷ cs) k =
-    let f = with_cell h e c k.0 k.1 in
-    (IsKnown-Grows h c.head k.0, IsListKnown-Grows h c.tail k.1, AreCells-Grows (record a { lists = a.lists ++ cell_view a c ∷ [] }) (record b { lists = b.lists ++ cell_view b c ∷ [] }) (alike _ _ h f) f cs k.2)
+    let f = with_cell h e c k.0 k.1 in (
+      IsKnown-Grows h c.head k.0,
+      IsListKnown-Grows h c.tail k.1,
+      AreCells-Grows (record a { lists = a.lists ++ cell_view a c ∷ [] }) (record b { lists = b.lists ++ cell_view b c ∷ [] }) (alike _ _ h f) f cs k.2,
+    )
 
 -- the list of one cell more
-pub lists_from-push : (a : Stored) (cs : List Cell) (c : Cell) → lists_from a (cs ++ c ∷ []) ≡ lists_from a cs ++ cell_view (record a { lists = lists_from a cs }) c ∷ []
+pub lists_from-push : (a : Stored) (cs : List Cell) (c : Cell) → lists_from a (cs ++ c ∷ []) ≡ lists_from a cs
+    ++ cell_view (record a { lists = lists_from a cs }) c ∷ []
 lists_from-push a [] c = refl
 lists_from-push a (d ∷ cs) c = lists_from-push (record a { lists = a.lists ++ cell_view a d ∷ [] }) cs c
 
-pub AreCells-push : (a : Stored) (cs : List Cell) (c : Cell) → AreCells a cs → IsKnown (record a { lists = lists_from a cs }) c.head → IsListKnown (record a { lists = lists_from a cs }) c.tail → AreCells a (cs ++ c ∷ [])
+pub AreCells-push : (a : Stored) (cs : List Cell) (c : Cell) → AreCells a cs → IsKnown (record a { lists = lists_from a cs }) c.head
+    → IsListKnown (record a { lists = lists_from a cs }) c.tail → AreCells a (cs ++ c ∷ [])
 AreCells-push a [] c k h t = (h, t, tt)
 AreCells-push a (d ∷ cs) c k h t = (k.0, k.1, AreCells-push (record a { lists = a.lists ++ cell_view a d ∷ [] }) cs c k.2 h t)
 
 pub length-lists_from : (a : Stored) (cs : List Cell) → length (lists_from a cs) ≡ length a.lists + length cs
 length-lists_from a [] = omega arith
-length-lists_from a (c ∷ cs) = let e = length-lists_from (record a { lists = a.lists ++ cell_view a c ∷ [] }) cs in let f = length-append a.lists (cell_view a c ∷ []) in omega (arith, e, f)
+length-lists_from a (c ∷ cs) = let e = length-lists_from (record a { lists = a.lists ++ cell_view a c ∷ [] }) cs in let f =
+    length-append a.lists (cell_view a c ∷ []) in omega (arith, e, f)
 
 -- the lists that were there are in front
 pub lists_from-front : (a : Stored) (cs : List Cell) → IsFront a.lists (lists_from a cs)
 lists_from-front a [] = IsFront-refl a.lists
-lists_from-front a (c ∷ cs) = IsFront-trans (record { more = cell_view a c ∷ []; is = refl }) (lists_from-front (record a { lists = a.lists ++ cell_view a c ∷ [] }) cs)
+lists_from-front a (c ∷ cs) = IsFront-trans (record { more = cell_view a c ∷ []; is = refl })
+    (lists_from-front (record a { lists = a.lists ++ cell_view a c ∷ [] }) cs)

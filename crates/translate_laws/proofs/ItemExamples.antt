@@ -43,7 +43,8 @@ bool_taken : (before : List Item) → TypeTaken before bool
 bool_taken before = (items.OperatorTaken.primitive refl, tt {0})
 
 equality_taken : (before : List Item) → TypeTaken before (equality_type bool)
-equality_taken before = (items.OperatorTaken.primitive refl, (bool_taken before, ((items.OperatorTaken.primitive refl, (bool_taken before, (bool_taken before, tt {0}))), tt {0})))
+equality_taken before =
+    (items.OperatorTaken.primitive refl, (bool_taken before, ((items.OperatorTaken.primitive refl, (bool_taken before, (bool_taken before, tt {0}))), tt {0})))
 
 said_taken : (before : List Item) (t : Term) → TermTaken before t → IsSequent (said t) → SequentTaken before (said t)
 said_taken before t h is = record {

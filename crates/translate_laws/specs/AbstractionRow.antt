@@ -27,14 +27,16 @@ use Rattle.translate_laws.specs.ShapedScopes.{term_tree-shaped}
 use Rattle.translate_laws.specs.ShapedSequents.{HasEntry, under_term-shaped, premise-shaped}
 use Rattle.translate_laws.specs.ShapedRows.{HasHypotheses, type-here}
 
-module _ (m : List Declaration) (closed : IsClosed m) (symbols : SymbolMap) (G : List Tree) (scope : Scope) (hypotheses : List Term) (stands : HasHypotheses m symbols G scope hypotheses) where
+module _ (m : List Declaration) (closed : IsClosed m) (symbols : SymbolMap) (G : List Tree) (scope : Scope) (hypotheses : List Term)
+    (stands : HasHypotheses m symbols G scope hypotheses) where
   -- under the binder of a variable that isn't free in it, a hypothesis keeps its entry
   fresh-HasEntry : (v : Variable) (h : Term) → TermOver m symbols h → IsFresh v h → HasEntry symbols G scope h
       → HasEntry symbols (term_of (type_tree symbols scope.types v.1) ∷ G) (under_term v scope) h
   fresh-HasEntry v h o fresh p =
       subst (λ t. IsEntry (term_of (type_tree symbols scope.types v.1) ∷ G) (lift 1 (scope.proofs h)) t)
       (term_tree-lift symbols scope h
-      ∙ term_tree-agrees symbols (λ n. Unit {0}) (λ w. variable_eq w v ≡ false) (loose h) (lifted scope) (under_term v scope) agrees h (AreInstances-over m symbols h o) (All-each _ (type_variable_places h) (λ n i. tt)) fresh (omega arith))
+      ∙ term_tree-agrees symbols (λ n. Unit {0}) (λ w. variable_eq w v ≡ false) (loose h) (lifted scope) (under_term v scope) agrees h
+      (AreInstances-over m symbols h o) (All-each _ (type_variable_places h) (λ n i. tt)) fresh (omega arith))
       (entry-weaken (term_of (type_tree symbols scope.types v.1)) p)
     where
       agrees : Agrees symbols (λ n. Unit {0}) (λ w. variable_eq w v ≡ false) (loose h) (lifted scope) (under_term v scope)
@@ -62,13 +64,19 @@ module _ (m : List Declaration) (closed : IsClosed m) (symbols : SymbolMap) (G :
       let shaped = under_term-shaped m closed symbols G v scope whole.ty.1.0 stands.is in
       let left : term_tree symbols scope (lam v.1 (close v t)) ≡ Lam (term_of A) T = ap (Lam (term_of A)) (term_tree-close symbols v scope t) in
       let right : term_tree symbols scope (lam v.1 (close v u)) ≡ Lam (term_of A) U = ap (Lam (term_of A)) (term_tree-close symbols v scope u) in
-      let hT : IsTerm m D T (lift 1 B) = subst (IsTerm m D T) (sym (type_tree-lift symbols scope.types b)) (term_tree-shaped m closed symbols D inner [] shaped (λ k a q. absurd (cc)) (λ k a q. absurd (cc)) t b parts.left sides.left) in
-      let hU : IsTerm m D U (lift 1 B) = subst (IsTerm m D U) (sym (type_tree-lift symbols scope.types b)) (term_tree-shaped m closed symbols D inner [] shaped (λ k a q. absurd (cc)) (λ k a q. absurd (cc)) u b parts.right sides.right) in
+      let hT : IsTerm m D T (lift 1 B) = subst (IsTerm m D T) (sym (type_tree-lift symbols scope.types b))
+      (term_tree-shaped m closed symbols D inner [] shaped (λ k a q. absurd (cc)) (λ k a q. absurd (cc)) t b parts.left sides.left) in
+      let hU : IsTerm m D U (lift 1 B) = subst (IsTerm m D U) (sym (type_tree-lift symbols scope.types b))
+      (term_tree-shaped m closed symbols D inner [] shaped (λ k a q. absurd (cc)) (λ k a q. absurd (cc)) u b parts.right sides.right) in
       let premise : IsProof m false D (theorem_tree inner j one) (proof_of (eq_of (lift 1 B) T U)) =
       subst (λ w. IsProof m false D (theorem_tree inner j one) (proof_of (eq_of w T U))) (sym (type_tree-lift symbols scope.types b))
       (subst (λ w. IsProof m false D (theorem_tree inner j one) (proof_of (term_tree symbols inner w))) e
       (premise-shaped m closed symbols D inner shaped j one p
-      (λ h k. laws.Argument.a_proof (entry-proof m (fresh-HasEntry v h (All-at _ one.hypotheses h p.over.hypotheses k) (All-at _ one.hypotheses h fresh k) (stands.proofs h (i h k))))))) in
+      (λ h k. laws.Argument.a_proof
+      (entry-proof m (fresh-HasEntry v h (All-at _ one.hypotheses h p.over.hypotheses k) (All-at _ one.hypotheses h fresh k) (stands.proofs h (i h k)))))))
+      in
       let c = shaped-fun_ext m hA hB hT hU premise in
-      subst (λ w. IsProof m false G (fun_ext_tree symbols scope v b t u (j, one)) (proof_of (App (App (App (Sym 5) (arr_of A B)) w) (term_tree symbols scope (lam v.1 (close v u)))))) (sym left)
-      (subst (λ w. IsProof m false G (fun_ext_tree symbols scope v b t u (j, one)) (proof_of (App (App (App (Sym 5) (arr_of A B)) (Lam (term_of A) T)) w))) (sym right) c)
+      subst (λ w. IsProof m false G (fun_ext_tree symbols scope v b t u (j, one))
+      (proof_of (App (App (App (Sym 5) (arr_of A B)) w) (term_tree symbols scope (lam v.1 (close v u)))))) (sym left)
+      (subst (λ w. IsProof m false G (fun_ext_tree symbols scope v b t u (j, one)) (proof_of (App (App (App (Sym 5) (arr_of A B)) (Lam (term_of A) T)) w)))
+      (sym right) c)

@@ -66,17 +66,26 @@ each-after P m (made.Each.more {made = before} x p h is) = subst (EachAfter P []
 
 order-append : (before xs ys : List Item) → AreMadeInOrder before xs → AreMadeInOrder (before ++ xs) ys → AreMadeInOrder before (xs ++ ys)
 order-append before [] ys h k = subst (λ l. AreMadeInOrder l ys) (append-nil before) k
-order-append before (x ∷ xs) ys h k = (h.0, h.1, h.2, order-append (before ++ x ∷ []) xs ys h.3 (subst (λ l. AreMadeInOrder l ys) (sym (append_assoc before (x ∷ []) xs)) k))
+order-append before (x ∷ xs) ys h k =
+    (h.0, h.1, h.2, order-append (before ++ x ∷ []) xs ys h.3 (subst (λ l. AreMadeInOrder l ys) (sym (append_assoc before (x ∷ []) xs)) k))
 
 Has-more : (ps xs : List Item) (c : Content) → Has ps c → Has (ps ++ xs) c
 Has-more ps xs c (x, i, e) = (x, IsIn-left ps xs x i, e)
 
 held-more : (ps xs : List Item) (x : Symbol) → IsHeld ps x → IsHeld (ps ++ xs) x
 held-more ps xs (Symbol.defined (Definition.type_operator names c f)) h =
-    record { j = h.j; one = h.one; operator = Has-more ps xs _ h.operator; abstraction = Has-more ps xs _ h.abstraction; representation = Has-more ps xs _ h.representation }
+    record {
+      j = h.j;
+      one = h.one;
+      operator = Has-more ps xs _ h.operator;
+      abstraction = Has-more ps xs _ h.abstraction;
+      representation =
+          Has-more ps xs _ h.representation;
+    }
 held-more ps xs (Symbol.input_constant n) h = All-weaker (Has ps) (Has (ps ++ xs)) (Has-more ps xs) (contents_of (Symbol.input_constant n)) h
 held-more ps xs (Symbol.input_operator n k) h = All-weaker (Has ps) (Has (ps ++ xs)) (Has-more ps xs) (contents_of (Symbol.input_operator n k)) h
-held-more ps xs (Symbol.defined (Definition.constant n t)) h = All-weaker (Has ps) (Has (ps ++ xs)) (Has-more ps xs) (contents_of (Symbol.defined (Definition.constant n t))) h
+held-more ps xs (Symbol.defined (Definition.constant n t)) h =
+    All-weaker (Has ps) (Has (ps ++ xs)) (Has-more ps xs) (contents_of (Symbol.defined (Definition.constant n t))) h
 
 -- the type definition from the step of a number
 pub record HasPartAt (ps : List Item) (names : TypeNames) (c : HolType) (f : Term) (i : ℕ) : Type 0 where
@@ -113,13 +122,15 @@ index-is (x ∷ xs) zero p d e = same_Some _ _ e
 index-is (x ∷ xs) (suc k) p d e = index-is xs k p d e
 
 -- what is said at the number of a step
-pub said-at : (xs : List (ℕ × Sequent)) (k : ℕ) (s : Sequent) → slice_get (map (λ (p : ℕ × Sequent). p.1) xs) k ≡ Some s → (j : ℕ) × (slice_get xs k ≡ Some (j, s))
+pub said-at : (xs : List (ℕ × Sequent)) (k : ℕ) (s : Sequent) → slice_get (map (λ (p : ℕ × Sequent). p.1) xs) k ≡ Some s → (j : ℕ)
+    × (slice_get xs k ≡ Some (j, s))
 said-at [] k s e = absurd (cc)
 said-at (x ∷ xs) zero s e = (x.0, ap (λ (t : Sequent). Some (x.0, t)) (same_Some _ _ e))
 said-at (x ∷ xs) (suc k) s e = said-at xs k s e
 
 -- premises
-pub found : (xs : List (ℕ × Sequent)) (k : ℕ) (s : Sequent) (d : ℕ × Sequent) → slice_get (map (λ (p : ℕ × Sequent). p.1) xs) k ≡ Some s → ((slice_index_or xs k d).1 ≡ s) × IsIn xs (slice_index_or xs k d)
+pub found : (xs : List (ℕ × Sequent)) (k : ℕ) (s : Sequent) (d : ℕ × Sequent) → slice_get (map (λ (p : ℕ × Sequent). p.1) xs) k ≡ Some s
+    → ((slice_index_or xs k d).1 ≡ s) × IsIn xs (slice_index_or xs k d)
 found [] k s d e = absurd (cc)
 found (x ∷ xs) zero s d e = (same_Some _ _ e, inl refl)
 found (x ∷ xs) (suc k) s d e = let r = found xs k s d e in (r.0, inr r.1)
@@ -134,12 +145,14 @@ said-in (z ∷ zs) p k = go (says z.content) refl k (said-in zs p)
     later : Says zs p → Says (z ∷ zs) p
     later (x, i, e, f) = (x, inr i, e, f)
 
-    go : (o : Option Sequent) → says z.content ≡ o → IsIn (cons_option (option_map (λ (s : Sequent). (z.symbol, s)) o) (said_by zs)) p → (IsIn (said_by zs) p → Says zs p) → Says (z ∷ zs) p
+    go : (o : Option Sequent) → says z.content ≡ o → IsIn (cons_option (option_map (λ (s : Sequent). (z.symbol, s)) o) (said_by zs)) p
+        → (IsIn (said_by zs) p → Says zs p) → Says (z ∷ zs) p
     go None is k rest = later (rest k)
     go (Some s) is (inl e) rest = (z, inl refl, ap (λ (q : ℕ × Sequent). q.0) (sym e), is ∙ ap (λ (q : ℕ × Sequent). Some q.1) (sym e))
     go (Some s) is (inr k) rest = later (rest k)
 
-premises-joined : (ps : List Item) (sequents : List Sequent) → map (λ (p : ℕ × Sequent). p.1) (said_by ps) ≡ sequents → (ks : List ℕ) (ss : List Sequent) → ArePremises sequents ks ss
+premises-joined : (ps : List Item) (sequents : List Sequent) → map (λ (p : ℕ × Sequent). p.1) (said_by ps) ≡ sequents → (ks : List ℕ) (ss : List Sequent)
+    → ArePremises sequents ks ss
     → ArePremisesAmong ps (map (λ k. (premise_at ps k).0) ks) (map (λ k. (premise_at ps k).1) ks) × (map (λ k. (premise_at ps k).1) ks ≡ ss)
 premises-joined ps sequents same [] [] h = (tt {0}, refl)
 premises-joined ps sequents same (k ∷ ks) (s ∷ ss) h =
@@ -155,7 +168,8 @@ law-part : (before : List Made) (ps : List Item) → AllByRecursion (IsPartHeld 
     → map (λ k. (premise_at ps k).1) ks ≡ one ∷ [] → HasPart ps names (premise_at ps law.number).0 one
 law-part before ps parts ks names one law same =
     let q = All-among (IsPartHeld ps) before parts (Made.type_definition names law.c law.f law.number) law.among in
-    let at : premise_at ps law.number ≡ (q.j, q.one) = index-is (said_by ps) law.number (q.j, q.one) (0, record { hypotheses = []; conclusion = bound 0 }) q.place in
+    let at : premise_at ps law.number ≡ (q.j, q.one) =
+    index-is (said_by ps) law.number (q.j, q.one) (0, record { hypotheses = []; conclusion = bound 0 }) q.place in
     let all : (premise_at ps law.number).1 ∷ [] ≡ one ∷ [] = ap (map (λ k. (premise_at ps k).1)) (sym law.is) ∙ same in
     let is_one : q.one ≡ one = ap (λ (p : ℕ × Sequent). p.1) (sym at) ∙ same_Some _ _ (ap (λ l. slice_get l 0) all) in
     subst₂ (HasPart ps names) (ap (λ (p : ℕ × Sequent). p.0) (sym at)) is_one
@@ -164,7 +178,8 @@ law-part before ps parts ks names one law same =
 -- what a step defines is among the items
 rule-defines : (before : List Made) (ps : List Item) → AllByRecursion (IsPartHeld ps) before
     → (ks : List ℕ) (kind : StepKind) (premises : List Sequent) (p : Parameters) (s : Sequent) → Rule kind premises p s → AllByRecursion IsSequent premises
-    → AllByRecursion (IsDefinitionHeld ps) (definitions_used kind premises p) → map (λ k. (premise_at ps k).1) ks ≡ premises → IsLawOfDefinition before kind ks p
+    → AllByRecursion (IsDefinitionHeld ps) (definitions_used kind premises p) → map (λ k. (premise_at ps k).1) ks ≡ premises
+    → IsLawOfDefinition before kind ks p
     → DefinesAmong ps kind (map (λ k. (premise_at ps k).0) ks) premises p
 rule-defines before ps parts ks kind premises p s (rule.refl h e) are held same law = tt
 rule-defines before ps parts ks kind premises p s (rule.assume h e) are held same law = tt
@@ -180,15 +195,20 @@ rule-defines before ps parts ks kind premises p s (rule.subst fitting e) are hel
 rule-defines before ps parts ks kind premises p s (rule.recorded is) are held same law = tt
 rule-defines before ps parts ks kind premises p s (rule.restate is w) are held same law = tt
 rule-defines before ps parts ks kind premises p s (rule.define_const h e) are held same law = held.0
-rule-defines before ps parts ks kind premises p s (rule.define_const_list {pairs = pairs} {one = one} defining list e) are held same law = list-defines ps pairs one are.0 defining list held
+rule-defines before ps parts ks kind premises p s (rule.define_const_list {pairs = pairs} {one = one} defining list e) are held same law =
+    list-defines ps pairs one are.0 defining list held
 rule-defines before ps parts ks kind premises p s (rule.first_law {names = names} {one = one} d e) are held same law =
-    subst (λ l. DefinesAmong ps kinds.FirstLaw (map (λ k. (premise_at ps k).0) l) (one ∷ []) (Parameters.type_operator names Six)) (sym law.is) (law-part before ps parts ks names one law same)
+    subst (λ l. DefinesAmong ps kinds.FirstLaw (map (λ k. (premise_at ps k).0) l) (one ∷ []) (Parameters.type_operator names Six)) (sym law.is)
+    (law-part before ps parts ks names one law same)
 rule-defines before ps parts ks kind premises p s (rule.first_law_free {names = names} {one = one} d e) are held same law =
-    subst (λ l. DefinesAmong ps kinds.FirstLaw (map (λ k. (premise_at ps k).0) l) (one ∷ []) (Parameters.type_operator names Five)) (sym law.is) (law-part before ps parts ks names one law same)
+    subst (λ l. DefinesAmong ps kinds.FirstLaw (map (λ k. (premise_at ps k).0) l) (one ∷ []) (Parameters.type_operator names Five)) (sym law.is)
+    (law-part before ps parts ks names one law same)
 rule-defines before ps parts ks kind premises p s (rule.second_law {names = names} {one = one} d e) are held same law =
-    subst (λ l. DefinesAmong ps kinds.SecondLaw (map (λ k. (premise_at ps k).0) l) (one ∷ []) (Parameters.type_operator names Six)) (sym law.is) (law-part before ps parts ks names one law same)
+    subst (λ l. DefinesAmong ps kinds.SecondLaw (map (λ k. (premise_at ps k).0) l) (one ∷ []) (Parameters.type_operator names Six)) (sym law.is)
+    (law-part before ps parts ks names one law same)
 rule-defines before ps parts ks kind premises p s (rule.second_law_free {names = names} {one = one} d e) are held same law =
-    subst (λ l. DefinesAmong ps kinds.SecondLaw (map (λ k. (premise_at ps k).0) l) (one ∷ []) (Parameters.type_operator names Five)) (sym law.is) (law-part before ps parts ks names one law same)
+    subst (λ l. DefinesAmong ps kinds.SecondLaw (map (λ k. (premise_at ps k).0) l) (one ∷ []) (Parameters.type_operator names Five)) (sym law.is)
+    (law-part before ps parts ks names one law same)
 
 pub says-step : (b : Bool) (kind : StepKind) (js : List ℕ) (ss : List Sequent) (g : Parameters) (s : Sequent) → says (content_by b kind js ss g s) ≡ Some s
 says-step false kind js ss g s = refl
@@ -226,7 +246,8 @@ shown-content : (before : List Made) (ps : List Item) → IsProof before → Joi
 shown-content before ps proof j x h over =
     go (has_row x.kind) refl
     (rule-defines before ps j.parts x.premises x.kind h.premises x.parameters x.sequent h.follows.rule are_sequents
-    (All-weaker (IsAmong (definitions_of before)) (IsDefinitionHeld ps) (All-among (IsDefinitionHeld ps) (definitions_of before) (held-definitions ps (symbols_of before) j.held))
+    (All-weaker (IsAmong (definitions_of before)) (IsDefinitionHeld ps)
+    (All-among (IsDefinitionHeld ps) (definitions_of before) (held-definitions ps (symbols_of before) j.held))
     (definitions_used x.kind h.premises x.parameters) h.follows.defined) joined.1 h.law)
   where
     are_sequents : AllByRecursion IsSequent h.premises
@@ -235,7 +256,8 @@ shown-content before ps proof j x h over =
     is_sequent : IsSequent x.sequent
     is_sequent = rule-IsSequent x.kind h.premises x.parameters x.sequent h.follows.rule are_sequents
 
-    joined : ArePremisesAmong ps (map (λ k. (premise_at ps k).0) x.premises) (map (λ k. (premise_at ps k).1) x.premises) × (map (λ k. (premise_at ps k).1) x.premises ≡ h.premises)
+    joined : ArePremisesAmong ps (map (λ k. (premise_at ps k).0) x.premises) (map (λ k. (premise_at ps k).1) x.premises)
+        × (map (λ k. (premise_at ps k).1) x.premises ≡ h.premises)
     joined = premises-joined ps (sequents_of before) j.said x.premises h.premises h.earlier
 
     go : (b : Bool) → has_row x.kind ≡ b → DefinesAmong ps x.kind (map (λ k. (premise_at ps k).0) x.premises) h.premises x.parameters
@@ -256,7 +278,8 @@ step-content : (before : List Made) (ps : List Item) → IsProof before → Join
 step-content before ps proof j x h over =
     let same : sequents_at ps x.premises ≡ h.premises = (joined-premises before ps j x h).1 in
     subst (λ ss. IsContent ps (shown_content ps (needed ss x))) (sym same)
-    (shown-content before ps proof j (needed h.premises x) (needed-IsStep before x h (premise-sequents before proof x h)) (needed-IsStepOver before h.premises x over))
+    (shown-content before ps proof j (needed h.premises x) (needed-IsStep before x h (premise-sequents before proof x h))
+    (needed-IsStepOver before h.premises x over))
 
 -- symbols
 input-named : (n : Name) (k : ℕ) (ss : List Symbol) → list_any (is_input_operator_named n) ss ≡ false → list_any (is_input_operator n k) ss ≡ false
@@ -323,20 +346,25 @@ module _ (named : Content → List ℕ) where
   longer : (ps : List Item) (x : Item) → length ps + 1 ≡ length (ps ++ x ∷ [])
   longer ps x = sym (length-append ps (x ∷ []))
 
-  symbol-order : (ss : List Symbol) (ps : List Item) → AllByRecursion (IsHeld ps) ss → AllByRecursion (λ (z : Item). IsNamed ss z.content) ps → (x : Symbol) → IsPlain x → Takes ss x → SymbolTaken ss x
+  symbol-order : (ss : List Symbol) (ps : List Item) → AllByRecursion (IsHeld ps) ss → AllByRecursion (λ (z : Item). IsNamed ss z.content) ps → (x : Symbol)
+      → IsPlain x → Takes ss x → SymbolTaken ss x
       → AreMadeInOrder ps (numbered named (length ps) (contents_of x))
   symbol-order ss ps held names (Symbol.input_constant n) p (taking.Takes.input_constant new) o = (refl, new-constant ss n new ps names, tt {0}, tt {0})
-  symbol-order ss ps held names (Symbol.input_operator n k) p (taking.Takes.input_operator undefined new) o = (refl, new-operator ss n k undefined new ps names, tt {0}, tt {0})
+  symbol-order ss ps held names (Symbol.input_operator n k) p (taking.Takes.input_operator undefined new) o =
+      (refl, new-operator ss n k undefined new ps names, tt {0}, tt {0})
   symbol-order ss ps held names (Symbol.defined (Definition.constant n t)) p (taking.Takes.constant {a = a} new h) o =
       (refl, new-constant ss n new ps names, is-defining ps a t h (held-term ps ss held t o), tt {0})
   symbol-order ss ps held names (Symbol.defined (Definition.type_operator names_of_type c f)) p h o = absurd p
 
   premise-more : (ps xs : List Item) (names : TypeNames) (c : HolType) (u : Term) (k : ℕ) (one : Sequent) → TypeTaken (ps ++ xs) c → IsPart ps names c u k one
       → IsPart (ps ++ xs) names c u k one
-  premise-more ps xs names c u k one ty h = record { defines = h.defines; among = ((h.among.0.0, IsIn-left ps xs h.among.0.0 h.among.0.1, h.among.0.2, h.among.0.3), tt {0}); ty = ty }
+  premise-more ps xs names c u k one ty h = record
+      { defines = h.defines; among = ((h.among.0.0, IsIn-left ps xs h.among.0.0 h.among.0.1, h.among.0.2, h.among.0.3), tt {0}); ty = ty }
 
-  part-order : (ss : List Symbol) (ps : List Item) → AllByRecursion (IsHeld ps) ss → AllByRecursion (λ (z : Item). IsNamed ss z.content) ps → (names_of_type : TypeNames) (c : HolType) (f : Term) (k : ℕ) (s : Sequent)
-      → Takes ss (Symbol.defined (Definition.type_operator names_of_type c f)) → SymbolTaken ss (Symbol.defined (Definition.type_operator names_of_type c f)) → IsPart ps names_of_type c f k s
+  part-order : (ss : List Symbol) (ps : List Item) → AllByRecursion (IsHeld ps) ss → AllByRecursion (λ (z : Item). IsNamed ss z.content) ps
+      → (names_of_type : TypeNames) (c : HolType) (f : Term) (k : ℕ) (s : Sequent)
+      → Takes ss (Symbol.defined (Definition.type_operator names_of_type c f)) → SymbolTaken ss (Symbol.defined (Definition.type_operator names_of_type c f))
+      → IsPart ps names_of_type c f k s
       → AreMadeInOrder ps (numbered named (length ps) (type_contents names_of_type c f (k, s)))
   part-order ss ps held names names_of_type c f j s (taking.Takes.type_operator new typed closed variables) o part =
       let k = length names_of_type.variables in
@@ -357,7 +385,8 @@ module _ (named : Content → List ℕ) where
       let part1 = premise-more ps (one ∷ []) names_of_type c f j s ty1 part in
       let new2 = new-constant ss names_of_type.abstraction new.abstraction ps names in
       let new3 = new-constant ss names_of_type.representation new.representation ps names in
-      let others : name_eq names_of_type.representation names_of_type.abstraction ≡ false = symmetric name_eq name_eq-Decides names_of_type.abstraction names_of_type.representation new.apart in (
+      let others : name_eq names_of_type.representation names_of_type.abstraction ≡ false =
+      symmetric name_eq name_eq-Decides names_of_type.abstraction names_of_type.representation new.apart in (
         refl,
         new-operator ss n k undefined.0 (input-named n k ss undefined.1) ps names,
         part,
@@ -367,20 +396,31 @@ module _ (named : Content → List ℕ) where
           (part1, function-taken ps1 c (new_type names_of_type) ty1 (new_type-taken ps1 names_of_type c f j s has1), has1),
           (
             ap (λ k. k + 1) (longer ps one) ∙ longer ps1 two,
-            (new3.0, any-append (is_constant names_of_type.representation) ps1 two (any-append (is_constant names_of_type.representation) ps one new3.1 refl) others),
-            (premise-more ps1 (two ∷ []) names_of_type c f j s ty2 part1, function-taken ps2 (new_type names_of_type) c (new_type-taken ps2 names_of_type c f j s has2) ty2, has2),
+            (
+              new3.0,
+              any-append (is_constant names_of_type.representation) ps1 two (any-append (is_constant names_of_type.representation) ps one new3.1 refl)
+                  others,
+            ),
+            (
+              premise-more ps1 (two ∷ []) names_of_type c f j s ty2 part1,
+              function-taken ps2 (new_type names_of_type) c (new_type-taken ps2 names_of_type c f j s has2) ty2,
+              has2,
+            ),
             tt {0},
           ),
         ),
       )
 
-  said-append : (before : List Made) (ps xs : List Item) (x : Made) → map (λ (p : ℕ × Sequent). p.1) (said_by ps) ≡ sequents_of before → map (λ (p : ℕ × Sequent). p.1) (said_by xs) ≡ sequents_of (x ∷ [])
+  said-append : (before : List Made) (ps xs : List Item) (x : Made) → map (λ (p : ℕ × Sequent). p.1) (said_by ps) ≡ sequents_of before
+      → map (λ (p : ℕ × Sequent). p.1) (said_by xs) ≡ sequents_of (x ∷ [])
       → map (λ (p : ℕ × Sequent). p.1) (said_by (ps ++ xs)) ≡ sequents_of (before ++ x ∷ [])
   said-append before ps xs x e f =
-      ap (map (λ (p : ℕ × Sequent). p.1)) (filter_map-append said_of ps xs) ∙ map-append (λ (p : ℕ × Sequent). p.1) (said_by ps) (said_by xs) ∙ (λ i. e i ++ f i) ∙ sym (sequents_of-append before (x ∷ []))
+      ap (map (λ (p : ℕ × Sequent). p.1)) (filter_map-append said_of ps xs) ∙ map-append (λ (p : ℕ × Sequent). p.1) (said_by ps) (said_by xs)
+      ∙ (λ i. e i ++ f i) ∙ sym (sequents_of-append before (x ∷ []))
 
   new-held : (ps : List Item) (cs : List Content) → AllByRecursion (Has (ps ++ numbered named (length ps) cs)) cs
-  new-held ps cs = All-weaker (Has (numbered named (length ps) cs)) (Has (ps ++ numbered named (length ps) cs)) (λ d (z, k, e). (z, IsIn-right ps (numbered named (length ps) cs) z k, e)) cs (has-numbered (length ps) cs)
+  new-held ps cs = All-weaker (Has (numbered named (length ps) cs)) (Has (ps ++ numbered named (length ps) cs))
+      (λ d (z, k, e). (z, IsIn-right ps (numbered named (length ps) cs) z k, e)) cs (has-numbered (length ps) cs)
 
   symbol-held : (ps : List Item) (x : Symbol) → IsPlain x → IsHeld (ps ++ numbered named (length ps) (contents_of x)) x
   symbol-held ps (Symbol.defined (Definition.type_operator names c f)) p = absurd p
@@ -398,13 +438,16 @@ module _ (named : Content → List ℕ) where
         order = order-append [] ps new j.order (symbol-order (symbols_of before) ps j.held j.names x h.0 h.1 over);
         said = said-append before ps new (Made.symbol x) j.said (ap (map (λ (p : ℕ × Sequent). p.1)) (symbol-said (length ps) x));
         held = subst (AllByRecursion (IsHeld (ps ++ new))) (sym more)
-            (All-append (IsHeld (ps ++ new)) (symbols_of before) (x ∷ []) (All-weaker (IsHeld ps) (IsHeld (ps ++ new)) (held-more ps new) (symbols_of before) j.held)
+            (All-append (IsHeld (ps ++ new)) (symbols_of before) (x ∷ [])
+            (All-weaker (IsHeld ps) (IsHeld (ps ++ new)) (held-more ps new) (symbols_of before) j.held)
             (symbol-held ps x h.0, tt {0}));
         names = subst (λ ss. AllByRecursion (λ (z : Item). IsNamed ss z.content) (ps ++ new)) (sym more)
             (All-append (λ (z : Item). IsNamed (symbols_of before ++ x ∷ []) z.content) ps new
-            (All-weaker (λ (z : Item). IsNamed (symbols_of before) z.content) (λ (z : Item). IsNamed (symbols_of before ++ x ∷ []) z.content) (λ z k. named-more (symbols_of before) (x ∷ []) z.content k) ps j.names)
+            (All-weaker (λ (z : Item). IsNamed (symbols_of before) z.content) (λ (z : Item). IsNamed (symbols_of before ++ x ∷ []) z.content)
+            (λ z k. named-more (symbols_of before) (x ∷ []) z.content k) ps j.names)
             (all-numbered (IsNamed (symbols_of before ++ x ∷ [])) (length ps) (contents_of x) (symbol-names (symbols_of before) x h.0 h.1)));
-        parts = All-append (IsPartHeld (ps ++ new)) before (Made.symbol x ∷ []) (All-weaker (IsPartHeld ps) (IsPartHeld (ps ++ new)) (part-more ps new) before j.parts) (tt {0}, tt {0});
+        parts = All-append (IsPartHeld (ps ++ new)) before (Made.symbol x ∷ [])
+            (All-weaker (IsPartHeld ps) (IsPartHeld (ps ++ new)) (part-more ps new) before j.parts) (tt {0}, tt {0});
       }
   joined-next before ps proof j (Made.type_definition names c f i) h over =
       let m = Made.type_definition names c f i in
@@ -426,11 +469,13 @@ module _ (named : Content → List ℕ) where
         order = order-append [] ps new j.order (part-order (symbols_of before) ps j.held j.names names c f found.0 h.one h.taken over part);
         said = said-append before ps new m j.said refl;
         held = subst (AllByRecursion (IsHeld (ps ++ new))) (sym more)
-            (All-append (IsHeld (ps ++ new)) (symbols_of before) (x ∷ []) (All-weaker (IsHeld ps) (IsHeld (ps ++ new)) (held-more ps new) (symbols_of before) j.held)
+            (All-append (IsHeld (ps ++ new)) (symbols_of before) (x ∷ [])
+            (All-weaker (IsHeld ps) (IsHeld (ps ++ new)) (held-more ps new) (symbols_of before) j.held)
             (record { j = found.0; one = h.one; operator = has.0; abstraction = has.1.0; representation = has.1.1.0 }, tt {0}));
         names = subst (λ ss. AllByRecursion (λ (z : Item). IsNamed ss z.content) (ps ++ new)) (sym more)
             (All-append (λ (z : Item). IsNamed (symbols_of before ++ x ∷ []) z.content) ps new
-            (All-weaker (λ (z : Item). IsNamed (symbols_of before) z.content) (λ (z : Item). IsNamed (symbols_of before ++ x ∷ []) z.content) (λ z k. named-more (symbols_of before) (x ∷ []) z.content k) ps j.names)
+            (All-weaker (λ (z : Item). IsNamed (symbols_of before) z.content) (λ (z : Item). IsNamed (symbols_of before ++ x ∷ []) z.content)
+            (λ z k. named-more (symbols_of before) (x ∷ []) z.content k) ps j.names)
             (all-numbered (IsNamed (symbols_of before ++ x ∷ [])) (length ps) cs (part-names (symbols_of before) names c f (found.0, h.one) h.taken)));
         parts = All-append (IsPartHeld (ps ++ new)) before (m ∷ []) (All-weaker (IsPartHeld ps) (IsPartHeld (ps ++ new)) (part-more ps new) before j.parts) (
           record {
@@ -453,13 +498,22 @@ module _ (named : Content → List ℕ) where
       let new = numbered named (length ps) (c ∷ []) in
       let more : symbols_of (before ++ Made.step x ∷ []) ≡ symbols_of before = symbols_of-append before (Made.step x ∷ []) ∙ append-nil (symbols_of before) in
       record {
-        order = order-append [] ps new j.order (refl, new-step ps (has_row y.kind) y.kind js ss y.parameters y.sequent, step-content before ps proof j x h over, tt {0});
+        order = order-append [] ps new j.order (
+          refl,
+          new-step ps (has_row y.kind) y.kind js ss y.parameters y.sequent,
+          step-content before ps proof j x h over,
+          tt {0},
+        );
         said = said-append before ps new (Made.step x) j.said
-            (ap (λ o. map (λ (p : ℕ × Sequent). p.1) (cons_option (option_map (λ (s : Sequent). (length ps, s)) o) [])) (says-step (has_row y.kind) y.kind js ss y.parameters y.sequent ∙ ap Some (needed-sequent (sequents_at ps x.premises) x)));
-        held = subst (AllByRecursion (IsHeld (ps ++ new))) (sym more) (All-weaker (IsHeld ps) (IsHeld (ps ++ new)) (held-more ps new) (symbols_of before) j.held);
+            (ap (λ o. map (λ (p : ℕ × Sequent). p.1) (cons_option (option_map (λ (s : Sequent). (length ps, s)) o) []))
+            (says-step (has_row y.kind) y.kind js ss y.parameters y.sequent ∙ ap Some (needed-sequent (sequents_at ps x.premises) x)));
+        held = subst (AllByRecursion (IsHeld (ps ++ new))) (sym more)
+            (All-weaker (IsHeld ps) (IsHeld (ps ++ new)) (held-more ps new) (symbols_of before) j.held);
         names = subst (λ ss. AllByRecursion (λ (z : Item). IsNamed ss z.content) (ps ++ new)) (sym more)
-            (All-append (λ (z : Item). IsNamed (symbols_of before) z.content) ps new j.names (named-step (symbols_of before) (has_row y.kind) y.kind js ss y.parameters y.sequent, tt {0}));
-        parts = All-append (IsPartHeld (ps ++ new)) before (Made.step x ∷ []) (All-weaker (IsPartHeld ps) (IsPartHeld (ps ++ new)) (part-more ps new) before j.parts) (tt {0}, tt {0});
+            (All-append (λ (z : Item). IsNamed (symbols_of before) z.content) ps new j.names
+            (named-step (symbols_of before) (has_row y.kind) y.kind js ss y.parameters y.sequent, tt {0}));
+        parts = All-append (IsPartHeld (ps ++ new)) before (Made.step x ∷ [])
+            (All-weaker (IsPartHeld ps) (IsPartHeld (ps ++ new)) (part-more ps new) before j.parts) (tt {0}, tt {0});
       }
 
 module _ (named : Naming) where
@@ -468,12 +522,14 @@ module _ (named : Naming) where
   joined-after before ps proof j [] h k = subst (λ l. Joined l ps) (sym (append-nil before)) j
   joined-after before ps proof j (x ∷ xs) h k =
       subst (λ l. Joined l (items_after named ps (x ∷ xs))) (append_assoc before (x ∷ []) xs)
-      (joined-after (before ++ x ∷ []) (ps ++ numbered (named (length (said_by ps)) x) (length ps) (contents ps x)) (made.Each.more x proof h.0 refl) (joined-next (named (length (said_by ps)) x) before ps proof j x h.0 k.0) xs h.1 k.1)
+      (joined-after (before ++ x ∷ []) (ps ++ numbered (named (length (said_by ps)) x) (length ps) (contents ps x)) (made.Each.more x proof h.0 refl)
+      (joined-next (named (length (said_by ps)) x) before ps proof j x h.0 k.0) xs h.1 k.1)
 
   -- The join: what was made is, as items, made in order
   pub made-joined : (xs : List Made) → IsProof xs → IsOver xs → Joined xs (items_of named xs)
   made-joined xs proof over =
-      joined-after [] [] made.Each.empty (record { order = tt {0}; said = refl; held = tt {0}; names = tt {0}; parts = tt {0} }) xs (each-after IsMade xs proof) (each-after IsMadeOver xs over)
+      joined-after [] [] made.Each.empty (record { order = tt {0}; said = refl; held = tt {0}; names = tt {0}; parts = tt {0} }) xs (each-after IsMade xs proof)
+      (each-after IsMadeOver xs over)
 
   pub made-in_order : (xs : List Made) → IsProof xs → IsOver xs → AreMadeInOrder [] (items_of named xs)
   made-in_order xs proof over = (made-joined xs proof over).order
@@ -481,4 +537,5 @@ module _ (named : Naming) where
   -- the items of what was made say as many sequents as it has steps
   pub made-said : (xs : List Made) → IsProof xs → IsOver xs → length (said_by (items_of named xs)) ≡ length (steps_of xs)
   made-said xs proof over =
-      sym (length-map (said_by (items_of named xs)) (λ (p : ℕ × Sequent). p.1)) ∙ ap length (made-joined xs proof over).said ∙ length-map (steps_of xs) (λ (x : Step). x.sequent)
+      sym (length-map (said_by (items_of named xs)) (λ (p : ℕ × Sequent). p.1)) ∙ ap length (made-joined xs proof over).said
+      ∙ length-map (steps_of xs) (λ (x : Step). x.sequent)

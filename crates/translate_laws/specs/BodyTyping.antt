@@ -31,7 +31,8 @@ ArePremises m symbols (k ∷ ks) [] = ⊥
 abbrev pub Defined : List Declaration → SymbolMap → StepKind → List ℕ → List Sequent → Parameters → Type 0
 Defined m symbols kinds.DefineConst js premises (Parameters.constant n t) = IsDefinition m symbols n (type_or t) t
 Defined m symbols kinds.DefineConstList js (one ∷ []) (Parameters.constants pairs) =
-    AllByRecursion (DefinesConstant m symbols (constants_put pairs)) one.hypotheses × AllByRecursion (StandsForVariable m symbols (constants_put pairs)) (free_variables_of one)
+    AllByRecursion (DefinesConstant m symbols (constants_put pairs)) one.hypotheses
+    × AllByRecursion (StandsForVariable m symbols (constants_put pairs)) (free_variables_of one)
 Defined m symbols kinds.FirstLaw (j ∷ []) (one ∷ []) (Parameters.type_operator names version) = DefinesPart m symbols names j one
 Defined m symbols kinds.SecondLaw (j ∷ []) (one ∷ []) (Parameters.type_operator names version) = DefinesPart m symbols names j one
 Defined m symbols kind js premises given = Unit {0}
@@ -70,7 +71,8 @@ IsIn-without (x ∷ xs) p h (inl e) = go (term_eq p x) (term_eq-Decides p x).0
     go false f = inr (inl e)
 IsIn-without (x ∷ xs) p h (inr k) = go (term_eq p x) (IsIn-without xs p h k)
   where
-    go : (b : Bool) → (h ≡ p) ⊎ IsIn (filter (λ y. not (term_eq p y)) xs) h → (h ≡ p) ⊎ IsIn (cond (not b) (x ∷ filter (λ y. not (term_eq p y)) xs) (filter (λ y. not (term_eq p y)) xs)) h
+    go : (b : Bool) → (h ≡ p) ⊎ IsIn (filter (λ y. not (term_eq p y)) xs) h → (h ≡ p)
+        ⊎ IsIn (cond (not b) (x ∷ filter (λ y. not (term_eq p y)) xs) (filter (λ y. not (term_eq p y)) xs)) h
     go b (inl e) = inl e
     go true (inr i) = inr i
     go false (inr i) = inr (inr i)
@@ -83,7 +85,8 @@ IsIn-map f (y ∷ ys) x (inr k) = inr (IsIn-map f ys x k)
 -- what within says
 pub all_are_in : (gs hs : List Term) (h : Term) → IsTrue (list_all (λ h. is_in term_eq h gs) hs) → IsIn hs h → IsIn gs h
 all_are_in gs [] h e k = absurd k
-all_are_in gs (g ∷ hs) h e (inl is) = subst (IsIn gs) (sym is) (is_in-IsIn term_eq term_eq-Decides gs g (and_parts (is_in term_eq g gs) (list_all (λ h. is_in term_eq h gs) hs) e).0)
+all_are_in gs (g ∷ hs) h e (inl is) = subst (IsIn gs) (sym is)
+    (is_in-IsIn term_eq term_eq-Decides gs g (and_parts (is_in term_eq g gs) (list_all (λ h. is_in term_eq h gs) hs) e).0)
 all_are_in gs (g ∷ hs) h e (inr k) = all_are_in gs hs h (and_parts (is_in term_eq g gs) (list_all (λ h. is_in term_eq h gs) hs) e).1 k
 
 -- a proof in the scope of its sequent

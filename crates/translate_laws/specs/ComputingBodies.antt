@@ -43,7 +43,8 @@ pub record IsPartPremise (m : List Declaration) (symbols : SymbolMap) (names : T
 pub record IsPartOperator (m : List Declaration) (symbols : SymbolMap) (names : TypeNames) (c : HolType) (j : ℕ) (one : Sequent) : Type 0 where
   pub is : IsPartPremise m symbols names c j one
   pub declared : DeclaresOperator m symbols names.operator (length names.variables)
-  pub definition : symbol_definition m (operator_symbol symbols names.operator (length names.variables)) ≡ Some (part_definition_tree symbols names.variables sub_symbol c j one)
+  pub definition : symbol_definition m (operator_symbol symbols names.operator (length names.variables))
+      ≡ Some (part_definition_tree symbols names.variables sub_symbol c j one)
 
 -- the module has a constant of a type definition, with this generic type, by this symbol of parts
 pub record IsPartConstant (m : List Declaration) (symbols : SymbolMap) (n : Name) (a : HolType) (s : ℕ) (c : HolType) (j : ℕ) (one : Sequent) : Type 0 where
@@ -65,13 +66,16 @@ pub sub-closed : (terms : TermPairs) (t : Term) → AllByRecursion (λ v. ⊥) (
 sub-closed terms (free n t) h = absurd h.0
 sub-closed terms (bound k) h = refl
 sub-closed terms (constant n t) h = ap (constant n) (substitute-nothing t)
-sub-closed terms (app f x) h = ap₂ app (sub-closed terms f (All-left (λ v. ⊥) (free_places f) (free_places x) h)) (sub-closed terms x (All-right (λ v. ⊥) (free_places f) (free_places x) h))
+sub-closed terms (app f x) h = ap₂ app (sub-closed terms f (All-left (λ v. ⊥) (free_places f) (free_places x) h))
+    (sub-closed terms x (All-right (λ v. ⊥) (free_places f) (free_places x) h))
 sub-closed terms (lam t b) h = ap₂ lam (substitute-nothing t) (sub-closed terms b h)
 
 -- the constant of a definition is over the symbols
-pub constant-over : (m : List Declaration) (symbols : SymbolMap) (n : Name) (a : HolType) (t : Term) → DeclaresConstant m symbols n → IsDefinition m symbols n a t
+pub constant-over : (m : List Declaration) (symbols : SymbolMap) (n : Name) (a : HolType) (t : Term) → DeclaresConstant m symbols n
+    → IsDefinition m symbols n a t
     → TypeOver m symbols a → ConstantOver m symbols n a
-constant-over m symbols n a t declared d o = record { declared = declared; instance = subst (λ g. Instance g a) (sym d.generic) ([], substitute-nothing a); ty = o }
+constant-over m symbols n a t declared d o = record
+    { declared = declared; instance = subst (λ g. Instance g a) (sym d.generic) ([], substitute-nothing a); ty = o }
 
 module _ (m : List Declaration) (symbols : SymbolMap) (scope : Scope) (n : Name) (a : HolType) (t : Term) (d : IsDefinition m symbols n a t) where
   pub own_arguments : map (type_tree symbols scope.types) (type_arguments (generic_type symbols n) a) ≡ map scope.types (type_variables a)

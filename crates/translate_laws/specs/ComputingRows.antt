@@ -79,7 +79,8 @@ given-term before (of_binder ha hb h) = refl
 given-abstractions : {m : List Declaration} {G : List Tree} {t a : Tree} (other : TypeScope) (ns : List Name) (before : List Tree) → IsTerm m G t a
     → given before (abstractions (map (λ n. types) ns) t) (map other ns) ≡ Some (put_all (before ++ map other ns) t)
 given-abstractions {t = t} other [] before h = given-term before h ∙ ap (λ l. Some (put_all l t)) (sym (append-nil before))
-given-abstractions {t = t} other (n ∷ ns) before h = given-abstractions other ns (before ++ other n ∷ []) h ∙ ap (λ l. Some (put_all l t)) (append_assoc before (other n ∷ []) (map other ns))
+given-abstractions {t = t} other (n ∷ ns) before h =
+    given-abstractions other ns (before ++ other n ∷ []) h ∙ ap (λ l. Some (put_all l t)) (append_assoc before (other n ∷ []) (map other ns))
 
 -- the definition of a constant, under the binders of its type variables, is a term
 module _ (m : List Declaration) (closed : IsClosed m) (symbols : SymbolMap) (n : Name) (a : HolType) (t : Term) (d : IsDefinition m symbols n a t) where
@@ -90,11 +91,14 @@ module _ (m : List Declaration) (closed : IsClosed m) (symbols : SymbolMap) (n :
       let outer = filled symbols (under_types names unfilled) in
       let put_in = after Var (map scope.types names) in
       let agrees : Agrees symbols (IsIn names) (λ v. ⊥) 0 (through put_in outer) scope =
-      record { types = λ k i. types-agree m [] scope.types names unfilled Var k (inl i); terms = λ v no. absurd no; bounds = λ k l. absurd (omega (arith, l)) } in
+      record { types = λ k i. types-agree m [] scope.types names unfilled Var k (inl i); terms = λ v no. absurd no; bounds = λ k l. absurd (omega (arith, l)) }
+      in
       let becomes : trees.sub put_in (term_tree symbols outer t) ≡ term_tree symbols scope t =
-      term_tree-sub symbols put_in outer t ∙ term_tree-agrees symbols (IsIn names) (λ v. ⊥) 0 (through put_in outer) scope agrees t (AreInstances-over m symbols t d.over) d.type_variables d.no_free (loose-typed [] t a d.typed) in
+      term_tree-sub symbols put_in outer t ∙ term_tree-agrees symbols (IsIn names) (λ v. ⊥) 0 (through put_in outer) scope agrees t
+      (AreInstances-over m symbols t d.over) d.type_variables d.no_free (loose-typed [] t a d.typed) in
       let own = under_types-shaped m closed symbols names [] unfilled (λ k. shape.IsConstant.constant refl tt) in
-      let term = term_tree-shaped m closed symbols _ outer [] (filled-shaped m closed symbols _ (under_types names unfilled) own) (λ k b e. absurd (cc)) (λ k b e. absurd (cc)) t a d.over d.typed in
+      let term = term_tree-shaped m closed symbols _ outer [] (filled-shaped m closed symbols _ (under_types names unfilled) own) (λ k b e. absurd (cc))
+      (λ k b e. absurd (cc)) t a d.over d.typed in
       let s = constant_symbol symbols n in
       let xs = map scope.types names in
       ap (λ l. head_step m (applied (Sym s) l)) (own_arguments m symbols scope n a t d)
@@ -104,7 +108,8 @@ module _ (m : List Declaration) (closed : IsClosed m) (symbols : SymbolMap) (n :
       ∙ given-abstractions scope.types names [] term
       ∙ ap Some (put_all-after xs (term_tree symbols outer t) ∙ becomes)
 
-module _ (m : List Declaration) (closed : IsClosed m) (symbols : SymbolMap) (G : List Tree) (scope : Scope) (hypotheses : List Term) (stands : HasHypotheses m symbols G scope hypotheses) where
+module _ (m : List Declaration) (closed : IsClosed m) (symbols : SymbolMap) (G : List Tree) (scope : Scope) (hypotheses : List Term)
+    (stands : HasHypotheses m symbols G scope hypotheses) where
   -- reflexivity of what the left side becomes
   refl-computed : (a : HolType) (x y : Term) → TermOver m symbols (equation a x y) → HasType (equation a x y) bool
       → head_step m (term_tree symbols scope x) ≡ Some (term_tree symbols scope y)
@@ -116,14 +121,16 @@ module _ (m : List Declaration) (closed : IsClosed m) (symbols : SymbolMap) (G :
       let Y = term_tree symbols scope y in
       record {
         found = proof_of (eq_of A Y Y);
-        proof = shaped-refl m (type-here m closed symbols G scope hypotheses stands a parts.ty) (term-here m closed symbols G scope hypotheses stands y a parts.right sides.right);
+        proof = shaped-refl m (type-here m closed symbols G scope hypotheses stands a parts.ty)
+            (term-here m closed symbols G scope hypotheses stands y a parts.right sides.right);
         near = near-definition m A (term_tree symbols scope x) Y step;
       }
 
   -- betaConv
   pub beta-row : (a b : HolType) (t u : Term) → TermOver m symbols (equation b (app (lam a t) u) (binding.put u t))
       → HasType (equation b (app (lam a t) u) (binding.put u t)) bool
-      → Shown m G (refl_of (type_tree symbols scope.types b) (term_tree symbols scope (binding.put u t))) (term_tree symbols scope (equation b (app (lam a t) u) (binding.put u t)))
+      → Shown m G (refl_of (type_tree symbols scope.types b) (term_tree symbols scope (binding.put u t)))
+      (term_tree symbols scope (equation b (app (lam a t) u) (binding.put u t)))
   beta-row a b t u o h = refl-computed b (app (lam a t) u) (binding.put u t) o h (ap Some (term_tree-put symbols u scope t))
 
   -- defineConst
@@ -149,11 +156,14 @@ module _ (m : List Declaration) (closed : IsClosed m) (symbols : SymbolMap) (G :
         types = All-each _ (type_variables_of one) (λ n k. stands.is.types n);
         terms = All-each _ (free_variables_of one) (λ v k.
             subst (λ w. IsTerm m G (term_tree symbols scope (term_image terms (v.0, substitute [] v.1))) w) (type_tree-substitute symbols [] scope.types v.1)
-            (term-here m closed symbols G scope hypotheses stands (term_image terms (v.0, substitute [] v.1)) (substitute [] v.1) (over v k) (type_under-term_image [] terms (v.0, substitute [] v.1) fitting)));
+            (term-here m closed symbols G scope hypotheses stands (term_image terms (v.0, substitute [] v.1)) (substitute [] v.1) (over v k)
+            (type_under-term_image [] terms (v.0, substitute [] v.1) fitting)));
         proofs = All-each _ one.hypotheses (λ h k.
-            proof h (All-at _ one.hypotheses h p.over.hypotheses k) (All-at _ one.hypotheses h defines k) (same h (AreInstances-over m symbols h (All-at _ one.hypotheses h p.over.hypotheses k))));
+            proof h (All-at _ one.hypotheses h p.over.hypotheses k) (All-at _ one.hypotheses h defines k)
+            (same h (AreInstances-over m symbols h (All-at _ one.hypotheses h p.over.hypotheses k))));
       } in
-      subst (λ w. IsProof m false G (theorem_tree inner j one) (proof_of w)) (sym (same one.conclusion (AreInstances-over m symbols one.conclusion p.over.conclusion)))
+      subst (λ w. IsProof m false G (theorem_tree inner j one) (proof_of w))
+      (sym (same one.conclusion (AreInstances-over m symbols one.conclusion p.over.conclusion)))
       (theorem_tree-shaped m symbols G inner one j p.declared p.is (SequentOver-instances m symbols one p.over) fits)
     where
       proof : (h : Term) → TermOver m symbols h → (d : DefinesConstant m symbols terms h)
@@ -166,13 +176,17 @@ module _ (m : List Declaration) (closed : IsClosed m) (symbols : SymbolMap) (G :
           let parts = equation-over m symbols a left d.term own in
           let says = equation a (constant d.name a) d.term in
           let equality : substitute [] (equality_type a) ≡ equality_type a = substitute-nothing (equality_type a) in
-          let image : term_image terms (d.variable.0, substitute [] a) ≡ constant d.name a = ap (λ b. term_image terms (d.variable.0, b)) (substitute-nothing a) ∙ d.image in
-          let substituted : sub [] terms (equation a left d.term) ≡ says = λ i. app (app (constant equality_name (equality i)) (image i)) (sub-closed terms d.term d.definition.no_free i) in
+          let image : term_image terms (d.variable.0, substitute [] a) ≡ constant d.name a =
+          ap (λ b. term_image terms (d.variable.0, b)) (substitute-nothing a) ∙ d.image in
+          let substituted : sub [] terms (equation a left d.term) ≡ says =
+          λ i. app (app (constant equality_name (equality i)) (image i)) (sub-closed terms d.term d.definition.no_free i) in
           let A = type_tree symbols scope.types a in
           let T = term_tree symbols scope d.term in
           let hA = type-here m closed symbols G scope hypotheses stands a parts.ty in
           let hT : IsTerm m G T A = term-here m closed symbols G scope hypotheses stands d.term a parts.right d.definition.typed in
-          let hC = constant_tree-shaped m closed symbols G scope.types stands.is.types d.name a (constant-over m symbols d.name a d.term d.declared d.definition parts.ty) in
-          let t : Argument m G (refl_of A T) (proof_of (term_tree symbols scope says)) = laws.Argument.a_definition hC hT (constant-head m closed symbols d.name a d.term d.definition scope) (shaped-refl m hA hT) in
+          let hC = constant_tree-shaped m closed symbols G scope.types stands.is.types d.name a
+          (constant-over m symbols d.name a d.term d.declared d.definition parts.ty) in
+          let t : Argument m G (refl_of A T) (proof_of (term_tree symbols scope says)) =
+          laws.Argument.a_definition hC hT (constant-head m closed symbols d.name a d.term d.definition scope) (shaped-refl m hA hT) in
           subst (λ g. Argument m G (self_proof symbols scope g) (proof_of (term_tree symbols (constants_scope symbols scope terms) h))) (sym d.is)
           (subst (λ w. Argument m G (refl_of A T) (proof_of w)) (ap (term_tree symbols scope) (sym (ap (sub [] terms) d.is ∙ substituted)) ∙ e) t)

@@ -31,7 +31,8 @@ deep-zero scope = same_scope (deep 0 scope) scope (λ n. lift_zero (scope.types 
 
 -- and under one more it is inside
 pub deep-suc : (d : ℕ) (scope : Scope) → inside (deep d scope) ≡ deep (suc d) scope
-deep-suc d scope = same_scope (inside (deep d scope)) (deep (suc d) scope) (λ n. lift-lift 1 d (scope.types n) ∙ one (scope.types n)) (λ v. lift-lift 1 d (scope.terms v) ∙ one (scope.terms v)) (λ h. lift-lift 1 d (scope.proofs h) ∙ one (scope.proofs h)) go
+deep-suc d scope = same_scope (inside (deep d scope)) (deep (suc d) scope) (λ n. lift-lift 1 d (scope.types n) ∙ one (scope.types n))
+    (λ v. lift-lift 1 d (scope.terms v) ∙ one (scope.terms v)) (λ h. lift-lift 1 d (scope.proofs h) ∙ one (scope.proofs h)) go
   where
     one : (x : Tree) → lift (1 + d) x ≡ lift (suc d) x
     one x = ap (λ k. lift k x) (let e : 1 + d ≡ suc d = omega arith in e)
@@ -53,8 +54,11 @@ deep-suc d scope = same_scope (inside (deep d scope)) (deep (suc d) scope) (λ n
         own = grind arith
 
         by : (b : Bool) → nat_lt k d ≡ b
-            → lift 1 (cond (nat_lt k d) (Var k) (lift d (scope.bounds (k - d)))) ≡ cond (nat_lt (suc k) (suc d)) (Var (suc k)) (lift (suc d) (scope.bounds (suc k - suc d)))
-        by true e = ap (λ b. lift 1 (cond b (Var k) (lift d (scope.bounds (k - d))))) e ∙ own ∙ ap (λ b. cond b (Var (suc k)) (lift (suc d) (scope.bounds (suc k - suc d)))) (sym (next ∙ e))
+            → lift 1 (cond (nat_lt k d) (Var k) (lift d (scope.bounds (k - d))))
+            ≡ cond (nat_lt (suc k) (suc d)) (Var (suc k)) (lift (suc d) (scope.bounds (suc k - suc d)))
+        by true e = ap (λ b. lift 1 (cond b (Var k) (lift d (scope.bounds (k - d))))) e ∙ own
+            ∙ ap (λ b. cond b (Var (suc k)) (lift (suc d) (scope.bounds (suc k - suc d)))) (sym (next ∙ e))
         by false e =
-            ap (λ b. lift 1 (cond b (Var k) (lift d (scope.bounds (k - d))))) e ∙ lift-lift 1 d (scope.bounds (k - d)) ∙ one (scope.bounds (k - d)) ∙ ap (λ j. lift (suc d) (scope.bounds j)) (sym less)
+            ap (λ b. lift 1 (cond b (Var k) (lift d (scope.bounds (k - d))))) e ∙ lift-lift 1 d (scope.bounds (k - d)) ∙ one (scope.bounds (k - d))
+            ∙ ap (λ j. lift (suc d) (scope.bounds j)) (sym less)
             ∙ ap (λ b. cond b (Var (suc k)) (lift (suc d) (scope.bounds (suc k - suc d)))) (sym (next ∙ e))

@@ -72,7 +72,8 @@ module _ (vs : List Variable) (apart : IsDistinct variable_eq vs) where
 
   found : (es : TermPairs) (e : Variable × Term) → IsIn es e → is_some (lookup (variable_eq e.0) es) ≡ true
   found [] e k = absurd k
-  found (x ∷ es) e (inl same) = ap (λ b. is_some (cond b (Some x.1) (lookup (variable_eq e.0) es))) ((variable_eq-Decides e.0 x.0).1 (ap (λ (z : Variable × Term). z.0) same))
+  found (x ∷ es) e (inl same) = ap (λ b. is_some (cond b (Some x.1) (lookup (variable_eq e.0) es)))
+      ((variable_eq-Decides e.0 x.0).1 (ap (λ (z : Variable × Term). z.0) same))
   found (x ∷ es) e (inr k) = go (variable_eq e.0 x.0) (found es e k)
     where
       go : (b : Bool) → is_some (lookup (variable_eq e.0) es) ≡ true → is_some (cond b (Some x.1) (lookup (variable_eq e.0) es)) ≡ true
@@ -99,15 +100,19 @@ module _ (vs : List Variable) (apart : IsDistinct variable_eq vs) where
       → lookup (variable_eq e.0) post ≡ Some e.1
   unique pre [] l c e k = absurd k
   unique pre (x ∷ post) l c e (inl same) =
-      ap (λ b. cond b (Some x.1) (lookup (variable_eq e.0) post)) ((variable_eq-Decides e.0 x.0).1 (ap (λ (z : Variable × Term). z.0) same)) ∙ ap (λ (z : Variable × Term). Some z.1) (sym same)
+      ap (λ b. cond b (Some x.1) (lookup (variable_eq e.0) post)) ((variable_eq-Decides e.0 x.0).1 (ap (λ (z : Variable × Term). z.0) same))
+      ∙ ap (λ (z : Variable × Term). Some z.1) (sym same)
   unique pre (x ∷ post) l c e (inr k) =
       go (variable_eq e.0 x.0) (variable_eq-Decides e.0 x.0).0
-      (unique (pre ++ x ∷ []) post (subst (λ (es : TermPairs). length es ≤ length vs) (sym (append_assoc pre (x ∷ []) post)) l) (subst Covers (sym (append_assoc pre (x ∷ []) post)) c) e k)
+      (unique (pre ++ x ∷ []) post (subst (λ (es : TermPairs). length es ≤ length vs) (sym (append_assoc pre (x ∷ []) post)) l)
+      (subst Covers (sym (append_assoc pre (x ∷ []) post)) c) e k)
     where
       shorter : e.0 ≡ x.0 → length vs ≤ length (pre ++ post)
       shorter same =
           length-le_from_keys equivalence vs (pre ++ post) apart
-          (λ q h. dropped q x post (λ is. subst (λ (v : Variable). is_some (lookup (variable_eq v) post) ≡ true) (same ∙ sym ((variable_eq-Decides q x.0).0 is)) (found post e k)) pre (c q h))
+          (λ q h. dropped q x post
+          (λ is. subst (λ (v : Variable). is_some (lookup (variable_eq v) post) ≡ true) (same ∙ sym ((variable_eq-Decides q x.0).0 is)) (found post e k))
+          pre (c q h))
 
       go : (b : Bool) → (b ≡ true → e.0 ≡ x.0) → lookup (variable_eq e.0) post ≡ Some e.1 → cond b (Some x.1) (lookup (variable_eq e.0) post) ≡ Some e.1
       go true same rest =
@@ -122,7 +127,8 @@ module _ (f : Term → Option (Variable × Term)) (p : Variable × Term → Bool
   filtered : (hs : List Term) (h : Term) (e : Variable × Term) → IsIn hs h → f h ≡ Some e → p e ≡ true → IsIn (filter p (filter_map f hs)) e
   filtered [] h e k is good = absurd k
   filtered (x ∷ hs) h e (inl same) is good =
-      subst (λ o. IsIn (filter p (cons_option o (filter_map f hs))) e) (sym (ap f (sym same) ∙ is)) (subst (λ b. IsIn (cond b (e ∷ filter p (filter_map f hs)) (filter p (filter_map f hs))) e) (sym good) (inl refl))
+      subst (λ o. IsIn (filter p (cons_option o (filter_map f hs))) e) (sym (ap f (sym same) ∙ is))
+      (subst (λ b. IsIn (cond b (e ∷ filter p (filter_map f hs)) (filter p (filter_map f hs))) e) (sym good) (inl refl))
   filtered (x ∷ hs) h e (inr k) is good = go (f x) (filtered hs h e k is good)
     where
       by_test : (y : Variable × Term) (b : Bool) → IsIn (filter p (filter_map f hs)) e
@@ -139,27 +145,35 @@ after-option P None xs h = h
 after-option P (Some x) xs h = h.1
 
 -- a variable of the list is put by a constant, which its term defines
-put-defined : (ps : List Item) (d : Variable → Option Term) (qs : ConstantPairs) → AllByRecursion (IsDefinitionHeld ps) (filter_map (λ p. option_map (Definition.constant p.0) (d p.1)) qs)
+put-defined : (ps : List Item) (d : Variable → Option Term) (qs : ConstantPairs)
+    → AllByRecursion (IsDefinitionHeld ps) (filter_map (λ p. option_map (Definition.constant p.0) (d p.1)) qs)
     → (v : Variable) (t : Term) → is_in variable_eq v (variables_of qs) ≡ true → d v ≡ Some t → HasType t v.1 → IsDefinedBy ps (constants_put qs) v t
 put-defined ps d [] h v t i e k = absurd (cc)
 put-defined ps d (q ∷ qs) h v t i e k =
-    go (variable_eq v q.1) refl (variable_eq-Decides v q.1).0 i (put-defined ps d qs (after-option (IsDefinitionHeld ps) (option_map (Definition.constant q.0) (d q.1)) _ h) v t)
+    go (variable_eq v q.1) refl (variable_eq-Decides v q.1).0 i
+    (put-defined ps d qs (after-option (IsDefinitionHeld ps) (option_map (Definition.constant q.0) (d q.1)) _ h) v t)
   where
     go : (b : Bool) → variable_eq v q.1 ≡ b → (b ≡ true → v ≡ q.1) → (b || is_in variable_eq v (variables_of qs)) ≡ true
-        → (is_in variable_eq v (variables_of qs) ≡ true → d v ≡ Some t → HasType t v.1 → IsDefinedBy ps (constants_put qs) v t) → IsDefinedBy ps (constants_put (q ∷ qs)) v t
+        → (is_in variable_eq v (variables_of qs) ≡ true → d v ≡ Some t → HasType t v.1 → IsDefinedBy ps (constants_put qs) v t)
+        → IsDefinedBy ps (constants_put (q ∷ qs)) v t
     go true is same i rest =
         let v_is : v ≡ q.1 = same refl in
-        let defined = subst (λ o. AllByRecursion (IsDefinitionHeld ps) (cons_option (option_map (Definition.constant q.0) o) (filter_map (λ p. option_map (Definition.constant p.0) (d p.1)) qs))) (ap d (sym v_is) ∙ e) h in
+        let defined = subst
+        (λ o. AllByRecursion (IsDefinitionHeld ps)
+        (cons_option (option_map (Definition.constant q.0) o) (filter_map (λ p. option_map (Definition.constant p.0) (d p.1)) qs))) (ap d (sym v_is) ∙ e) h
+        in
         record {
           name = q.0;
-          image = ap (λ b. unwrap_or (cond b (Some (term.Term.constant q.0 q.1.1)) (lookup (variable_eq v) (constants_put qs))) (term.Term.free v.0 v.1)) is ∙ ap (λ (w : Variable). term.Term.constant q.0 w.1) (sym v_is);
+          image = ap (λ b. unwrap_or (cond b (Some (term.Term.constant q.0 q.1.1)) (lookup (variable_eq v) (constants_put qs))) (term.Term.free v.0 v.1)) is
+              ∙ ap (λ (w : Variable). term.Term.constant q.0 w.1) (sym v_is);
           has = subst (λ a. Has ps (defined_constant q.0 a t)) (type_or-is t v.1 k) defined.0;
         }
     go false is same i rest =
         let r = rest i e k in
         record {
           name = r.name;
-          image = ap (λ b. unwrap_or (cond b (Some (term.Term.constant q.0 q.1.1)) (lookup (variable_eq v) (constants_put qs))) (term.Term.free v.0 v.1)) is ∙ r.image;
+          image = ap (λ b. unwrap_or (cond b (Some (term.Term.constant q.0 q.1.1)) (lookup (variable_eq v) (constants_put qs))) (term.Term.free v.0 v.1)) is
+              ∙ r.image;
           has = r.has;
         }
 
@@ -176,9 +190,12 @@ some-value None e = absurd (cc)
 some-value (Some x) e = (x, refl)
 
 -- What an accepted list defines
-pub list-defines : (ps : List Item) (pairs : ConstantPairs) (one : Sequent) → IsSequent one → AllByRecursion (λ (e : Variable × Term). IsDefining e.0.1 e.1) (defining_equations pairs one.hypotheses)
-    → is_definition_list pairs one ≡ true → AllByRecursion (IsDefinitionHeld ps) (filter_map (λ p. option_map (Definition.constant p.0) (definiens pairs one.hypotheses p.1)) pairs)
-    → AllByRecursion (IsDefiningEquation ps (constants_put pairs)) one.hypotheses × AllByRecursion (λ v. (t : Term) × IsDefinedBy ps (constants_put pairs) v t) (free_variables_of one)
+pub list-defines : (ps : List Item) (pairs : ConstantPairs) (one : Sequent) → IsSequent one
+    → AllByRecursion (λ (e : Variable × Term). IsDefining e.0.1 e.1) (defining_equations pairs one.hypotheses)
+    → is_definition_list pairs one ≡ true → AllByRecursion (IsDefinitionHeld ps)
+    (filter_map (λ p. option_map (Definition.constant p.0) (definiens pairs one.hypotheses p.1)) pairs)
+    → AllByRecursion (IsDefiningEquation ps (constants_put pairs)) one.hypotheses
+    × AllByRecursion (λ v. (t : Term) × IsDefinedBy ps (constants_put pairs) v t) (free_variables_of one)
 list-defines ps pairs one is defining good held = (
   All-each (IsDefiningEquation ps (constants_put pairs)) one.hypotheses equation-defines,
   union-All (λ v. (t : Term) × IsDefinedBy ps (constants_put pairs) v t) variable_eq _ [] (tt {0}) (All-weaker _ _ variable-defined _ all_listed),
@@ -187,7 +204,8 @@ list-defines ps pairs one is defining good held = (
     parts : ListParts pairs one
     parts = list_parts pairs one good
 
-    equations : AllByRecursion (λ h. (e : Variable × Term) × ((variable_equation h ≡ Some e) × (is_in variable_eq e.0 (variables_of pairs) ≡ true))) one.hypotheses
+    equations : AllByRecursion (λ h. (e : Variable × Term) × ((variable_equation h ≡ Some e) × (is_in variable_eq e.0 (variables_of pairs) ≡ true)))
+        one.hypotheses
     equations = every-hypothesis pairs one is good
 
     covers : (q : Variable) → list_any (variable_eq q) (variables_of pairs) ≡ true
@@ -214,24 +232,34 @@ list-defines ps pairs one is defining good held = (
           term = e.0.1;
           is = hypothesis-is h e.0 (All-at (λ u. HasType u bool) one.hypotheses h is.hypotheses k) e.1.0;
           defined = put-defined ps (definiens pairs one.hypotheses) pairs held e.0.0 e.0.1 e.1.1
-              (unique (variables_of pairs) (distinct_variables (variables_of pairs) parts.variables) [] (defining_equations pairs one.hypotheses) no_more covers e.0 i) d.typed;
+              (unique (variables_of pairs) (distinct_variables (variables_of pairs) parts.variables) [] (defining_equations pairs one.hypotheses) no_more covers
+              e.0 i) d.typed;
         }
 
     variable-defined : (v : Variable) → is_in variable_eq v (variables_of pairs) ≡ true → (t : Term) × IsDefinedBy ps (constants_put pairs) v t
     variable-defined v i =
-        let t = some-value (definiens pairs one.hypotheses v) (covers v i) in
-        (t.0, put-defined ps (definiens pairs one.hypotheses) pairs held v t.0 i t.1 (lookup-All (λ q. IsDefining q.0.1 q.1) (defining_equations pairs one.hypotheses) v t.0 defining t.1).typed)
+        let t = some-value (definiens pairs one.hypotheses v) (covers v i) in (
+          t.0,
+          put-defined ps (definiens pairs one.hypotheses) pairs held v t.0 i t.1
+              (lookup-All (λ q. IsDefining q.0.1 q.1) (defining_equations pairs one.hypotheses) v t.0 defining t.1).typed,
+        )
 
     hypothesis-listed : (h : Term) → IsIn one.hypotheses h → AllByRecursion (λ v. is_in variable_eq v (variables_of pairs) ≡ true) (free_places h)
     hypothesis-listed h k =
         let e = All-at _ one.hypotheses h equations k in
         let i = filtered variable_equation (λ e. is_in variable_eq e.0 (variables_of pairs)) one.hypotheses h e.0 k e.1.0 e.1.1 in
         let d = All-at (λ (e : Variable × Term). IsDefining e.0.1 e.1) (defining_equations pairs one.hypotheses) e.0 defining i in
-        subst (λ u. AllByRecursion (λ v. is_in variable_eq v (variables_of pairs) ≡ true) (free_places u)) (sym (hypothesis-is h e.0 (All-at (λ u. HasType u bool) one.hypotheses h is.hypotheses k) e.1.0))
-        (e.1.1, All-weaker (λ v. ⊥) (λ v. is_in variable_eq v (variables_of pairs) ≡ true) (λ v f. absurd f) (free_places e.0.1) (closed-none (free_places e.0.1) d.closed))
+        subst (λ u. AllByRecursion (λ v. is_in variable_eq v (variables_of pairs) ≡ true) (free_places u))
+        (sym (hypothesis-is h e.0 (All-at (λ u. HasType u bool) one.hypotheses h is.hypotheses k) e.1.0)) (
+          e.1.1,
+          All-weaker (λ v. ⊥) (λ v. is_in variable_eq v (variables_of pairs) ≡ true) (λ v f. absurd f) (free_places e.0.1)
+              (closed-none (free_places e.0.1) d.closed),
+        )
 
     all_listed : AllByRecursion (λ v. is_in variable_eq v (variables_of pairs) ≡ true) (flat_map free_places (one.hypotheses ++ one.conclusion ∷ []))
     all_listed =
         all-flat (λ v. is_in variable_eq v (variables_of pairs) ≡ true) free_places (one.hypotheses ++ one.conclusion ∷ [])
-        (λ t k. ⊎_elim (hypothesis-listed t) (λ j. ⊎_elim (λ same. subst (λ u. AllByRecursion (λ v. is_in variable_eq v (variables_of pairs) ≡ true) (free_places u)) (sym same) (all-true (λ v. is_in variable_eq v (variables_of pairs)) (free_places one.conclusion) parts.no_others)) (λ n. absurd n) j)
+        (λ t k. ⊎_elim (hypothesis-listed t)
+        (λ j. ⊎_elim (λ same. subst (λ u. AllByRecursion (λ v. is_in variable_eq v (variables_of pairs) ≡ true) (free_places u)) (sym same)
+        (all-true (λ v. is_in variable_eq v (variables_of pairs)) (free_places one.conclusion) parts.no_others)) (λ n. absurd n) j)
         (IsIn-either one.hypotheses (one.conclusion ∷ []) t k))

@@ -117,7 +117,8 @@ pub record HasPart (items : List Item) (names : TypeNames) (j : ℕ) (one : Sequ
 abbrev pub DefinesAmong : List Item → StepKind → List ℕ → List Sequent → Parameters → Type 0
 DefinesAmong items kinds.DefineConst js premises (Parameters.constant n t) = Has items (defined_constant n (type_or t) t)
 DefinesAmong items kinds.DefineConstList js (one ∷ []) (Parameters.constants pairs) =
-    AllByRecursion (IsDefiningEquation items (constants_put pairs)) one.hypotheses × AllByRecursion (λ v. (t : Term) × IsDefinedBy items (constants_put pairs) v t) (free_variables_of one)
+    AllByRecursion (IsDefiningEquation items (constants_put pairs)) one.hypotheses
+    × AllByRecursion (λ v. (t : Term) × IsDefinedBy items (constants_put pairs) v t) (free_variables_of one)
 DefinesAmong items kinds.FirstLaw (j ∷ []) (one ∷ []) (Parameters.type_operator names version) = HasPart items names j one
 DefinesAmong items kinds.SecondLaw (j ∷ []) (one ∷ []) (Parameters.type_operator names version) = HasPart items names j one
 DefinesAmong items kind js premises given = Unit {0}
@@ -128,8 +129,10 @@ IsContent items (operator n k) = Unit {0}
 IsContent items (constant n a) = TypeTaken items a
 IsContent items (defined_constant n a t) = IsDefining items a t
 IsContent items (type_operator names c u j one) = IsPart items names c u j one
-IsContent items (type_abstraction names c u j one) = IsPart items names c u j one × TypeTaken items (abstraction_type names c) × Has items (type_operator names c u j one)
-IsContent items (type_representation names c u j one) = IsPart items names c u j one × TypeTaken items (representation_type names c) × Has items (type_operator names c u j one)
+IsContent items (type_abstraction names c u j one) =
+    IsPart items names c u j one × TypeTaken items (abstraction_type names c) × Has items (type_operator names c u j one)
+IsContent items (type_representation names c u j one) =
+    IsPart items names c u j one × TypeTaken items (representation_type names c) × Has items (type_operator names c u j one)
 IsContent items (unproved s) = SequentTaken items s
 IsContent items (step kind js premises given s) = IsStep items kind js premises given s × DefinesAmong items kind js premises given
 
@@ -139,8 +142,10 @@ Tells symbols i (operator n k) = operator_symbol symbols n k ≡ i
 Tells symbols i (constant n a) = (constant_symbol symbols n ≡ i) × (generic_type symbols n ≡ a)
 Tells symbols i (defined_constant n a t) = (constant_symbol symbols n ≡ i) × (generic_type symbols n ≡ a)
 Tells symbols i (type_operator names c u j one) = operator_symbol symbols names.operator (length names.variables) ≡ i
-Tells symbols i (type_abstraction names c u j one) = (constant_symbol symbols names.abstraction ≡ i) × (generic_type symbols names.abstraction ≡ abstraction_type names c)
-Tells symbols i (type_representation names c u j one) = (constant_symbol symbols names.representation ≡ i) × (generic_type symbols names.representation ≡ representation_type names c)
+Tells symbols i (type_abstraction names c u j one) =
+    (constant_symbol symbols names.abstraction ≡ i) × (generic_type symbols names.abstraction ≡ abstraction_type names c)
+Tells symbols i (type_representation names c u j one) =
+    (constant_symbol symbols names.representation ≡ i) × (generic_type symbols names.representation ≡ representation_type names c)
 Tells symbols i (unproved s) = Unit {0}
 Tells symbols i (step kind js premises given s) = Unit {0}
 
@@ -148,4 +153,5 @@ Tells symbols i (step kind js premises given s) = Unit {0}
 abbrev pub AreItems : SymbolMap → List Item → List Item → Type 0
 AreItems symbols before [] = Unit {0}
 AreItems symbols before (x ∷ xs) =
-    (x.symbol ≡ length signature + (length lemmas + length before)) × Tells symbols x.symbol x.content × IsContent before x.content × AreItems symbols (before ++ x ∷ []) xs
+    (x.symbol ≡ length signature + (length lemmas + length before)) × Tells symbols x.symbol x.content × IsContent before x.content
+    × AreItems symbols (before ++ x ∷ []) xs

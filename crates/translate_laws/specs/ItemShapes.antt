@@ -57,24 +57,33 @@ module _ (m : List Declaration) where
       let bool : IsSimple m G bools = constant refl tt in
       let predicates : IsSimple m G (arr_of a bools) = at_type (at_type (constant refl tt) ha refl) bool refl in
       let relations : IsSimple m G (arr_of a (arr_of a bools)) = at_type (at_type (constant refl tt) ha refl) predicates refl in
-      let equality : IsTerm m G (App (Sym eq_symbol) a) (arr_of a (arr_of a bools)) = of_constant (at_type (constant refl tt) ha (ap (λ w. term_of (arr_of w (arr_of w bools))) (lift_zero a))) relations in
+      let equality : IsTerm m G (App (Sym eq_symbol) a) (arr_of a (arr_of a bools)) =
+      of_constant (at_type (constant refl tt) ha (ap (λ w. term_of (arr_of w (arr_of w bools))) (lift_zero a))) relations in
       let equals_x : IsTerm m G (App (App (Sym eq_symbol) a) x) (arr_of a bools) = of_function equality hx in
-      shaped-eq_mp m (shaped-equation m ha hx hy) (shaped-equation m ha hx hz) (shaped-app_thm m ha bool equals_x equals_x hy hz (shaped-refl m predicates equals_x) hh) hg
+      shaped-eq_mp m (shaped-equation m ha hx hy) (shaped-equation m ha hx hz)
+      (shaped-app_thm m ha bool equals_x equals_x hy hz (shaped-refl m predicates equals_x) hh) hg
 
   -- the lemma of transitivity is shaped over every module
   pub trans_lemma-shaped : IsShaped m trans_lemma
   trans_lemma-shaped =
       record {
-        ty = of_products of_types (of_products (of_terms (type_variable refl)) (of_products (of_terms (type_variable refl)) (of_products (of_terms (type_variable refl))
-            (of_products (of_proofs (shaped-equation m (type_variable refl) (of_entry refl refl (type_variable refl)) (of_entry refl refl (type_variable refl))))
-            (of_products (of_proofs (shaped-equation m (type_variable refl) (of_entry refl refl (type_variable refl)) (of_entry refl refl (type_variable refl))))
+        ty = of_products of_types
+            (of_products (of_terms (type_variable refl)) (of_products (of_terms (type_variable refl)) (of_products (of_terms (type_variable refl))
+            (of_products
+            (of_proofs (shaped-equation m (type_variable refl) (of_entry refl refl (type_variable refl)) (of_entry refl refl (type_variable refl))))
+            (of_products
+            (of_proofs (shaped-equation m (type_variable refl) (of_entry refl refl (type_variable refl)) (of_entry refl refl (type_variable refl))))
             (of_proofs (shaped-equation m (type_variable refl) (of_entry refl refl (type_variable refl)) (of_entry refl refl (type_variable refl)))))))));
         body = inl (record {
           found = _;
-          proof = under_binder of_types (under_binder (of_terms (type_variable refl)) (under_binder (of_terms (type_variable refl)) (under_binder (of_terms (type_variable refl))
-              (under_binder (of_proofs (shaped-equation m (type_variable refl) (of_entry refl refl (type_variable refl)) (of_entry refl refl (type_variable refl))))
-              (under_binder (of_proofs (shaped-equation m (type_variable refl) (of_entry refl refl (type_variable refl)) (of_entry refl refl (type_variable refl))))
-              (shaped-trans_proof (type_variable refl) (of_entry refl refl (type_variable refl)) (of_entry refl refl (type_variable refl)) (of_entry refl refl (type_variable refl)) (hypothesis refl refl) (hypothesis refl refl)))))));
+          proof = under_binder of_types
+              (under_binder (of_terms (type_variable refl)) (under_binder (of_terms (type_variable refl)) (under_binder (of_terms (type_variable refl))
+              (under_binder
+              (of_proofs (shaped-equation m (type_variable refl) (of_entry refl refl (type_variable refl)) (of_entry refl refl (type_variable refl))))
+              (under_binder
+              (of_proofs (shaped-equation m (type_variable refl) (of_entry refl refl (type_variable refl)) (of_entry refl refl (type_variable refl))))
+              (shaped-trans_proof (type_variable refl) (of_entry refl refl (type_variable refl)) (of_entry refl refl (type_variable refl))
+              (of_entry refl refl (type_variable refl)) (hypothesis refl refl) (hypothesis refl refl)))))));
           near = near_same;
         });
       }
@@ -98,7 +107,8 @@ module _ (m : List Declaration) where
   operator_type-shaped zero = of_types
   operator_type-shaped (suc k) = of_products of_types (operator_type-shaped k)
 
-module _ (m : List Declaration) (symbols : SymbolMap) (before : List Item) (holds : AllByRecursion (HoldsItem m symbols) before) (closed : IsClosed m) (has : HasLemmas m) where
+module _ (m : List Declaration) (symbols : SymbolMap) (before : List Item) (holds : AllByRecursion (HoldsItem m symbols) before) (closed : IsClosed m)
+    (has : HasLemmas m) where
   -- the type of a constant is declared
   generic_tree-shaped : (a : HolType) → TypeOver m symbols a → IsDeclared m [] (generic_tree symbols a)
   generic_tree-shaped a o =
@@ -114,11 +124,18 @@ module _ (m : List Declaration) (symbols : SymbolMap) (before : List Item) (hold
       let D = under [] (map (λ n. types) names) in
       let shaped = under_types-shaped m closed symbols names [] unfilled (λ n. constant refl tt) in
       definition-abstractions m names
-      (defined (term_tree-shaped m closed symbols D (filled symbols (under_types names unfilled)) [] (filled-shaped m closed symbols D (under_types names unfilled) shaped) (λ k b e. absurd (cc)) (λ k b e. absurd (cc)) t a o h))
+      (defined (term_tree-shaped m closed symbols D (filled symbols (under_types names unfilled)) []
+      (filled-shaped m closed symbols D (under_types names unfilled) shaped) (λ k b e. absurd (cc)) (λ k b e. absurd (cc)) t a o h))
 
   part-premise : (names : TypeNames) (c : HolType) (u : Term) (j : ℕ) (one : Sequent) → IsPart before names c u j one → IsPartPremise m symbols names c j one
   part-premise names c u j one h =
-      record { f = u; defines = h.defines; premise = (ArePremises-among m symbols before holds (j ∷ []) (one ∷ []) h.among).0; ty = TypeOver-taken m symbols before holds c h.ty }
+      record {
+        f = u;
+        defines = h.defines;
+        premise = (ArePremises-among m symbols before holds (j ∷ []) (one ∷ []) h.among).0;
+        ty =
+            TypeOver-taken m symbols before holds c h.ty;
+      }
 
   -- The declaration of an item is shaped
   pub content-shaped : (name : List ℕ) (c : Content) → IsContent before c → IsShaped m (declaration_of symbols name c)
@@ -126,16 +143,27 @@ module _ (m : List Declaration) (symbols : SymbolMap) (before : List Item) (hold
   content-shaped name (item.Content.constant n a) h = record { ty = generic_tree-shaped a (TypeOver-taken m symbols before holds a h); body = refl }
   content-shaped name (defined_constant n a t) h =
       let o = TermOver-taken m symbols before holds t h.taken in
-      record { ty = generic_tree-shaped a (TypeOver-type_under m symbols [] (λ k b e. absurd (cc)) t a o h.typed); body = inl (definition-shaped a t o h.typed) }
+      record {
+        ty = generic_tree-shaped a (TypeOver-type_under m symbols [] (λ k b e. absurd (cc)) t a o h.typed);
+        body =
+            inl (definition-shaped a t o h.typed);
+      }
   content-shaped name (type_operator names c u j one) h =
-      let d = part-premise names c u j one h in record { ty = operator_type-shaped m (length names.variables); body = inr (operator-shaped m closed symbols names c j one d, part_definition-big m closed symbols names c j one d names.variables sub_symbol) }
+      let d = part-premise names c u j one h in record {
+        ty = operator_type-shaped m (length names.variables);
+        body =
+            inr (operator-shaped m closed symbols names c j one d, part_definition-big m closed symbols names c j one d names.variables sub_symbol);
+      }
   content-shaped name (type_abstraction names c u j one) h =
       let d = part-premise names c u j one h.0 in
       let op = held m symbols before holds (type_operator names c u j one) h.2 in
       let a = abstraction_type names c in
       record {
         ty = generic_tree-shaped a (TypeOver-taken m symbols before holds a h.1);
-        body = inr (abstraction-shaped m closed symbols names c j one d op, part_definition-big m closed symbols names c j one d (type_variables a) sub_abs_symbol);
+        body = inr (
+          abstraction-shaped m closed symbols names c j one d op,
+          part_definition-big m closed symbols names c j one d (type_variables a) sub_abs_symbol,
+        );
       }
   content-shaped name (type_representation names c u j one) h =
       let d = part-premise names c u j one h.0 in
@@ -143,7 +171,10 @@ module _ (m : List Declaration) (symbols : SymbolMap) (before : List Item) (hold
       let a = representation_type names c in
       record {
         ty = generic_tree-shaped a (TypeOver-taken m symbols before holds a h.1);
-        body = inr (representation-shaped m closed symbols names c j one d op, part_definition-big m closed symbols names c j one d (type_variables a) sub_rep_symbol);
+        body = inr (
+          representation-shaped m closed symbols names c j one d op,
+          part_definition-big m closed symbols names c j one d (type_variables a) sub_rep_symbol,
+        );
       }
   content-shaped name (unproved s) h =
       let own = own_shape m closed symbols s h.is (SequentOver-taken m symbols before holds s h) in
@@ -151,12 +182,15 @@ module _ (m : List Declaration) (symbols : SymbolMap) (before : List Item) (hold
   content-shaped name (step kind js premises given s) h =
       let over = SequentOver-taken m symbols before holds s h.0.taken in
       let own = own_shape m closed symbols s h.0.taken.is over in
-      let row = step-shaped m closed has symbols kind js premises given s h.0.rule h.0.row (ArePremises-among m symbols before holds js premises h.0.among) (defined_among m symbols before holds kind js premises given h.1) h.0.taken.is over in
+      let row = step-shaped m closed has symbols kind js premises given s h.0.rule h.0.row (ArePremises-among m symbols before holds js premises h.0.among)
+      (defined_among m symbols before holds kind js premises given h.1) h.0.taken.is over in
       record { ty = declared-products m (domains_of symbols s) own.domains own.conclusion; body = body s kind js premises given own row }
     where
       body : (s : Sequent) (kind : StepKind) (js : List ℕ) (premises : List Sequent) (given : Parameters) → OwnShape m symbols s
-          → Shown m (context_of symbols s) (proof_tree symbols (scope_of symbols s) kind js premises given) (term_tree symbols (scope_of symbols s) s.conclusion)
-          ⊎ ShownLaw m (context_of symbols s) (proof_tree symbols (scope_of symbols s) kind js premises given) (term_tree symbols (scope_of symbols s) s.conclusion)
+          → Shown m (context_of symbols s) (proof_tree symbols (scope_of symbols s) kind js premises given)
+          (term_tree symbols (scope_of symbols s) s.conclusion)
+          ⊎ ShownLaw m (context_of symbols s) (proof_tree symbols (scope_of symbols s) kind js premises given)
+          (term_tree symbols (scope_of symbols s) s.conclusion)
           → IsProofBody m (abstractions (domains_of symbols s) (proof_tree symbols (scope_of symbols s) kind js premises given)) (sequent_tree symbols s)
           ⊎ IsLawBody m (abstractions (domains_of symbols s) (proof_tree symbols (scope_of symbols s) kind js premises given)) (sequent_tree symbols s)
       body s kind js premises given own (inl row) = inl (record {
@@ -188,11 +222,17 @@ module _ (symbols : SymbolMap) where
       let place : x.symbol ≡ length signature + length m = h.0 ∙ ap (λ k. length signature + k) (sym size) in
       let declared : symbol_declaration (m ++ d ∷ []) x.symbol ≡ Some d = ap (symbol_declaration (m ++ d ∷ [])) place ∙ slice_get-last signature m d in
       let new : HoldsItem (m ++ d ∷ []) symbols x = content-holds symbols m before x.symbol x.name x.content holds h.2 h.1 declared in
-      let old : AllByRecursion (HoldsItem (m ++ d ∷ []) symbols) before = All-weaker (HoldsItem m symbols) (HoldsItem (m ++ d ∷ []) symbols) (λ y k. Holds-append m (d ∷ []) symbols y.symbol y.content k) before holds in
-      let longer : length (m ++ d ∷ []) ≡ length lemmas + length (before ++ x ∷ []) = omega (arith, length-append m (d ∷ []), length-append before (x ∷ []), size) in (
+      let old : AllByRecursion (HoldsItem (m ++ d ∷ []) symbols) before =
+      All-weaker (HoldsItem m symbols) (HoldsItem (m ++ d ∷ []) symbols) (λ y k. Holds-append m (d ∷ []) symbols y.symbol y.content k) before holds in
+      let longer : length (m ++ d ∷ []) ≡ length lemmas + length (before ++ x ∷ []) =
+      omega (arith, length-append m (d ∷ []), length-append before (x ∷ []), size) in (
         shaped,
         items-shaped (m ++ d ∷ []) (before ++ x ∷ []) xs (IsSound-after m d sound (shaped-IsTypedAfter m sound d shaped))
-            (record { symmetry = symbol_type-append m (d ∷ []) sym_symbol _ has.symmetry; transitivity = symbol_type-append m (d ∷ []) trans_symbol _ has.transitivity })
+            (record {
+              symmetry = symbol_type-append m (d ∷ []) sym_symbol _ has.symmetry;
+              transitivity =
+                  symbol_type-append m (d ∷ []) trans_symbol _ has.transitivity;
+            })
             longer (All-append (HoldsItem (m ++ d ∷ []) symbols) before (x ∷ []) old (new, tt {0})) h.3,
       )
 
@@ -208,7 +248,8 @@ made-shaped xs h = module-shaped (symbols_of xs) xs (items-made [] xs h)
 
 -- it is shaped
 pub reached-shaped : (roots : List Key) (made : List Item) → AreMadeInOrder [] made → AreShaped [] (reached roots made)
-reached-shaped roots made h = made-shaped (image_items (keep_of roots made) made) (image-made (keep_of roots made) [] made refl (made-numbered roots [] made (tt {0}) h))
+reached-shaped roots made h = made-shaped (image_items (keep_of roots made) made)
+    (image-made (keep_of roots made) [] made refl (made-numbered roots [] made (tt {0}) h))
 
 -- Well typed, by the shapes alone
 pub reached-WellTyped : (roots : List Key) (made : List Item) → AreMadeInOrder [] made → WellTyped (reached roots made)

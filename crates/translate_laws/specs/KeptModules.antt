@@ -39,7 +39,8 @@ AreKept keep before keys = (x : Item) → IsIn before x → IsIn keys (gives x) 
 
 pub IsIn-kept : (keep : ℕ → Bool) (xs : List Item) (x : Item) → IsIn xs x → keep x.symbol ≡ true → IsIn (kept keep xs) x
 IsIn-kept keep [] x k e = absurd k
-IsIn-kept keep (y ∷ ys) x (inl is) e = subst (λ b. IsIn (cond b (y ∷ kept keep ys) (kept keep ys)) x) (sym (ap (λ (z : Item). keep z.symbol) (sym is) ∙ e)) (inl is)
+IsIn-kept keep (y ∷ ys) x (inl is) e = subst (λ b. IsIn (cond b (y ∷ kept keep ys) (kept keep ys)) x) (sym (ap (λ (z : Item). keep z.symbol) (sym is) ∙ e))
+    (inl is)
 IsIn-kept keep (y ∷ ys) x (inr k) e = go (keep y.symbol) (IsIn-kept keep ys x k e)
   where
     go : (b : Bool) → IsIn (kept keep ys) x → IsIn (cond b (y ∷ kept keep ys) (kept keep ys)) x
@@ -61,7 +62,8 @@ module _ (keep : ℕ → Bool) (before : List Item) where
   operator-kept n k keys i h (items.OperatorTaken.primitive e) = items.OperatorTaken.primitive e
   operator-kept n k keys i h (items.OperatorTaken.declared t) = items.OperatorTaken.declared (Has-kept (operator n k) keys (λ j. i) h t)
   operator-kept n k keys i h (items.OperatorTaken.part names c u j one t e f) =
-      items.OperatorTaken.part names c u j one (Has-kept (type_operator names c u j one) keys (λ l. subst (λ q. IsIn keys q) (λ w. operator_key (e w) (f w)) i) h t) e f
+      items.OperatorTaken.part names c u j one
+      (Has-kept (type_operator names c u j one) keys (λ l. subst (λ q. IsIn keys q) (λ w. operator_key (e w) (f w)) i) h t) e f
 
   constant-kept : (n : Name) (a : HolType) (keys : List Key) → IsIn keys (constant_key n) → AreKept keep before keys → ConstantTaken before n a
       → ConstantTaken (kept keep before) n a
@@ -69,30 +71,37 @@ module _ (keep : ℕ → Bool) (before : List Item) where
   constant-kept n a keys i h (items.ConstantTaken.declared g t w) = items.ConstantTaken.declared g (Has-kept (constant n g) keys (λ j. i) h t) w
   constant-kept n a keys i h (items.ConstantTaken.defined g u t w) = items.ConstantTaken.defined g u (Has-kept (defined_constant n g u) keys (λ j. i) h t) w
   constant-kept n a keys i h (items.ConstantTaken.abstraction names c u j one t e w) =
-      items.ConstantTaken.abstraction names c u j one (Has-kept (type_abstraction names c u j one) keys (λ l. subst (λ q. IsIn keys (constant_key q)) e i) h t) e w
+      items.ConstantTaken.abstraction names c u j one (Has-kept (type_abstraction names c u j one) keys (λ l. subst (λ q. IsIn keys (constant_key q)) e i) h t)
+      e w
   constant-kept n a keys i h (items.ConstantTaken.representation names c u j one t e w) =
-      items.ConstantTaken.representation names c u j one (Has-kept (type_representation names c u j one) keys (λ l. subst (λ q. IsIn keys (constant_key q)) e i) h t) e w
+      items.ConstantTaken.representation names c u j one
+      (Has-kept (type_representation names c u j one) keys (λ l. subst (λ q. IsIn keys (constant_key q)) e i) h t) e w
 
   mutual
     type-kept : (t : HolType) → AreKept keep before (type_keys t) → TypeTaken before t → TypeTaken (kept keep before) t
     type-kept (type.HolType.variable n) h o = tt
-    type-kept (type.HolType.operator n ts) h o = (operator-kept n (count ts) (operator_key n (count ts) ∷ types_keys ts) (inl refl) h o.0, types-kept ts (λ x i k. h x i (inr k)) o.1)
+    type-kept (type.HolType.operator n ts) h o =
+        (operator-kept n (count ts) (operator_key n (count ts) ∷ types_keys ts) (inl refl) h o.0, types-kept ts (λ x i k. h x i (inr k)) o.1)
 
     types-kept : (ts : HolTypes) → AreKept keep before (types_keys ts) → TypesTaken before ts → TypesTaken (kept keep before) ts
     types-kept type.HolTypes.none h o = tt
-    types-kept (type.HolTypes.more t ts) h o = (type-kept t (AreKept-left (type_keys t) (types_keys ts) h) o.0, types-kept ts (AreKept-right (type_keys t) (types_keys ts) h) o.1)
+    types-kept (type.HolTypes.more t ts) h o =
+        (type-kept t (AreKept-left (type_keys t) (types_keys ts) h) o.0, types-kept ts (AreKept-right (type_keys t) (types_keys ts) h) o.1)
 
   term-kept : (t : Term) → AreKept keep before (term_keys t) → TermTaken before t → TermTaken (kept keep before) t
   term-kept (term.Term.free n t) h o = type-kept t h o
   term-kept (term.Term.bound k) h o = tt
   term-kept (term.Term.constant n t) h o = (constant-kept n t (constant_key n ∷ type_keys t) (inl refl) h o.0, type-kept t (λ x i k. h x i (inr k)) o.1)
-  term-kept (term.Term.app f x) h o = (term-kept f (AreKept-left (term_keys f) (term_keys x) h) o.0, term-kept x (AreKept-right (term_keys f) (term_keys x) h) o.1)
-  term-kept (term.Term.lam t b) h o = (type-kept t (AreKept-left (type_keys t) (term_keys b) h) o.0, term-kept b (AreKept-right (type_keys t) (term_keys b) h) o.1)
+  term-kept (term.Term.app f x) h o =
+      (term-kept f (AreKept-left (term_keys f) (term_keys x) h) o.0, term-kept x (AreKept-right (term_keys f) (term_keys x) h) o.1)
+  term-kept (term.Term.lam t b) h o =
+      (type-kept t (AreKept-left (type_keys t) (term_keys b) h) o.0, term-kept b (AreKept-right (type_keys t) (term_keys b) h) o.1)
 
   terms-kept : (ts : List Term) → AreKept keep before (flat_map term_keys ts) → AllByRecursion (TermTaken before) ts
       → AllByRecursion (TermTaken (kept keep before)) ts
   terms-kept [] h o = tt
-  terms-kept (t ∷ ts) h o = (term-kept t (AreKept-left (term_keys t) (flat_map term_keys ts) h) o.0, terms-kept ts (AreKept-right (term_keys t) (flat_map term_keys ts) h) o.1)
+  terms-kept (t ∷ ts) h o =
+      (term-kept t (AreKept-left (term_keys t) (flat_map term_keys ts) h) o.0, terms-kept ts (AreKept-right (term_keys t) (flat_map term_keys ts) h) o.1)
 
   sequent-kept : (s : Sequent) → AreKept keep before (sequent_keys s) → SequentTaken before s → SequentTaken (kept keep before) s
   sequent-kept s h o = record {
@@ -112,13 +121,16 @@ module _ (keep : ℕ → Bool) (before : List Item) where
   )
 
   -- a constant that stands for a variable is among the terms that are put
-  image-key : (terms : TermPairs) (v : Variable) (n : Name) (a : HolType) → term_image terms v ≡ term.Term.constant n a → IsIn (flat_map (λ (p : Variable × Term). term_keys p.1) terms) (constant_key n)
+  image-key : (terms : TermPairs) (v : Variable) (n : Name) (a : HolType) → term_image terms v ≡ term.Term.constant n a
+      → IsIn (flat_map (λ (p : Variable × Term). term_keys p.1) terms) (constant_key n)
   image-key [] v n a e = absurd (cc)
   image-key (p ∷ ps) v n a e = go (variable_eq v p.0) (λ f. image-key ps v n a f) e
     where
       go : (b : Bool) → (term_image ps v ≡ term.Term.constant n a → IsIn (flat_map (λ (p : Variable × Term). term_keys p.1) ps) (constant_key n))
-          → unwrap_or (cond b (Some p.1) (lookup (variable_eq v) ps)) (term.Term.free v.0 v.1) ≡ term.Term.constant n a → IsIn (term_keys p.1 ++ flat_map (λ (p : Variable × Term). term_keys p.1) ps) (constant_key n)
-      go true later e = IsIn-left (term_keys p.1) (flat_map (λ (p : Variable × Term). term_keys p.1) ps) (constant_key n) (subst (λ t. IsIn (term_keys t) (constant_key n)) (sym e) (inl refl))
+          → unwrap_or (cond b (Some p.1) (lookup (variable_eq v) ps)) (term.Term.free v.0 v.1) ≡ term.Term.constant n a
+          → IsIn (term_keys p.1 ++ flat_map (λ (p : Variable × Term). term_keys p.1) ps) (constant_key n)
+      go true later e = IsIn-left (term_keys p.1) (flat_map (λ (p : Variable × Term). term_keys p.1) ps) (constant_key n)
+          (subst (λ t. IsIn (term_keys t) (constant_key n)) (sym e) (inl refl))
       go false later e = IsIn-right (term_keys p.1) (flat_map (λ (p : Variable × Term). term_keys p.1) ps) (constant_key n) (later e)
 
   defined-kept : (terms : TermPairs) (v : Variable) (t : Term) → AreKept keep before (flat_map (λ p. term_keys p.1) terms) → IsDefinedBy before terms v t
@@ -137,7 +149,8 @@ module _ (keep : ℕ → Bool) (before : List Item) where
       → DefinesAmong before kinds.DefineConstList js premises given → DefinesAmong (kept keep before) kinds.DefineConstList js premises given
   list-kept js (one ∷ []) (Parameters.constants pairs) h d = (
     All-weaker _ _ (equation-kept (constants_put pairs) h) one.hypotheses d.0,
-    All-weaker _ _ (λ (v : Variable) (w : (t : Term) × IsDefinedBy before (constants_put pairs) v t). (w.0, defined-kept (constants_put pairs) v w.0 h w.1)) (free_variables_of one) d.1,
+    All-weaker _ _ (λ (v : Variable) (w : (t : Term) × IsDefinedBy before (constants_put pairs) v t). (w.0, defined-kept (constants_put pairs) v w.0 h w.1))
+        (free_variables_of one) d.1,
   )
   list-kept js [] given h d = tt
   list-kept js (one ∷ two ∷ ss) given h d = tt
@@ -187,7 +200,8 @@ module _ (keep : ℕ → Bool) (before : List Item) where
     defines = o.defines;
     operator = Has-kept (type_operator names o.c o.f j one) (given_keys (Parameters.type_operator names Six)) (λ i. inl refl) h o.operator;
     abstraction = Has-kept (type_abstraction names o.c o.f j one) (given_keys (Parameters.type_operator names Six)) (λ i. inr (inl refl)) h o.abstraction;
-    representation = Has-kept (type_representation names o.c o.f j one) (given_keys (Parameters.type_operator names Six)) (λ i. inr (inr (inl refl))) h o.representation;
+    representation = Has-kept (type_representation names o.c o.f j one) (given_keys (Parameters.type_operator names Six)) (λ i. inr (inr (inl refl))) h
+        o.representation;
   }
 
   defines-kept : (kind : StepKind) (js : List ℕ) (premises : List Sequent) (given : Parameters) → AreKept keep before (given_keys given)
@@ -243,14 +257,16 @@ module _ (keep : ℕ → Bool) (before : List Item) where
       let parts = type-of-function c (new_type names) all in (
         part-kept names c u j one (λ x i. ⊎_elim (λ e. h x i (inl e)) (λ k. parts.0 x i k)) o.0,
         type-kept (abstraction_type names c) all o.1,
-        Has-kept (type_operator names c u j one) (operator_key names.operator (length names.variables) ∷ []) (λ i. inl refl) (operator-of-new names parts.1) o.2,
+        Has-kept (type_operator names c u j one) (operator_key names.operator (length names.variables) ∷ []) (λ i. inl refl) (operator-of-new names parts.1)
+            o.2,
       )
   content-kept (type_representation names c u j one) h o =
       let all = AreKept-right (number_key j ∷ []) (type_keys (representation_type names c)) h in
       let parts = type-of-function (new_type names) c all in (
         part-kept names c u j one (λ x i. ⊎_elim (λ e. h x i (inl e)) (λ k. parts.1 x i k)) o.0,
         type-kept (representation_type names c) all o.1,
-        Has-kept (type_operator names c u j one) (operator_key names.operator (length names.variables) ∷ []) (λ i. inl refl) (operator-of-new names parts.0) o.2,
+        Has-kept (type_operator names c u j one) (operator_key names.operator (length names.variables) ∷ []) (λ i. inl refl) (operator-of-new names parts.0)
+            o.2,
       )
   content-kept (unproved s) h o = sequent-kept s h o
   content-kept (step kind js premises given s) h o =
@@ -296,14 +312,17 @@ module _ (number : ℕ → ℕ) (xs : List Item) where
   operator-renumbered : (n : Name) (k : ℕ) → OperatorTaken xs n k → OperatorTaken ys n k
   operator-renumbered n k (items.OperatorTaken.primitive e) = items.OperatorTaken.primitive e
   operator-renumbered n k (items.OperatorTaken.declared t) = items.OperatorTaken.declared (Has-renumbered (operator n k) t)
-  operator-renumbered n k (items.OperatorTaken.part names c u j one t e f) = items.OperatorTaken.part names c u (number j) one (Has-renumbered (type_operator names c u j one) t) e f
+  operator-renumbered n k (items.OperatorTaken.part names c u j one t e f) =
+      items.OperatorTaken.part names c u (number j) one (Has-renumbered (type_operator names c u j one) t) e f
 
   constant-renumbered : (n : Name) (a : HolType) → ConstantTaken xs n a → ConstantTaken ys n a
   constant-renumbered n a (items.ConstantTaken.primitive g e w) = items.ConstantTaken.primitive g e w
   constant-renumbered n a (items.ConstantTaken.declared g t w) = items.ConstantTaken.declared g (Has-renumbered (constant n g) t) w
   constant-renumbered n a (items.ConstantTaken.defined g u t w) = items.ConstantTaken.defined g u (Has-renumbered (defined_constant n g u) t) w
-  constant-renumbered n a (items.ConstantTaken.abstraction names c u j one t e w) = items.ConstantTaken.abstraction names c u (number j) one (Has-renumbered (type_abstraction names c u j one) t) e w
-  constant-renumbered n a (items.ConstantTaken.representation names c u j one t e w) = items.ConstantTaken.representation names c u (number j) one (Has-renumbered (type_representation names c u j one) t) e w
+  constant-renumbered n a (items.ConstantTaken.abstraction names c u j one t e w) =
+      items.ConstantTaken.abstraction names c u (number j) one (Has-renumbered (type_abstraction names c u j one) t) e w
+  constant-renumbered n a (items.ConstantTaken.representation names c u j one t e w) =
+      items.ConstantTaken.representation names c u (number j) one (Has-renumbered (type_representation names c u j one) t) e w
 
   mutual
     type-renumbered : (t : HolType) → TypeTaken xs t → TypeTaken ys t
@@ -322,13 +341,15 @@ module _ (number : ℕ → ℕ) (xs : List Item) where
   term-renumbered (term.Term.lam t b) o = (type-renumbered t o.0, term-renumbered b o.1)
 
   sequent-renumbered : (s : Sequent) → SequentTaken xs s → SequentTaken ys s
-  sequent-renumbered s o = record { is = o.is; hypotheses = All-weaker _ _ term-renumbered s.hypotheses o.hypotheses; conclusion = term-renumbered s.conclusion o.conclusion }
+  sequent-renumbered s o = record
+      { is = o.is; hypotheses = All-weaker _ _ term-renumbered s.hypotheses o.hypotheses; conclusion = term-renumbered s.conclusion o.conclusion }
 
   premises-renumbered : (js : List ℕ) (ss : List Sequent) → ArePremisesAmong xs js ss → ArePremisesAmong ys (map number js) ss
   premises-renumbered [] [] o = tt
   premises-renumbered [] (s ∷ ss) o = absurd o
   premises-renumbered (j ∷ js) [] o = absurd o
-  premises-renumbered (j ∷ js) (s ∷ ss) ((x, i, e, f), rest) = ((renumbered number x, IsIn-map (renumbered number) xs x i, ap number e, says-renumbered number x.content ∙ f), premises-renumbered js ss rest)
+  premises-renumbered (j ∷ js) (s ∷ ss) ((x, i, e, f), rest) =
+      ((renumbered number x, IsIn-map (renumbered number) xs x i, ap number e, says-renumbered number x.content ∙ f), premises-renumbered js ss rest)
 
   defined-renumbered : (terms : TermPairs) (v : Variable) (t : Term) → IsDefinedBy xs terms v t → IsDefinedBy ys terms v t
   defined-renumbered terms v t d = record { name = d.name; image = d.image; has = Has-renumbered (defined_constant d.name v.1 t) d.has }
@@ -336,8 +357,10 @@ module _ (number : ℕ → ℕ) (xs : List Item) where
   list-renumbered : (js : List ℕ) (premises : List Sequent) (given : Parameters) → DefinesAmong xs kinds.DefineConstList js premises given
       → DefinesAmong ys kinds.DefineConstList (map number js) premises given
   list-renumbered js (one ∷ []) (Parameters.constants pairs) d = (
-    All-weaker _ _ (λ (p : Term) (w : IsDefiningEquation xs (constants_put pairs) p). record { variable = w.variable; term = w.term; is = w.is; defined = defined-renumbered (constants_put pairs) w.variable w.term w.defined }) one.hypotheses d.0,
-    All-weaker _ _ (λ (v : Variable) (w : (t : Term) × IsDefinedBy xs (constants_put pairs) v t). (w.0, defined-renumbered (constants_put pairs) v w.0 w.1)) (free_variables_of one) d.1,
+    All-weaker _ _ (λ (p : Term) (w : IsDefiningEquation xs (constants_put pairs) p). record
+        { variable = w.variable; term = w.term; is = w.is; defined = defined-renumbered (constants_put pairs) w.variable w.term w.defined }) one.hypotheses d.0,
+    All-weaker _ _ (λ (v : Variable) (w : (t : Term) × IsDefinedBy xs (constants_put pairs) v t). (w.0, defined-renumbered (constants_put pairs) v w.0 w.1))
+        (free_variables_of one) d.1,
   )
   list-renumbered js [] given d = tt
   list-renumbered js (one ∷ two ∷ ss) given d = tt
@@ -418,10 +441,13 @@ module _ (number : ℕ → ℕ) (xs : List Item) where
   content-renumbered : (c : Content) → IsContent xs c → IsContent ys (renumbered_content number c)
   content-renumbered (operator n k) o = tt
   content-renumbered (constant n a) o = type-renumbered a o
-  content-renumbered (defined_constant n a t) o = record { typed = o.typed; taken = term-renumbered t o.taken; no_free = o.no_free; type_variables = o.type_variables }
+  content-renumbered (defined_constant n a t) o = record
+      { typed = o.typed; taken = term-renumbered t o.taken; no_free = o.no_free; type_variables = o.type_variables }
   content-renumbered (type_operator names c u j one) o = part-renumbered names c u j one o
-  content-renumbered (type_abstraction names c u j one) o = (part-renumbered names c u j one o.0, type-renumbered (abstraction_type names c) o.1, Has-renumbered (type_operator names c u j one) o.2)
-  content-renumbered (type_representation names c u j one) o = (part-renumbered names c u j one o.0, type-renumbered (representation_type names c) o.1, Has-renumbered (type_operator names c u j one) o.2)
+  content-renumbered (type_abstraction names c u j one) o =
+      (part-renumbered names c u j one o.0, type-renumbered (abstraction_type names c) o.1, Has-renumbered (type_operator names c u j one) o.2)
+  content-renumbered (type_representation names c u j one) o =
+      (part-renumbered names c u j one o.0, type-renumbered (representation_type names c) o.1, Has-renumbered (type_operator names c u j one) o.2)
   content-renumbered (unproved s) o = sequent-renumbered s o
   content-renumbered (step kind js premises given s) o = (
     record {
@@ -462,10 +488,15 @@ new-renumbered : (number : ℕ → ℕ) (xs : List Item) (c : Content) → IsNew
 new-renumbered number xs (operator n k) h = (h.0, any-renumbered number (is_operator n k) (is_operator-renumbered number xs n k) xs ∙ h.1)
 new-renumbered number xs (constant n a) h = (h.0, any-renumbered number (is_constant n) (is_constant-renumbered number xs n) xs ∙ h.1)
 new-renumbered number xs (defined_constant n a t) h = (h.0, any-renumbered number (is_constant n) (is_constant-renumbered number xs n) xs ∙ h.1)
-new-renumbered number xs (type_operator names c u j one) h =
-    (h.0, any-renumbered number (is_operator names.operator (length names.variables)) (is_operator-renumbered number xs names.operator (length names.variables)) xs ∙ h.1)
-new-renumbered number xs (type_abstraction names c u j one) h = (h.0, any-renumbered number (is_constant names.abstraction) (is_constant-renumbered number xs names.abstraction) xs ∙ h.1)
-new-renumbered number xs (type_representation names c u j one) h = (h.0, any-renumbered number (is_constant names.representation) (is_constant-renumbered number xs names.representation) xs ∙ h.1)
+new-renumbered number xs (type_operator names c u j one) h = (
+  h.0,
+  any-renumbered number (is_operator names.operator (length names.variables)) (is_operator-renumbered number xs names.operator (length names.variables))
+      xs ∙ h.1,
+)
+new-renumbered number xs (type_abstraction names c u j one) h =
+    (h.0, any-renumbered number (is_constant names.abstraction) (is_constant-renumbered number xs names.abstraction) xs ∙ h.1)
+new-renumbered number xs (type_representation names c u j one) h =
+    (h.0, any-renumbered number (is_constant names.representation) (is_constant-renumbered number xs names.representation) xs ∙ h.1)
 new-renumbered number xs (unproved s) h = tt
 new-renumbered number xs (step kind js premises given s) h = tt
 
@@ -474,7 +505,8 @@ new-renumbered number xs (step kind js premises given s) h = tt
 abbrev pub AreNumbered : (ℕ → Bool) → List Item → List Item → Type 0
 AreNumbered keep before [] = Unit {0}
 AreNumbered keep before (x ∷ xs) =
-    (x.symbol ≡ length before) × IsNew before x.content × IsContent before x.content × (keep x.symbol ≡ true → AreKept keep before (needs x.content)) × AreNumbered keep (before ++ x ∷ []) xs
+    (x.symbol ≡ length before) × IsNew before x.content × IsContent before x.content × (keep x.symbol ≡ true → AreKept keep before (needs x.content))
+    × AreNumbered keep (before ++ x ∷ []) xs
 
 kept-last : (keep : ℕ → Bool) (before : List Item) (x : Item) → kept keep (before ++ x ∷ []) ≡ kept keep before ++ kept keep (x ∷ [])
 kept-last keep [] x = refl
@@ -503,14 +535,18 @@ image-made keep before (x ∷ xs) c h = go (keep x.symbol) refl (λ size. image-
     same = ap keep h.0
 
     go : (b : Bool) → keep x.symbol ≡ b
-        → (length (kept keep (before ++ x ∷ [])) ≡ count_kept keep (length (before ++ x ∷ [])) → AreMade (image_items keep (before ++ x ∷ [])) (image_items keep xs))
+        → (length (kept keep (before ++ x ∷ [])) ≡ count_kept keep (length (before ++ x ∷ []))
+        → AreMade (image_items keep (before ++ x ∷ [])) (image_items keep xs))
         → AreMade (image_items keep before) (map (renumbered number) (cond b (x ∷ kept keep xs) (kept keep xs)))
     go true e later =
         let one : kept keep (x ∷ []) ≡ x ∷ [] = ap (λ b. cond b (x ∷ []) []) e in
         let front : kept keep (before ++ x ∷ []) ≡ kept keep before ++ x ∷ [] = kept-last keep before x ∙ ap (λ l. kept keep before ++ l) one in
         let size : length (kept keep (before ++ x ∷ [])) ≡ count_kept keep (length (before ++ x ∷ [])) =
-        ap length front ∙ length-append (kept keep before) (x ∷ []) ∙ ap (λ n. n + 1) c ∙ one_more (count_kept keep (length before)) ∙ ap (λ b. cond b (suc (count_kept keep (length before))) (count_kept keep (length before))) (sym (sym same ∙ e)) ∙ ap (count_kept keep) (sym longer) in
-        let images : image_items keep (before ++ x ∷ []) ≡ image_items keep before ++ renumbered number x ∷ [] = ap (map (renumbered number)) front ∙ map-append (renumbered number) (kept keep before) (x ∷ []) in
+        ap length front ∙ length-append (kept keep before) (x ∷ []) ∙ ap (λ n. n + 1) c ∙ one_more (count_kept keep (length before))
+        ∙ ap (λ b. cond b (suc (count_kept keep (length before))) (count_kept keep (length before))) (sym (sym same ∙ e))
+        ∙ ap (count_kept keep) (sym longer) in
+        let images : image_items keep (before ++ x ∷ []) ≡ image_items keep before ++ renumbered number x ∷ [] =
+        ap (map (renumbered number)) front ∙ map-append (renumbered number) (kept keep before) (x ∷ []) in
         let place : number x.symbol ≡ length signature + (length lemmas + length (image_items keep before)) =
         ap number h.0 ∙ ap (λ n. length signature + (length lemmas + n)) (sym c ∙ sym (length-map (kept keep before) (renumbered number))) in (
           place,
@@ -520,7 +556,9 @@ image-made keep before (x ∷ xs) c h = go (keep x.symbol) refl (λ size. image-
         )
     go false e later =
         let one : kept keep (x ∷ []) ≡ [] = ap (λ b. cond b (x ∷ []) []) e in
-        let front : kept keep (before ++ x ∷ []) ≡ kept keep before = kept-last keep before x ∙ ap (λ l. kept keep before ++ l) one ∙ append-nil (kept keep before) in
+        let front : kept keep (before ++ x ∷ []) ≡ kept keep before =
+        kept-last keep before x ∙ ap (λ l. kept keep before ++ l) one ∙ append-nil (kept keep before) in
         let size : length (kept keep (before ++ x ∷ [])) ≡ count_kept keep (length (before ++ x ∷ [])) =
-        ap length front ∙ c ∙ ap (λ b. cond b (suc (count_kept keep (length before))) (count_kept keep (length before))) (sym (sym same ∙ e)) ∙ ap (count_kept keep) (sym longer) in
+        ap length front ∙ c ∙ ap (λ b. cond b (suc (count_kept keep (length before))) (count_kept keep (length before))) (sym (sym same ∙ e))
+        ∙ ap (count_kept keep) (sym longer) in
         subst (λ l. AreMade (map (renumbered number) l) (image_items keep xs)) front (later size)

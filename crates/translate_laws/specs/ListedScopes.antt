@@ -85,9 +85,11 @@ module _ {A : Type 0} (same : A → A → Bool) where
 
       go : (b : Bool) → (b ≡ true → lookup (same y) (parameters (from + suc (length xs)) (suc from) xs) ≡ None)
           → unwrap_or (lookup (same y) (parameters (from + suc (length xs)) (suc from) xs)) (lift (length xs) (cond b (Var 0) (lift 1 (f y))))
-          ≡ unwrap_or (cond b (Some (parameter (from + suc (length xs)) from)) (lookup (same y) (parameters (from + suc (length xs)) (suc from) xs))) (lift (suc (length xs)) (f y))
+          ≡ unwrap_or (cond b (Some (parameter (from + suc (length xs)) from)) (lookup (same y) (parameters (from + suc (length xs)) (suc from) xs)))
+          (lift (suc (length xs)) (f y))
       go true e = ap (λ o. unwrap_or o (lift (length xs) (Var 0))) (e refl) ∙ own
-      go false e = ap (unwrap_or (lookup (same y) (parameters (from + suc (length xs)) (suc from) xs))) (lift-lift (length xs) 1 (f y) ∙ ap (λ k. lift k (f y)) (one (length xs)))
+      go false e = ap (unwrap_or (lookup (same y) (parameters (from + suc (length xs)) (suc from) xs)))
+          (lift-lift (length xs) 1 (f y) ∙ ap (λ k. lift k (f y)) (one (length xs)))
 
 pub under_types-all : (ns : List Name) (scope : TypeScope) (n : Name) → under_types ns scope n ≡ under_all name_eq ns scope n
 under_types-all [] scope n = refl

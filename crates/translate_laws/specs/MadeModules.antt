@@ -22,16 +22,19 @@ abbrev pub IsNew : List Item → Content → Type 0
 IsNew before (operator n k) = (primitive_arity n ≡ None) × (any_content (is_operator n k) before ≡ false)
 IsNew before (constant n a) = (primitive_type n ≡ None) × (any_content (is_constant n) before ≡ false)
 IsNew before (defined_constant n a t) = (primitive_type n ≡ None) × (any_content (is_constant n) before ≡ false)
-IsNew before (type_operator names c u j one) = (primitive_arity names.operator ≡ None) × (any_content (is_operator names.operator (length names.variables)) before ≡ false)
+IsNew before (type_operator names c u j one) = (primitive_arity names.operator ≡ None)
+    × (any_content (is_operator names.operator (length names.variables)) before ≡ false)
 IsNew before (type_abstraction names c u j one) = (primitive_type names.abstraction ≡ None) × (any_content (is_constant names.abstraction) before ≡ false)
-IsNew before (type_representation names c u j one) = (primitive_type names.representation ≡ None) × (any_content (is_constant names.representation) before ≡ false)
+IsNew before (type_representation names c u j one) =
+    (primitive_type names.representation ≡ None) × (any_content (is_constant names.representation) before ≡ false)
 IsNew before (unproved s) = Unit {0}
 IsNew before (step kind js premises given s) = Unit {0}
 
 -- each is numbered in order of making, new, and asks for nothing but what was made before it
 abbrev pub AreMade : List Item → List Item → Type 0
 AreMade before [] = Unit {0}
-AreMade before (x ∷ xs) = (x.symbol ≡ length signature + (length lemmas + length before)) × IsNew before x.content × IsContent before x.content × AreMade (before ++ x ∷ []) xs
+AreMade before (x ∷ xs) = (x.symbol ≡ length signature + (length lemmas + length before)) × IsNew before x.content × IsContent before x.content × AreMade
+    (before ++ x ∷ []) xs
 
 first_symbol-new : (test : Content → Bool) (before xs : List Item) (x : Item) → any_content test before ≡ false → test x.content ≡ true
     → first_symbol test (before ++ x ∷ xs) ≡ x.symbol
@@ -94,24 +97,29 @@ tells before xs x (operator n k) e h =
     operator-input (symbols_of (before ++ x ∷ xs)) n k h.0 ∙ first_symbol-new (is_operator n k) before xs x h.1 (ap (is_operator n k) e ∙ operator_self n k)
 tells before xs x (constant n a) e h = (
   constant-input (symbols_of (before ++ x ∷ xs)) n h.0 ∙ first_symbol-new (is_constant n) before xs x h.1 (ap (is_constant n) e ∙ name_eq-refl n),
-  generic-input (symbols_of (before ++ x ∷ xs)) n h.0 ∙ first_type-new (is_constant n) before xs x h.1 (ap (is_constant n) e ∙ name_eq-refl n) ∙ ap generic_of e,
+  generic-input (symbols_of (before ++ x ∷ xs)) n h.0 ∙ first_type-new (is_constant n) before xs x h.1 (ap (is_constant n) e ∙ name_eq-refl n)
+      ∙ ap generic_of e,
 )
 tells before xs x (defined_constant n a t) e h = (
   constant-input (symbols_of (before ++ x ∷ xs)) n h.0 ∙ first_symbol-new (is_constant n) before xs x h.1 (ap (is_constant n) e ∙ name_eq-refl n),
-  generic-input (symbols_of (before ++ x ∷ xs)) n h.0 ∙ first_type-new (is_constant n) before xs x h.1 (ap (is_constant n) e ∙ name_eq-refl n) ∙ ap generic_of e,
+  generic-input (symbols_of (before ++ x ∷ xs)) n h.0 ∙ first_type-new (is_constant n) before xs x h.1 (ap (is_constant n) e ∙ name_eq-refl n)
+      ∙ ap generic_of e,
 )
 tells before xs x (type_operator names c u j one) e h =
     operator-input (symbols_of (before ++ x ∷ xs)) names.operator (length names.variables) h.0
-    ∙ first_symbol-new (is_operator names.operator (length names.variables)) before xs x h.1 (ap (is_operator names.operator (length names.variables)) e ∙ operator_self names.operator (length names.variables))
+    ∙ first_symbol-new (is_operator names.operator (length names.variables)) before xs x h.1
+    (ap (is_operator names.operator (length names.variables)) e ∙ operator_self names.operator (length names.variables))
 tells before xs x (type_abstraction names c u j one) e h =
     let n = names.abstraction in (
       constant-input (symbols_of (before ++ x ∷ xs)) n h.0 ∙ first_symbol-new (is_constant n) before xs x h.1 (ap (is_constant n) e ∙ name_eq-refl n),
-      generic-input (symbols_of (before ++ x ∷ xs)) n h.0 ∙ first_type-new (is_constant n) before xs x h.1 (ap (is_constant n) e ∙ name_eq-refl n) ∙ ap generic_of e,
+      generic-input (symbols_of (before ++ x ∷ xs)) n h.0 ∙ first_type-new (is_constant n) before xs x h.1 (ap (is_constant n) e ∙ name_eq-refl n)
+          ∙ ap generic_of e,
     )
 tells before xs x (type_representation names c u j one) e h =
     let n = names.representation in (
       constant-input (symbols_of (before ++ x ∷ xs)) n h.0 ∙ first_symbol-new (is_constant n) before xs x h.1 (ap (is_constant n) e ∙ name_eq-refl n),
-      generic-input (symbols_of (before ++ x ∷ xs)) n h.0 ∙ first_type-new (is_constant n) before xs x h.1 (ap (is_constant n) e ∙ name_eq-refl n) ∙ ap generic_of e,
+      generic-input (symbols_of (before ++ x ∷ xs)) n h.0 ∙ first_type-new (is_constant n) before xs x h.1 (ap (is_constant n) e ∙ name_eq-refl n)
+          ∙ ap generic_of e,
     )
 tells before xs x (unproved s) e h = tt
 tells before xs x (step kind js premises given s) e h = tt

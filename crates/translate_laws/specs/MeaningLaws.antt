@@ -38,7 +38,8 @@ mutual
 
   all_places-closed : (vs : List Name) (ts : HolTypes) → parameter_places_of_all (close_types vs ts) ≡ map (at vs) (variable_places_of_all ts)
   all_places-closed vs type.HolTypes.none = refl
-  all_places-closed vs (type.HolTypes.more t ts) = rw (places-closed vs t, all_places-closed vs ts) (sym (map-append (at vs) (variable_places t) (variable_places_of_all ts)))
+  all_places-closed vs (type.HolTypes.more t ts) =
+      rw (places-closed vs t, all_places-closed vs ts) (sym (map-append (at vs) (variable_places t) (variable_places_of_all ts)))
 
 at-cons : (v : Name) (vs : List Name) (n : Name) (b : Bool) → name_eq n v ≡ b → at (v ∷ vs) n ≡ cond b 0 (suc (at vs n))
 at-cons v vs n true e = rw e refl
@@ -75,7 +76,9 @@ in-order [] h = refl
 in-order (v ∷ vs) h =
     let first : at (v ∷ vs) v ≡ 0 = at-cons v vs v true ((name_eq-Decides v v).1 refl) in
     let others : map (at (v ∷ vs)) vs ≡ map (λ n. suc (at vs n)) vs =
-    map-each (at (v ∷ vs)) (λ n. suc (at vs n)) vs (All-weaker (λ n. name_eq v n ≡ false) (λ n. at (v ∷ vs) n ≡ suc (at vs n)) (λ n e. at-cons v vs n false (symmetric name_eq name_eq-Decides v n e)) vs h.0) in
+    map-each (at (v ∷ vs)) (λ n. suc (at vs n)) vs
+    (All-weaker (λ n. name_eq v n ≡ false) (λ n. at (v ∷ vs) n ≡ suc (at vs n)) (λ n e. at-cons v vs n false (symmetric name_eq name_eq-Decides v n e)) vs
+    h.0) in
     λ i. first i ∷ (others ∙ sym (map-twice suc (at vs) vs) ∙ ap (map suc) (in-order vs h.1) ∙ map-numbers 0 (length vs)) i
 
 -- the variables of the closed form of a generic type come in order
@@ -83,13 +86,15 @@ pub generic-in_order : (g : HolType) → distinct nat_eq (parameter_places (clos
 generic-in_order g =
     let vs = type_variables g in
     ap (distinct nat_eq) (places-closed vs g)
-    ∙ sym (union-map (at vs) name_eq nat_eq (IsIn vs) (at-agrees vs) (variable_places g) [] (tt {0}) (All-each _ (variable_places g) (λ n i. IsIn-distinct name_eq name_eq-Decides (variable_places g) n i)))
+    ∙ sym (union-map (at vs) name_eq nat_eq (IsIn vs) (at-agrees vs) (variable_places g) [] (tt {0})
+    (All-each _ (variable_places g) (λ n i. IsIn-distinct name_eq name_eq-Decides (variable_places g) n i)))
     ∙ in-order vs (distinct-IsDistinct name_eq (symmetric name_eq name_eq-Decides) (variable_places g))
 
 -- A symbol means its constant: named by `c_` and the name, and declared at its generic type
 pub constant-means : (d : List Declaration) (symbols : SymbolMap) (n : Name) → DeclaresConstant d symbols n → IsName n → primitive_type n ≡ None
     → symbol_name d (constant_symbol symbols n) ≡ codes "c_" ++ mangled n → TypeMeant d symbols (generic_type symbols n)
-    → MeansConstant d (constant_symbol symbols n) n (length (type_variables (generic_type symbols n))) (close_type (type_variables (generic_type symbols n)) (generic_type symbols n))
+    → MeansConstant d (constant_symbol symbols n) n (length (type_variables (generic_type symbols n)))
+    (close_type (type_variables (generic_type symbols n)) (generic_type symbols n))
 constant-means d symbols n declared is not_primitive text meant =
     let g = generic_type symbols n in
     let vs = type_variables g in

@@ -38,8 +38,10 @@ Holds m symbols i (operator n k) = DeclaresOperator m symbols n k
 Holds m symbols i (constant n a) = DeclaresConstant m symbols n × (generic_type symbols n ≡ a)
 Holds m symbols i (defined_constant n a t) = DeclaresConstant m symbols n × IsDefinition m symbols n a t
 Holds m symbols i (type_operator names c u j one) = IsPartOperator m symbols names c j one
-Holds m symbols i (type_abstraction names c u j one) = IsPartPremise m symbols names c j one × IsPartConstant m symbols names.abstraction (abstraction_type names c) sub_abs_symbol c j one
-Holds m symbols i (type_representation names c u j one) = IsPartPremise m symbols names c j one × IsPartConstant m symbols names.representation (representation_type names c) sub_rep_symbol c j one
+Holds m symbols i (type_abstraction names c u j one) =
+    IsPartPremise m symbols names c j one × IsPartConstant m symbols names.abstraction (abstraction_type names c) sub_abs_symbol c j one
+Holds m symbols i (type_representation names c u j one) =
+    IsPartPremise m symbols names c j one × IsPartConstant m symbols names.representation (representation_type names c) sub_rep_symbol c j one
 Holds m symbols i (unproved s) = IsPremise m symbols i s
 Holds m symbols i (step kind js premises given s) = IsPremise m symbols i s
 
@@ -60,7 +62,8 @@ module _ (m rest : List Declaration) (symbols : SymbolMap) where
   TermOver-append : (t : Term) → TermOver m symbols t → TermOver (m ++ rest) symbols t
   TermOver-append (free n t) h = TypeOver-append t h
   TermOver-append (bound k) h = tt
-  TermOver-append (Term.constant n t) h = record { declared = symbol_type-append m rest (constant_symbol symbols n) _ h.declared; instance = h.instance; ty = TypeOver-append t h.ty }
+  TermOver-append (Term.constant n t) h = record
+      { declared = symbol_type-append m rest (constant_symbol symbols n) _ h.declared; instance = h.instance; ty = TypeOver-append t h.ty }
   TermOver-append (app f x) h = (TermOver-append f h.0, TermOver-append x h.1)
   TermOver-append (lam t b) h = (TypeOver-append t h.0, TermOver-append b h.1)
 
@@ -68,7 +71,11 @@ module _ (m rest : List Declaration) (symbols : SymbolMap) where
   IsPremise-append i s p = record {
     declared = symbol_type-append m rest i _ p.declared;
     is = p.is;
-    over = record { hypotheses = All-weaker (TermOver m symbols) (TermOver (m ++ rest) symbols) TermOver-append s.hypotheses p.over.hypotheses; conclusion = TermOver-append s.conclusion p.over.conclusion };
+    over = record {
+      hypotheses = All-weaker (TermOver m symbols) (TermOver (m ++ rest) symbols) TermOver-append s.hypotheses p.over.hypotheses;
+      conclusion =
+          TermOver-append s.conclusion p.over.conclusion;
+    };
   }
 
   IsPartPremise-append : (names : TypeNames) (c : HolType) (j : ℕ) (one : Sequent) → IsPartPremise m symbols names c j one
@@ -88,15 +95,25 @@ module _ (m rest : List Declaration) (symbols : SymbolMap) where
   Holds-append i (constant n a) h = (symbol_type-append m rest (constant_symbol symbols n) _ h.0, h.1)
   Holds-append i (defined_constant n a t) h = (
     symbol_type-append m rest (constant_symbol symbols n) _ h.0,
-    record { generic = h.1.generic; definition = symbol_definition-append m rest (constant_symbol symbols n) _ h.1.definition; typed = h.1.typed; over = TermOver-append t h.1.over; no_free = h.1.no_free; type_variables = h.1.type_variables },
+    record {
+      generic = h.1.generic;
+      definition = symbol_definition-append m rest (constant_symbol symbols n) _ h.1.definition;
+      typed = h.1.typed;
+      over =
+          TermOver-append t h.1.over;
+      no_free = h.1.no_free;
+      type_variables = h.1.type_variables;
+    },
   )
   Holds-append i (type_operator names c u j one) h = record {
     is = IsPartPremise-append names c j one h.is;
     declared = symbol_type-append m rest (operator_symbol symbols names.operator (length names.variables)) _ h.declared;
     definition = symbol_definition-append m rest (operator_symbol symbols names.operator (length names.variables)) _ h.definition;
   }
-  Holds-append i (type_abstraction names c u j one) h = (IsPartPremise-append names c j one h.0, IsPartConstant-append names.abstraction (abstraction_type names c) sub_abs_symbol c j one h.1)
-  Holds-append i (type_representation names c u j one) h = (IsPartPremise-append names c j one h.0, IsPartConstant-append names.representation (representation_type names c) sub_rep_symbol c j one h.1)
+  Holds-append i (type_abstraction names c u j one) h =
+      (IsPartPremise-append names c j one h.0, IsPartConstant-append names.abstraction (abstraction_type names c) sub_abs_symbol c j one h.1)
+  Holds-append i (type_representation names c u j one) h =
+      (IsPartPremise-append names c j one h.0, IsPartConstant-append names.representation (representation_type names c) sub_rep_symbol c j one h.1)
   Holds-append i (unproved s) h = IsPremise-append i s h
   Holds-append i (step kind js premises given s) h = IsPremise-append i s h
 
@@ -155,7 +172,8 @@ module _ (m : List Declaration) (symbols : SymbolMap) (before : List Item) (hold
   operator_taken : (n : Name) (k : ℕ) → OperatorTaken before n k → DeclaresOperator m symbols n k
   operator_taken n k (items.OperatorTaken.primitive e) = operator_declared m symbols n k e
   operator_taken n k (items.OperatorTaken.declared h) = held (operator n k) h
-  operator_taken n k (items.OperatorTaken.part names c u j one h e f) = subst₂ (DeclaresOperator m symbols) (sym e) (sym f) (held (type_operator names c u j one) h).declared
+  operator_taken n k (items.OperatorTaken.part names c u j one h e f) =
+      subst₂ (DeclaresOperator m symbols) (sym e) (sym f) (held (type_operator names c u j one) h).declared
 
   mutual
     pub TypeOver-taken : (t : HolType) → TypeTaken before t → TypeOver m symbols t
@@ -168,14 +186,17 @@ module _ (m : List Declaration) (symbols : SymbolMap) (before : List Item) (hold
 
   part_taken : (k : Name) (a : HolType) (s : ℕ) (c : HolType) (j : ℕ) (one : Sequent) (n : Name) (t : HolType) → IsPartConstant m symbols k a s c j one → n ≡ k
       → Instance a t → DeclaresConstant m symbols n × Instance (generic_type symbols n) t
-  part_taken k a s c j one n t d e i = subst (λ (l : Name). DeclaresConstant m symbols l × Instance (generic_type symbols l) t) (sym e) (d.declared, subst (λ u. Instance u t) (sym d.generic) i)
+  part_taken k a s c j one n t d e i = subst (λ (l : Name). DeclaresConstant m symbols l × Instance (generic_type symbols l) t) (sym e)
+      (d.declared, subst (λ u. Instance u t) (sym d.generic) i)
 
   constant_taken : (n : Name) (t : HolType) → ConstantTaken before n t → DeclaresConstant m symbols n × Instance (generic_type symbols n) t
   constant_taken n t (items.ConstantTaken.primitive g e i) = let p = constant_declared m symbols n g e in (p.declared, subst (λ u. Instance u t) (sym p.is) i)
   constant_taken n t (items.ConstantTaken.declared a h i) = let d = held (constant n a) h in (d.0, subst (λ u. Instance u t) (sym d.1) i)
   constant_taken n t (items.ConstantTaken.defined a u h i) = let d = held (defined_constant n a u) h in (d.0, subst (λ u. Instance u t) (sym d.1.generic) i)
-  constant_taken n t (items.ConstantTaken.abstraction names c u j one h e i) = part_taken names.abstraction (abstraction_type names c) sub_abs_symbol c j one n t (held (type_abstraction names c u j one) h).1 e i
-  constant_taken n t (items.ConstantTaken.representation names c u j one h e i) = part_taken names.representation (representation_type names c) sub_rep_symbol c j one n t (held (type_representation names c u j one) h).1 e i
+  constant_taken n t (items.ConstantTaken.abstraction names c u j one h e i) =
+      part_taken names.abstraction (abstraction_type names c) sub_abs_symbol c j one n t (held (type_abstraction names c u j one) h).1 e i
+  constant_taken n t (items.ConstantTaken.representation names c u j one h e i) =
+      part_taken names.representation (representation_type names c) sub_rep_symbol c j one n t (held (type_representation names c u j one) h).1 e i
 
   pub TermOver-taken : (t : Term) → TermTaken before t → TermOver m symbols t
   TermOver-taken (free n t) h = TypeOver-taken t h
@@ -185,7 +206,11 @@ module _ (m : List Declaration) (symbols : SymbolMap) (before : List Item) (hold
   TermOver-taken (lam t b) h = (TypeOver-taken t h.0, TermOver-taken b h.1)
 
   pub SequentOver-taken : (s : Sequent) → SequentTaken before s → SequentOver m symbols s
-  SequentOver-taken s h = record { hypotheses = All-weaker (TermTaken before) (TermOver m symbols) TermOver-taken s.hypotheses h.hypotheses; conclusion = TermOver-taken s.conclusion h.conclusion }
+  SequentOver-taken s h = record {
+    hypotheses = All-weaker (TermTaken before) (TermOver m symbols) TermOver-taken s.hypotheses h.hypotheses;
+    conclusion =
+        TermOver-taken s.conclusion h.conclusion;
+  }
 
   said : (i : ℕ) (c : Content) (s : Sequent) → says c ≡ Some s → Holds m symbols i c → IsPremise m symbols i s
   said i (operator n k) s e h = absurd (cc)
@@ -202,8 +227,10 @@ module _ (m : List Declaration) (symbols : SymbolMap) (before : List Item) (hold
   ArePremises-among [] (s ∷ ss) h = absurd h
   ArePremises-among (j ∷ js) [] h = absurd h
   ArePremises-among (j ∷ js) (s ∷ ss) h =
-      let x = h.0.0 in
-      (subst (λ k. IsPremise m symbols k s) h.0.2 (said x.symbol x.content s h.0.3 (All-at (HoldsItem m symbols) before x holds h.0.1)), ArePremises-among js ss h.1)
+      let x = h.0.0 in (
+        subst (λ k. IsPremise m symbols k s) h.0.2 (said x.symbol x.content s h.0.3 (All-at (HoldsItem m symbols) before x holds h.0.1)),
+        ArePremises-among js ss h.1,
+      )
 
   defined_equation : (terms : TermPairs) (h : Term) → IsDefiningEquation before terms h → DefinesConstant m symbols terms h
   defined_equation terms h d =
@@ -325,11 +352,18 @@ module _ (symbols : SymbolMap) where
       → IsPartPremise (m ++ d ∷ []) symbols names c j one
   part-premise m before names c u j one d holds h =
       IsPartPremise-append m (d ∷ []) symbols names c j one
-      (record { f = u; defines = h.defines; premise = (ArePremises-among m symbols before holds (j ∷ []) (one ∷ []) h.among).0; ty = TypeOver-taken m symbols before holds c h.ty })
+      (record {
+        f = u;
+        defines = h.defines;
+        premise = (ArePremises-among m symbols before holds (j ∷ []) (one ∷ []) h.among).0;
+        ty =
+            TypeOver-taken m symbols before holds c h.ty;
+      })
 
   part-constant : (m : List Declaration) (i : ℕ) (name : List ℕ) (n : Name) (a : HolType) (s : ℕ) (c : HolType) (j : ℕ) (one : Sequent)
       → constant_symbol symbols n ≡ i → generic_type symbols n ≡ a
-      → symbol_declaration (m ++ part_constant symbols name a s c j one ∷ []) i ≡ Some (part_constant symbols name a s c j one) → IsPartConstant (m ++ part_constant symbols name a s c j one ∷ []) symbols n a s c j one
+      → symbol_declaration (m ++ part_constant symbols name a s c j one ∷ []) i ≡ Some (part_constant symbols name a s c j one)
+      → IsPartConstant (m ++ part_constant symbols name a s c j one ∷ []) symbols n a s c j one
   part-constant m i name n a s c j one t g e =
       let d = part_constant symbols name a s c j one in
       record {
@@ -341,11 +375,15 @@ module _ (symbols : SymbolMap) where
   -- what the module has of an item once it is declared
   pub content-holds : (m : List Declaration) (before : List Item) (i : ℕ) (name : List ℕ) (c : Content) → AllByRecursion (HoldsItem m symbols) before
       → IsContent before c → Tells symbols i c
-      → symbol_declaration (m ++ declaration_of symbols name c ∷ []) i ≡ Some (declaration_of symbols name c) → Holds (m ++ declaration_of symbols name c ∷ []) symbols i c
+      → symbol_declaration (m ++ declaration_of symbols name c ∷ []) i ≡ Some (declaration_of symbols name c)
+      → Holds (m ++ declaration_of symbols name c ∷ []) symbols i c
   content-holds m before i name (operator n k) holds h t e =
       ap (symbol_type (m ++ declaration_of symbols name (operator n k) ∷ [])) t ∙ ap (λ o. option_map (λ (d : Declaration). d.ty) o) e
-  content-holds m before i name (constant n a) holds h t e =
-      (ap (symbol_type (m ++ declaration_of symbols name (constant n a) ∷ [])) t.0 ∙ ap (λ o. option_map (λ (d : Declaration). d.ty) o) e ∙ ap (λ u. Some (generic_tree symbols u)) (sym t.1), t.1)
+  content-holds m before i name (constant n a) holds h t e = (
+    ap (symbol_type (m ++ declaration_of symbols name (constant n a) ∷ [])) t.0 ∙ ap (λ o. option_map (λ (d : Declaration). d.ty) o) e
+        ∙ ap (λ u. Some (generic_tree symbols u)) (sym t.1),
+    t.1,
+  )
   content-holds m before i name (defined_constant n a u) holds h t e =
       let d = declaration_of symbols name (defined_constant n a u) in (
         ap (symbol_type (m ++ d ∷ [])) t.0 ∙ ap (λ o. option_map (λ (d : Declaration). d.ty) o) e ∙ ap (λ v. Some (generic_tree symbols v)) (sym t.1),
@@ -369,9 +407,12 @@ module _ (symbols : SymbolMap) where
       let d = declaration_of symbols name (type_abstraction names c u j one) in
       (part-premise m before names c u j one d holds h.0, part-constant m i name names.abstraction (abstraction_type names c) sub_abs_symbol c j one t.0 t.1 e)
   content-holds m before i name (type_representation names c u j one) holds h t e =
-      let d = declaration_of symbols name (type_representation names c u j one) in
-      (part-premise m before names c u j one d holds h.0, part-constant m i name names.representation (representation_type names c) sub_rep_symbol c j one t.0 t.1 e)
+      let d = declaration_of symbols name (type_representation names c u j one) in (
+        part-premise m before names c u j one d holds h.0,
+        part-constant m i name names.representation (representation_type names c) sub_rep_symbol c j one t.0 t.1 e,
+      )
   content-holds m before i name (unproved s) holds h t e =
       IsPremise-new m before i s (declaration_of symbols name (unproved s)) holds h (ap (λ o. option_map (λ (d : Declaration). d.ty) o) e)
   content-holds m before i name (step kind js premises given s) holds h t e =
-      IsPremise-new m before i s (declaration_of symbols name (step kind js premises given s)) holds h.0.taken (ap (λ o. option_map (λ (d : Declaration). d.ty) o) e)
+      IsPremise-new m before i s (declaration_of symbols name (step kind js premises given s)) holds h.0.taken
+      (ap (λ o. option_map (λ (d : Declaration). d.ty) o) e)

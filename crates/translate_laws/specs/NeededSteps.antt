@@ -36,13 +36,18 @@ all-in gs (h ∷ hs) f = ap (λ b. b && list_all (λ h. is_in term_eq h gs) hs) 
 
 -- the second premise is within what `proveHyp` makes of it, where it lacks the hypothesis
 second-within : (one two s : Sequent) → is_in term_eq one.conclusion two.hypotheses ≡ false
-    → s ≡ record { hypotheses = union term_eq one.hypotheses (without term_eq two.hypotheses one.conclusion); conclusion = two.conclusion } → IsTrue (within two s)
+    → s ≡ record { hypotheses = union term_eq one.hypotheses (without term_eq two.hypotheses one.conclusion); conclusion = two.conclusion }
+    → IsTrue (within two s)
 second-within one two s lacks e =
-    let other : (h : Term) → IsIn two.hypotheses h → h ≡ one.conclusion → ⊥ = λ h i is. differ (is_in term_eq one.conclusion two.hypotheses) (in-list two.hypotheses one.conclusion (subst (IsIn two.hypotheses) is i)) lacks in
+    let other : (h : Term) → IsIn two.hypotheses h → h ≡ one.conclusion → ⊥ =
+    λ h i is. differ (is_in term_eq one.conclusion two.hypotheses) (in-list two.hypotheses one.conclusion (subst (IsIn two.hypotheses) is i)) lacks in
     let stays : (h : Term) → IsIn two.hypotheses h → IsIn (union term_eq one.hypotheses (without term_eq two.hypotheses one.conclusion)) h =
-    λ h i. IsIn-union_right term_eq term_eq-Decides (without term_eq two.hypotheses one.conclusion) one.hypotheses h (left_out h (other h i) (IsIn-without two.hypotheses one.conclusion h i)) in
+    λ h i. IsIn-union_right term_eq term_eq-Decides (without term_eq two.hypotheses one.conclusion) one.hypotheses h
+    (left_out h (other h i) (IsIn-without two.hypotheses one.conclusion h i)) in
     subst (λ (t : Sequent). IsTrue (within two t)) (sym e)
-    (ap (λ b. b && term_eq two.conclusion two.conclusion) (all-in (union term_eq one.hypotheses (without term_eq two.hypotheses one.conclusion)) two.hypotheses stays) ∙ (term_eq-Decides two.conclusion two.conclusion).1 refl)
+    (ap (λ b. b && term_eq two.conclusion two.conclusion)
+    (all-in (union term_eq one.hypotheses (without term_eq two.hypotheses one.conclusion)) two.hypotheses stays)
+    ∙ (term_eq-Decides two.conclusion two.conclusion).1 refl)
   where
     differ : (b : Bool) → b ≡ true → b ≡ false → ⊥
     differ b e f = let g : true ≡ false = sym e ∙ f in absurd (cc)
@@ -56,7 +61,8 @@ second-within one two s lacks e =
 restated-rule : (kind : StepKind) (ss : List Sequent) (g : Parameters) (s : Sequent) → Rule kind ss g s → AllByRecursion IsSequent ss
     → proves_nothing kind ss ≡ true → Rule kinds.Restate (drop 1 ss) (Parameters.sequent s) s
 restated-rule kind ss g s (rule.prove_hyp {one = one} {two = two} e) are n =
-    rule.restate (rule-IsSequent kinds.ProveHyp (one ∷ two ∷ []) g s (rule.prove_hyp e) are) (second-within one two s (not-true (is_in term_eq one.conclusion two.hypotheses) n) e)
+    rule.restate (rule-IsSequent kinds.ProveHyp (one ∷ two ∷ []) g s (rule.prove_hyp e) are)
+    (second-within one two s (not-true (is_in term_eq one.conclusion two.hypotheses) n) e)
 restated-rule kind ss g s (rule.refl h e) are n = absurd (cc)
 restated-rule kind ss g s (rule.assume h e) are n = absurd (cc)
 restated-rule kind ss g s (rule.eq_mp e f i) are n = absurd (cc)

@@ -30,7 +30,8 @@ last_digits-enough zero j n p q = absurd (omega arith)
 last_digits-enough (suc k) zero n p q = absurd (omega arith)
 last_digits-enough (suc k) (suc j) n p q = elim (below_ten n) [
   | inl h ↦ last_digits-one k n h ∙ sym (last_digits-one j n h)
-  | inr h ↦ last_digits-more k n h ∙ ap (λ ds. ds ++ (48 + n % 10) ∷ []) (last_digits-enough k j (n / 10) (omega arith) (omega arith)) ∙ sym (last_digits-more j n h)
+  | inr h ↦ last_digits-more k n h ∙ ap (λ ds. ds ++ (48 + n % 10) ∷ []) (last_digits-enough k j (n / 10) (omega arith) (omega arith))
+      ∙ sym (last_digits-more j n h)
 ]
 
 pub numeral-one : (n : ℕ) → n < 10 → numeral n ≡ (48 + n) ∷ []
@@ -42,7 +43,8 @@ unfolding numeral
 numeral-more n h = last_digits-more n n h ∙ ap (λ ds. ds ++ (48 + n % 10) ∷ []) (last_digits-enough n (suc (n / 10)) (n / 10) (omega arith) (omega arith))
 
 -- induction on the digits
-module _ (P : ℕ → List ℕ → Type 0) (one : (n : ℕ) → n < 10 → P n ((48 + n) ∷ [])) (more : (n : ℕ) (ds : List ℕ) → 10 ≤ n → P (n / 10) ds → P n (ds ++ (48 + n % 10) ∷ [])) where
+module _ (P : ℕ → List ℕ → Type 0) (one : (n : ℕ) → n < 10 → P n ((48 + n) ∷ []))
+    (more : (n : ℕ) (ds : List ℕ) → 10 ≤ n → P (n / 10) ds → P n (ds ++ (48 + n % 10) ∷ [])) where
   last_digits-by_digits : (k n : ℕ) → n < k → P n (last_digits k n)
   last_digits-by_digits zero n h = absurd (omega arith)
   last_digits-by_digits (suc k) n h = elim (below_ten n) [
@@ -64,7 +66,8 @@ value_after-last n [] d = refl
 value_after-last n (e ∷ ds) d = value_after-last (10 * n + (e - 48)) ds d
 
 value_after-numeral : (n : ℕ) → value_after 0 (numeral n) ≡ n
-value_after-numeral = numeral-by_digits (λ n ds. value_after 0 ds ≡ n) (λ n l. omega arith) (λ n ds l e. let last = value_after-last 0 ds (48 + n % 10) in omega (arith, last, e))
+value_after-numeral = numeral-by_digits (λ n ds. value_after 0 ds ≡ n) (λ n l. omega arith)
+    (λ n ds l e. let last = value_after-last 0 ds (48 + n % 10) in omega (arith, last, e))
 
 -- Different numbers are written differently
 pub numeral-injective : (m n : ℕ) → numeral m ≡ numeral n → m ≡ n
@@ -87,7 +90,8 @@ digit-within d h = (grind (arith, nat_tests), grind (arith, nat_tests))
 
 pub numeral-digits : (n : ℕ) → list_all is_decimal_digit (numeral n) ≡ true
 numeral-digits = numeral-by_digits (λ n ds. list_all is_decimal_digit ds ≡ true) (λ n l. ap (λ b. b && true) (digit-is n l))
-    (λ n ds l e. list_all-append is_decimal_digit ds ((48 + n % 10) ∷ []) ∙ ap (λ b. b && list_all is_decimal_digit ((48 + n % 10) ∷ [])) e ∙ ap (λ b. b && true) (digit-is (n % 10) (omega arith)))
+    (λ n ds l e. list_all-append is_decimal_digit ds ((48 + n % 10) ∷ []) ∙ ap (λ b. b && list_all is_decimal_digit ((48 + n % 10) ∷ [])) e
+    ∙ ap (λ b. b && true) (digit-is (n % 10) (omega arith)))
 
 abbrev first_of : List ℕ → ℕ
 first_of [] = 0

@@ -68,7 +68,8 @@ pub record PartFacts (m : List Declaration) (symbols : SymbolMap) (c : HolType) 
   pub predicate_over : TermOver m symbols (predicate p)
   pub witness_over : TermOver m symbols (witness p)
 
-pub part-facts : (m : List Declaration) (symbols : SymbolMap) (names : TypeNames) (c : HolType) (j : ℕ) (one : Sequent) (d : IsPartPremise m symbols names c j one)
+pub part-facts : (m : List Declaration) (symbols : SymbolMap) (names : TypeNames) (c : HolType) (j : ℕ) (one : Sequent)
+    (d : IsPartPremise m symbols names c j one)
     → PartFacts m symbols c d.f one.conclusion
 part-facts m symbols names c j one d =
     let o : TermOver m symbols (app d.f d.defines.witness) = subst (TermOver m symbols) d.defines.holds d.premise.over.conclusion in
@@ -109,7 +110,8 @@ type-places P binders b (term.Term.lam t c) a h e =
     let p = abstraction_type-is t (type_under (t ∷ binders) c) a e in
     let first = All-left P (variable_places t) (type_variable_places c) h in
     let second = type-places P (t ∷ binders) (inner t first) c p.0 (All-right P (variable_places t) (type_variable_places c) h) p.1.0 in
-    subst (λ u. AllByRecursion P (variable_places u)) (sym p.1.1) (All-append P (variable_places t) (variable_places p.0 ++ []) first (All-append P (variable_places p.0) [] second (tt {0})))
+    subst (λ u. AllByRecursion P (variable_places u)) (sym p.1.1)
+    (All-append P (variable_places t) (variable_places p.0 ++ []) first (All-append P (variable_places p.0) [] second (tt {0})))
   where
     inner : (t : HolType) → AllByRecursion P (variable_places t) → (k : ℕ) (a : HolType) → slice_get (t ∷ binders) k ≡ Some a
         → AllByRecursion P (variable_places a)
@@ -118,11 +120,13 @@ type-places P binders b (term.Term.lam t c) a h e =
 
 listed : (ns ms : List Name) → list_all (λ n. is_in name_eq n ns) ms ≡ true → AllByRecursion (IsIn ns) ms
 listed ns [] e = tt
-listed ns (n ∷ ms) e = let h = and_parts (is_in name_eq n ns) (list_all (λ n. is_in name_eq n ns) ms) e in (is_in-IsIn name_eq name_eq-Decides ns n h.0, listed ns ms h.1)
+listed ns (n ∷ ms) e = let h = and_parts (is_in name_eq n ns) (list_all (λ n. is_in name_eq n ns) ms) e in
+    (is_in-IsIn name_eq name_eq-Decides ns n h.0, listed ns ms h.1)
 
 pub predicate-places : (names : TypeNames) (f : Term) → IsTrue (are_type_variables_of names.variables f)
     → AllByRecursion (IsIn names.variables) (type_variable_places f)
-predicate-places names f h = listed names.variables (type_variable_places f) (and_parts _ (list_all (λ n. is_in name_eq n names.variables) (type_variable_places f)) h).1
+predicate-places names f h = listed names.variables (type_variable_places f)
+    (and_parts _ (list_all (λ n. is_in name_eq n names.variables) (type_variable_places f)) h).1
 
 -- names without repeats are distinct
 none-alike : (x : Name) (ys : List Name) → is_in name_eq x ys ≡ false → AllByRecursion (λ y. name_eq x y ≡ false) ys
@@ -137,7 +141,8 @@ no_repeats-distinct (x ∷ xs) e =
     IsDistinct-cons name_eq x xs (none-alike x xs (not-true (is_in name_eq x xs) h.0)) (no_repeats-distinct xs h.1)
 
 pub listed-distinct : (names : TypeNames) (f : Term) → IsTrue (are_type_variables_of names.variables f) → IsDistinct name_eq names.variables
-listed-distinct names f h = no_repeats-distinct names.variables (and_parts (no_repeats name_eq names.variables) _ (and_parts _ (list_all (λ n. is_in name_eq n names.variables) (type_variable_places f)) h).0).0
+listed-distinct names f h = no_repeats-distinct names.variables
+    (and_parts (no_repeats name_eq names.variables) _ (and_parts _ (list_all (λ n. is_in name_eq n names.variables) (type_variable_places f)) h).0).0
 
 own-places : (ns : List Name) (P : Name → Type 0) → AllByRecursion P ns → AllByRecursion P (variable_places_of_all (types_of (map variable ns)))
 own-places [] P h = tt
@@ -158,14 +163,16 @@ module _ (names : TypeNames) (c : HolType) (f : Term) (one : Sequent) (d : IsTyp
   ns = names.variables
 
   pub type-listed : AllByRecursion (IsIn names.variables) (variable_places c)
-  type-listed = All-left (IsIn names.variables) (variable_places c) (variable_places bool ++ []) (type-places (IsIn names.variables) [] (λ k a e. absurd (cc)) f (function c bool) (predicate-places names f d.variables) typed)
+  type-listed = All-left (IsIn names.variables) (variable_places c) (variable_places bool ++ [])
+      (type-places (IsIn names.variables) [] (λ k a e. absurd (cc)) f (function c bool) (predicate-places names f d.variables) typed)
 
   new-listed : AllByRecursion (IsIn names.variables) (variable_places (new_type names))
   new-listed = own-places names.variables (IsIn names.variables) (all-own names.variables names.variables (λ n i. i))
 
   pub function-listed : (a b : HolType) → AllByRecursion (IsIn names.variables) (variable_places a) → AllByRecursion (IsIn names.variables) (variable_places b)
       → AllByRecursion (IsIn names.variables) (variable_places (function a b))
-  function-listed a b h k = All-append (IsIn names.variables) (variable_places a) (variable_places b ++ []) h (All-append (IsIn names.variables) (variable_places b) [] k (tt {0}))
+  function-listed a b h k = All-append (IsIn names.variables) (variable_places a) (variable_places b ++ []) h
+      (All-append (IsIn names.variables) (variable_places b) [] k (tt {0}))
 
   pub abstraction-listed : AllByRecursion (IsIn names.variables) (variable_places (abstraction_type names c))
   abstraction-listed = function-listed c (new_type names) type-listed new-listed
@@ -183,7 +190,8 @@ new-own : (names : TypeNames) (a : HolType) → ((n : Name) → IsIn (variable_p
 new-own names a h n i = IsIn-distinct name_eq name_eq-Decides (variable_places a) n (h n (places-own names.variables n i))
 
 pub abstraction-own : (names : TypeNames) (c : HolType) (n : Name) → IsIn names.variables n → IsIn (type_variables (abstraction_type names c)) n
-abstraction-own names c = new-own names (abstraction_type names c) (λ n i. IsIn-right (variable_places c) (variable_places (new_type names) ++ []) n (IsIn-left (variable_places (new_type names)) [] n i))
+abstraction-own names c = new-own names (abstraction_type names c)
+    (λ n i. IsIn-right (variable_places c) (variable_places (new_type names) ++ []) n (IsIn-left (variable_places (new_type names)) [] n i))
 
 pub representation-own : (names : TypeNames) (c : HolType) (n : Name) → IsIn names.variables n → IsIn (type_variables (representation_type names c)) n
 representation-own names c = new-own names (representation_type names c) (λ n i. IsIn-left (variable_places (new_type names)) (variable_places c ++ []) n i)
@@ -194,7 +202,8 @@ pub record ShownLaw (m : List Declaration) (G : List Tree) (t p : Tree) : Type 0
   pub law : IsLaw m G t found
   pub close : Close m 3 (proof_of p) found
 
-module _ (m : List Declaration) (closed : IsClosed m) (symbols : SymbolMap) (names : TypeNames) (c : HolType) (j : ℕ) (one : Sequent) (d : IsPartPremise m symbols names c j one) where
+module _ (m : List Declaration) (closed : IsClosed m) (symbols : SymbolMap) (names : TypeNames) (c : HolType) (j : ℕ) (one : Sequent)
+    (d : IsPartPremise m symbols names c j one) where
   facts : PartFacts m symbols c d.f one.conclusion
   facts = part-facts m symbols names c j one d
 
@@ -203,11 +212,14 @@ module _ (m : List Declaration) (closed : IsClosed m) (symbols : SymbolMap) (nam
 
   -- The arguments of a part in a shaped scope
   pub part-at : (G : List Tree) (scope : Scope) → ShapedScope m symbols G scope
-      → IsPartAt m G (type_tree symbols scope.types c) (term_tree symbols scope (predicate one.conclusion)) (term_tree symbols scope (witness one.conclusion)) (theorem_tree scope j one)
+      → IsPartAt m G (type_tree symbols scope.types c) (term_tree symbols scope (predicate one.conclusion)) (term_tree symbols scope (witness one.conclusion))
+      (theorem_tree scope j one)
   part-at G scope is = record {
     ty = type_tree-shaped m G symbols scope.types is.types c d.ty;
-    predicate = term_tree-shaped m closed symbols G scope [] is (λ k a e. absurd (cc)) (λ k a e. absurd (cc)) (predicate one.conclusion) (function c bool) facts.predicate_over facts.predicate_typed;
-    witness = term_tree-shaped m closed symbols G scope [] is (λ k a e. absurd (cc)) (λ k a e. absurd (cc)) (witness one.conclusion) c facts.witness_over facts.witness_typed;
+    predicate = term_tree-shaped m closed symbols G scope [] is (λ k a e. absurd (cc)) (λ k a e. absurd (cc)) (predicate one.conclusion) (function c bool)
+        facts.predicate_over facts.predicate_typed;
+    witness = term_tree-shaped m closed symbols G scope [] is (λ k a e. absurd (cc)) (λ k a e. absurd (cc)) (witness one.conclusion) c facts.witness_over
+        facts.witness_typed;
     proof = subst (λ p. IsProof m false G (theorem_tree scope j one) (proof_of (term_tree symbols scope p))) facts.whole
         (premise-shaped m closed symbols G scope is j one d.premise (λ h i. absurd (subst (λ (l : List Term). IsIn l h) d.defines.no_hypotheses i)));
   }
@@ -218,7 +230,11 @@ module _ (m : List Declaration) (closed : IsClosed m) (symbols : SymbolMap) (nam
   -- the types of the two constants
   module _ (op : IsPartOperator m symbols names c j one) where
     new_type-over : TypeOver m symbols (new_type names)
-    new_type-over = (subst (λ k. symbol_type m (operator_symbol symbols names.operator k) ≡ Some (products (replicate k types) types)) (sym (count-variables names.variables)) op.declared, variables-over names.variables)
+    new_type-over = (
+      subst (λ k. symbol_type m (operator_symbol symbols names.operator k) ≡ Some (products (replicate k types) types))
+          (sym (count-variables names.variables)) op.declared,
+      variables-over names.variables,
+    )
       where
         variables-over : (ns : List Name) → TypesOver m symbols (types_of (map variable ns))
         variables-over [] = tt
@@ -266,7 +282,8 @@ module _ (m : List Declaration) (closed : IsClosed m) (symbols : SymbolMap) (nam
         representation-definition m _ _ _ _ (part-at G (filled symbols other) is) (type_tree symbols other (new_type names)) (new-head other covers)
 
     -- The constants, at their generic types, under a binder of a filled scope
-    module _ (abs : IsPartConstant m symbols names.abstraction (abstraction_type names c) sub_abs_symbol c j one) (rep : IsPartConstant m symbols names.representation (representation_type names c) sub_rep_symbol c j one)
+    module _ (abs : IsPartConstant m symbols names.abstraction (abstraction_type names c) sub_abs_symbol c j one)
+        (rep : IsPartConstant m symbols names.representation (representation_type names c) sub_rep_symbol c j one)
         (G : List Tree) (other : TypeScope) (is : ShapedScope m symbols G (filled symbols other)) (covers : Covers names.variables other) where
       inner_scope : Scope
       inner_scope = lifted (filled symbols other)
@@ -286,7 +303,8 @@ module _ (m : List Declaration) (closed : IsClosed m) (symbols : SymbolMap) (nam
       own-shaped : (A : Tree) (n : Name) (a : HolType) (s : ℕ) → IsPartConstant m symbols n a s c j one → TypeOver m symbols a
           → IsTerm m (A ∷ G) (constant_tree symbols (lifted_types other) n a) (type_tree symbols (lifted_types other) a)
       own-shaped A n a s k o =
-          term_tree-shaped m closed symbols (A ∷ G) (lifted (filled symbols other)) [] (lifted-shaped m closed symbols G A (filled symbols other) is) (λ k a e. absurd (cc)) (λ k a e. absurd (cc)) (constant n a) a (constant-over-own n a s k o) refl
+          term_tree-shaped m closed symbols (A ∷ G) (lifted (filled symbols other)) [] (lifted-shaped m closed symbols G A (filled symbols other) is)
+          (λ k a e. absurd (cc)) (λ k a e. absurd (cc)) (constant n a) a (constant-over-own n a s k o) refl
 
       part-same : (s : ℕ) → part_tree symbols (filled symbols (lifted_types other)) s c (j, one) ≡ part s
       part-same s = sym (part_tree-lifted symbols other s c (j, one) shut)
@@ -295,50 +313,62 @@ module _ (m : List Declaration) (closed : IsClosed m) (symbols : SymbolMap) (nam
           → head_step m (App (constant_tree symbols (lifted_types other) names.abstraction (abstraction_type names c)) y) ≡ Some (App (part sub_abs_symbol) y)
       abs-head y =
           constant-part m symbols c j one shut names.abstraction (abstraction_type names c) sub_abs_symbol abs.generic abs.definition (lifted_types other)
-          (Covers-lifted (type_variables (abstraction_type names c)) other (Covers-more names.variables (type_variables (abstraction_type names c)) other (abstraction-own names c) covers)) y
+          (Covers-lifted (type_variables (abstraction_type names c)) other
+          (Covers-more names.variables (type_variables (abstraction_type names c)) other (abstraction-own names c) covers)) y
           ∙ ap (λ t. Some (App t y)) (part-same sub_abs_symbol)
 
       rep-head : (y : Tree)
-          → head_step m (App (constant_tree symbols (lifted_types other) names.representation (representation_type names c)) y) ≡ Some (App (part sub_rep_symbol) y)
+          → head_step m (App (constant_tree symbols (lifted_types other) names.representation (representation_type names c)) y)
+          ≡ Some (App (part sub_rep_symbol) y)
       rep-head y =
           constant-part m symbols c j one shut names.representation (representation_type names c) sub_rep_symbol rep.generic rep.definition (lifted_types other)
-          (Covers-lifted (type_variables (representation_type names c)) other (Covers-more names.variables (type_variables (representation_type names c)) other (representation-own names c) covers)) y
+          (Covers-lifted (type_variables (representation_type names c)) other
+          (Covers-more names.variables (type_variables (representation_type names c)) other (representation-own names c) covers)) y
           ∙ ap (λ t. Some (App t y)) (part-same sub_rep_symbol)
 
       -- The first law
-      pub first-shaped : IsLaw m G (first_law_tree symbols (filled symbols other) names c (j, one)) (proof_of (term_tree symbols (filled symbols other) (first_law names c).conclusion))
+      pub first-shaped : IsLaw m G (first_law_tree symbols (filled symbols other) names c (j, one))
+          (proof_of (term_tree symbols (filled symbols other) (first_law names c).conclusion))
       first-shaped =
           let A : Tree = term_of (type_tree symbols other (new_type names)) in
           let hN = type_tree-shaped m G symbols other is.types (new_type names) new_type-over in
-          let lowered : type_tree symbols (lifted_types other) (new_type names) ≡ lift 1 (type_tree symbols other (new_type names)) = sym (type_tree-lift symbols other (new_type names)) in
+          let lowered : type_tree symbols (lifted_types other) (new_type names) ≡ lift 1 (type_tree symbols other (new_type names)) =
+          sym (type_tree-lift symbols other (new_type names)) in
           first_law-shaped m (type_tree symbols other (new_type names)) _ _ _ _ _ _ hN (simple-weaken m closed hN)
           (part-at (A ∷ G) (lifted (filled symbols other)) (lifted-shaped m closed symbols G A (filled symbols other) is))
-          (subst (λ n. IsTerm m (A ∷ G) (constant_tree symbols (lifted_types other) names.abstraction (abstraction_type names c)) (arr_of (type_tree symbols (lifted_types other) c) n)) lowered
+          (subst (λ n. IsTerm m (A ∷ G) (constant_tree symbols (lifted_types other) names.abstraction (abstraction_type names c))
+          (arr_of (type_tree symbols (lifted_types other) c) n)) lowered
           (own-shaped A names.abstraction (abstraction_type names c) sub_abs_symbol abs abstraction-over))
-          (subst (λ n. IsTerm m (A ∷ G) (constant_tree symbols (lifted_types other) names.representation (representation_type names c)) (arr_of n (type_tree symbols (lifted_types other) c))) lowered
+          (subst (λ n. IsTerm m (A ∷ G) (constant_tree symbols (lifted_types other) names.representation (representation_type names c))
+          (arr_of n (type_tree symbols (lifted_types other) c))) lowered
           (own-shaped A names.representation (representation_type names c) sub_rep_symbol rep representation-over))
           (new-head-lifted other covers ∙ ap Some (part_tree-lift symbols (filled symbols other) sub_symbol c (j, one)))
           abs-head rep-head
 
       -- The second law
-      pub second-shaped : IsLaw m G (second_law_tree symbols (filled symbols other) names c (j, one)) (proof_of (term_tree symbols (filled symbols other) (second_law names c (predicate one.conclusion)).conclusion))
+      pub second-shaped : IsLaw m G (second_law_tree symbols (filled symbols other) names c (j, one))
+          (proof_of (term_tree symbols (filled symbols other) (second_law names c (predicate one.conclusion)).conclusion))
       second-shaped =
           let B = type_tree symbols other c in
           let A : Tree = term_of B in
           let F = predicate one.conclusion in
           let left = eq_of (type_tree symbols (lifted_types other) c)
-          (App (constant_tree symbols (lifted_types other) names.representation (representation_type names c)) (App (constant_tree symbols (lifted_types other) names.abstraction (abstraction_type names c)) (Var 0))) (Var 0) in
+          (App (constant_tree symbols (lifted_types other) names.representation (representation_type names c))
+          (App (constant_tree symbols (lifted_types other) names.abstraction (abstraction_type names c)) (Var 0))) (Var 0) in
           let within : term_tree symbols (lifted (filled symbols other)) F ≡ term_tree symbols (inside (filled symbols other)) F =
           sym (term_tree-lift symbols (filled symbols other) F) ∙ term_tree-inside symbols (filled symbols other) F (omega (arith, shut.predicate)) in
-          subst (λ f. IsLaw m G (App (shape.two_abstractions B bools left (App f (Var 0))) (Lam A (App (part sub_rep_abs_symbol) (Var 0)))) (proof_of (eq_of (arr_of B bools) (Lam A left) (Lam A (App f (Var 0)))))) within
-          (second_law-shaped m B (type_tree symbols (lifted_types other) (new_type names)) _ _ _ _ _ _ (type_tree-shaped m G symbols other is.types c d.ty) (type_tree-lift symbols other c)
+          subst (λ f. IsLaw m G (App (shape.two_abstractions B bools left (App f (Var 0))) (Lam A (App (part sub_rep_abs_symbol) (Var 0))))
+          (proof_of (eq_of (arr_of B bools) (Lam A left) (Lam A (App f (Var 0)))))) within
+          (second_law-shaped m B (type_tree symbols (lifted_types other) (new_type names)) _ _ _ _ _ _ (type_tree-shaped m G symbols other is.types c d.ty)
+          (type_tree-lift symbols other c)
           (part-at (A ∷ G) (lifted (filled symbols other)) (lifted-shaped m closed symbols G A (filled symbols other) is))
           (own-shaped A names.abstraction (abstraction_type names c) sub_abs_symbol abs abstraction-over)
           (own-shaped A names.representation (representation_type names c) sub_rep_symbol rep representation-over)
           abs-head rep-head)
 
     -- In version 5: the laws at a variable of a shaped scope, with the premise where nothing is put for its free variables
-    module _ (abs : IsPartConstant m symbols names.abstraction (abstraction_type names c) sub_abs_symbol c j one) (rep : IsPartConstant m symbols names.representation (representation_type names c) sub_rep_symbol c j one)
+    module _ (abs : IsPartConstant m symbols names.abstraction (abstraction_type names c) sub_abs_symbol c j one)
+        (rep : IsPartConstant m symbols names.representation (representation_type names c) sub_rep_symbol c j one)
         (G : List Tree) (scope : Scope) (is : ShapedScope m symbols G scope) (covers : Covers names.variables scope.types) where
       abbrev K : ℕ → Tree
       K s = part_tree symbols (filled symbols scope.types) s c (j, one)
@@ -390,7 +420,8 @@ module _ (m : List Declaration) (closed : IsClosed m) (symbols : SymbolMap) (nam
           }
 
       pub second_free : symbol_type m sym_symbol ≡ Some sym_lemma.ty → free_places (predicate one.conclusion) ≡ []
-          → ShownLaw m G (second_law_free_tree symbols scope names c (j, one)) (term_tree symbols scope (second_law_free names c (predicate one.conclusion)).conclusion)
+          → ShownLaw m G (second_law_free_tree symbols scope names c (j, one))
+          (term_tree symbols scope (second_law_free names c (predicate one.conclusion)).conclusion)
       second_free lemma places =
           let N = type_tree symbols scope.types (new_type names) in
           let x = term_tree symbols scope (old_variable c) in
@@ -398,13 +429,17 @@ module _ (m : List Declaration) (closed : IsClosed m) (symbols : SymbolMap) (nam
           let R = constant_tree symbols scope.types names.representation (representation_type names c) in
           let l = eq_of C0 (App R (App A x)) x in
           let same : F0 ≡ term_tree symbols scope (predicate one.conclusion) =
-          closed-agree symbols 0 (filled symbols scope.types) scope refl (λ k l. absurd (omega (arith, l))) (predicate one.conclusion) (subst (AllByRecursion (λ (v : Variable). ⊥)) (sym places) (tt {0})) (omega (arith, shut.predicate)) in
+          closed-agree symbols 0 (filled symbols scope.types) scope refl (λ k l. absurd (omega (arith, l))) (predicate one.conclusion)
+          (subst (AllByRecursion (λ (v : Variable). ⊥)) (sym places) (tt {0})) (omega (arith, shut.predicate)) in
           let law = second_law_free-shaped m N C0 F0 W0 H0 A R x at-filled (is.terms (codes "r" ∷ [], c) d.ty)
-          (free-constant names.abstraction (abstraction_type names c) sub_abs_symbol abs abstraction-over) (free-constant names.representation (representation_type names c) sub_rep_symbol rep representation-over)
+          (free-constant names.abstraction (abstraction_type names c) sub_abs_symbol abs abstraction-over)
+          (free-constant names.representation (representation_type names c) sub_rep_symbol rep representation-over)
           free-abs free-rep lemma in
           record {
             found = proof_of (eq_of bools (App (term_tree symbols scope (predicate one.conclusion)) x) l);
-            law = subst (λ f. IsLaw m G (applied (Sym sym_symbol) (bools ∷ l ∷ App f x ∷ App (K sub_rep_abs_symbol) x ∷ [])) (proof_of (eq_of bools (App f x) l))) same law;
+            law = subst
+                (λ f. IsLaw m G (applied (Sym sym_symbol) (bools ∷ l ∷ App f x ∷ App (K sub_rep_abs_symbol) x ∷ [])) (proof_of (eq_of bools (App f x) l))) same
+                law;
             close = close_same;
           }
 
@@ -422,13 +457,16 @@ module _ (names : TypeNames) (c : HolType) (f : Term) (one : Sequent) (d : IsTyp
       → Listed (type_variable_places (equation a x y))
   equation-listed a x y h k l =
       let places = function-listed names c f one d typed a (function a bool) h (function-listed names c f one d typed a bool h (tt {0})) in
-      All-append (IsIn names.variables) (variable_places (equality_type a) ++ type_variable_places x) (type_variable_places y) (All-append (IsIn names.variables) (variable_places (equality_type a)) (type_variable_places x) places k) l
+      All-append (IsIn names.variables) (variable_places (equality_type a) ++ type_variable_places x) (type_variable_places y)
+      (All-append (IsIn names.variables) (variable_places (equality_type a)) (type_variable_places x) places k) l
 
   abstracted-listed : (x : Term) → Listed (type_variable_places x) → Listed (type_variable_places (abstracted names c x))
-  abstracted-listed x h = All-append (IsIn names.variables) (variable_places (abstraction_type names c)) (type_variable_places x) (abstraction-listed names c f one d typed) h
+  abstracted-listed x h = All-append (IsIn names.variables) (variable_places (abstraction_type names c)) (type_variable_places x)
+      (abstraction-listed names c f one d typed) h
 
   represented-listed : (x : Term) → Listed (type_variable_places x) → Listed (type_variable_places (represented names c x))
-  represented-listed x h = All-append (IsIn names.variables) (variable_places (representation_type names c)) (type_variable_places x) (representation-listed names c f one d typed) h
+  represented-listed x h = All-append (IsIn names.variables) (variable_places (representation_type names c)) (type_variable_places x)
+      (representation-listed names c f one d typed) h
 
   under-listed : (a : HolType) (t : Term) → Listed (variable_places a) → Listed (type_variable_places t) → Listed (type_variable_places (lam a t))
   under-listed a t h k = All-append (IsIn names.variables) (variable_places a) (type_variable_places t) h k
@@ -436,16 +474,20 @@ module _ (names : TypeNames) (c : HolType) (f : Term) (one : Sequent) (d : IsTyp
   pub first-listed : Listed (type_variable_places (first_law names c).conclusion)
   first-listed =
       let n = new-listed names c f one d typed in
-      equation-listed (function (new_type names) (new_type names)) (lam (new_type names) (abstracted names c (represented names c (bound 0)))) (lam (new_type names) (bound 0)) (function-listed names c f one d typed (new_type names) (new_type names) n n)
-      (under-listed (new_type names) (abstracted names c (represented names c (bound 0))) n (abstracted-listed (represented names c (bound 0)) (represented-listed (bound 0) (tt {0}))))
+      equation-listed (function (new_type names) (new_type names)) (lam (new_type names) (abstracted names c (represented names c (bound 0))))
+      (lam (new_type names) (bound 0)) (function-listed names c f one d typed (new_type names) (new_type names) n n)
+      (under-listed (new_type names) (abstracted names c (represented names c (bound 0))) n
+      (abstracted-listed (represented names c (bound 0)) (represented-listed (bound 0) (tt {0}))))
       (under-listed (new_type names) (bound 0) n (tt {0}))
 
   pub second-listed : Listed (type_variable_places (second_law names c f).conclusion)
   second-listed =
       let k = type-listed names c f one d typed in
       let undone = represented names c (abstracted names c (bound 0)) in
-      equation-listed (function c bool) (lam c (equation c undone (bound 0))) (lam c (app f (bound 0))) (function-listed names c f one d typed c bool k (tt {0}))
-      (under-listed c (equation c undone (bound 0)) k (equation-listed c undone (bound 0) k (represented-listed (abstracted names c (bound 0)) (abstracted-listed (bound 0) (tt {0}))) (tt {0})))
+      equation-listed (function c bool) (lam c (equation c undone (bound 0))) (lam c (app f (bound 0)))
+      (function-listed names c f one d typed c bool k (tt {0}))
+      (under-listed c (equation c undone (bound 0)) k
+      (equation-listed c undone (bound 0) k (represented-listed (abstracted names c (bound 0)) (abstracted-listed (bound 0) (tt {0}))) (tt {0})))
       (under-listed c (app f (bound 0)) k (All-append (IsIn names.variables) (type_variable_places f) [] (predicate-places names f d.variables) (tt {0})))
 
   pub first_free-listed : Listed (type_variable_places (first_law_free names c).conclusion)
@@ -459,15 +501,18 @@ module _ (names : TypeNames) (c : HolType) (f : Term) (one : Sequent) (d : IsTyp
       let k = type-listed names c f one d typed in
       let v = old_variable c in
       let undone = represented names c (abstracted names c v) in
-      equation-listed bool (app f v) (equation c undone v) (tt {0}) (All-append (IsIn names.variables) (type_variable_places f) (type_variable_places v) (predicate-places names f d.variables) k)
+      equation-listed bool (app f v) (equation c undone v) (tt {0})
+      (All-append (IsIn names.variables) (type_variable_places f) (type_variable_places v) (predicate-places names f d.variables) k)
       (equation-listed c undone v k (represented-listed (abstracted names c v) (abstracted-listed v k)) k)
 
 law-listed : (names : TypeNames) (s : Sequent) → s.hypotheses ≡ [] → AllByRecursion (IsIn names.variables) (type_variable_places s.conclusion) → (n : Name)
     → IsIn (type_variables_of s) n → IsIn names.variables n
 law-listed names s none h n i =
-    let places : IsIn (flat_map type_variable_places (s.hypotheses ++ s.conclusion ∷ [])) n = IsIn-distinct_of name_eq name_eq-Decides (flat_map type_variable_places (terms_of s)) n i in
+    let places : IsIn (flat_map type_variable_places (s.hypotheses ++ s.conclusion ∷ [])) n =
+    IsIn-distinct_of name_eq name_eq-Decides (flat_map type_variable_places (terms_of s)) n i in
     let own : IsIn (type_variable_places s.conclusion ++ []) n = subst (λ hs. IsIn (flat_map type_variable_places (hs ++ s.conclusion ∷ [])) n) none places in
-    All-at (IsIn names.variables) (type_variable_places s.conclusion ++ []) n (All-append (IsIn names.variables) (type_variable_places s.conclusion) [] h (tt {0})) own
+    All-at (IsIn names.variables) (type_variable_places s.conclusion ++ []) n
+    (All-append (IsIn names.variables) (type_variable_places s.conclusion) [] h (tt {0})) own
 
 -- a closed predicate has no free variable
 shut-places : (vs : List Variable) → nat_eq (length vs) 0 ≡ true → vs ≡ []
@@ -477,7 +522,8 @@ shut-places (v ∷ vs) e = let l : length (v ∷ vs) ≡ 0 = (Decides-eqb (lengt
 second-free : (names : TypeNames) (c : HolType) (f : Term) → free_places f ≡ [] → free_variables_of (second_law names c f) ≡ []
 second-free names c f e = rw e refl
 
-module _ (m : List Declaration) (closed : IsClosed m) (symbols : SymbolMap) (names : TypeNames) (j : ℕ) (one : Sequent) (part : DefinesPart m symbols names j one) (s : Sequent) (is : IsSequent s) (over : SequentOver m symbols s) where
+module _ (m : List Declaration) (closed : IsClosed m) (symbols : SymbolMap) (names : TypeNames) (j : ℕ) (one : Sequent)
+    (part : DefinesPart m symbols names j one) (s : Sequent) (is : IsSequent s) (over : SequentOver m symbols s) where
   premise : IsPartPremise m symbols names part.c j one
   premise = part.operator.is
 
@@ -499,7 +545,8 @@ module _ (m : List Declaration) (closed : IsClosed m) (symbols : SymbolMap) (nam
 
   -- The first law in the scope of its sequent
   pub first_law-row : (c : HolType) (f : Term) → IsTypeDefinition names c f one → s ≡ first_law names c
-      → ShownLaw m (context_of symbols s) (first_law_tree symbols (scope_of symbols s) names (type_or (witness one.conclusion)) (j, one)) (term_tree symbols (scope_of symbols s) s.conclusion)
+      → ShownLaw m (context_of symbols s) (first_law_tree symbols (scope_of symbols s) names (type_or (witness one.conclusion)) (j, one))
+      (term_tree symbols (scope_of symbols s) s.conclusion)
   first_law-row c f d e =
       let says : s ≡ first_law names part.c = e ∙ ap (first_law names) (same_type c f d) in
       let none : s.hypotheses ≡ [] = ap (λ (x : Sequent). x.hypotheses) says in
@@ -508,34 +555,48 @@ module _ (m : List Declaration) (closed : IsClosed m) (symbols : SymbolMap) (nam
       let other = under_types (type_variables_of s) unfilled in
       let E : scope_of symbols s ≡ filled symbols other = law-scope symbols s free none in
       let own = own_shape m closed symbols s is over in
-      let listed_places = subst (λ p. AllByRecursion (IsIn names.variables) (type_variable_places p)) (sym shown) (first-listed names part.c (predicate one.conclusion) one own_definition own_predicate) in
+      let listed_places = subst (λ p. AllByRecursion (IsIn names.variables) (type_variable_places p)) (sym shown)
+      (first-listed names part.c (predicate one.conclusion) one own_definition own_predicate) in
       let covers = Covers-more (type_variables_of s) names.variables other (law-listed names s none listed_places) (Covers-under (type_variables_of s)) in
-      let law = first-shaped m closed symbols names part.c j one premise part.operator part.abstraction part.representation (context_of symbols s) other (subst (ShapedScope m symbols (context_of symbols s)) E own.scope) covers in
-      let in_scope = subst (λ w. IsLaw m (context_of symbols s) (first_law_tree symbols w names part.c (j, one)) (proof_of (term_tree symbols w (first_law names part.c).conclusion))) (sym E) law in
+      let law = first-shaped m closed symbols names part.c j one premise part.operator part.abstraction part.representation (context_of symbols s) other
+      (subst (ShapedScope m symbols (context_of symbols s)) E own.scope) covers in
+      let in_scope = subst
+      (λ w. IsLaw m (context_of symbols s) (first_law_tree symbols w names part.c (j, one))
+      (proof_of (term_tree symbols w (first_law names part.c).conclusion))) (sym E) law in
       record {
         found = proof_of (term_tree symbols (scope_of symbols s) s.conclusion);
-        law = subst₂ (λ c p. IsLaw m (context_of symbols s) (first_law_tree symbols (scope_of symbols s) names c (j, one)) (proof_of (term_tree symbols (scope_of symbols s) p))) (sym own_type) (sym shown) in_scope;
+        law = subst₂
+            (λ c p. IsLaw m (context_of symbols s) (first_law_tree symbols (scope_of symbols s) names c (j, one))
+            (proof_of (term_tree symbols (scope_of symbols s) p))) (sym own_type) (sym shown) in_scope;
         close = close_same;
       }
 
   -- The second law in the scope of its sequent
   pub second_law-row : (c : HolType) (f : Term) → IsTypeDefinition names c f one → s ≡ second_law names c f
-      → ShownLaw m (context_of symbols s) (second_law_tree symbols (scope_of symbols s) names (type_or (witness one.conclusion)) (j, one)) (term_tree symbols (scope_of symbols s) s.conclusion)
+      → ShownLaw m (context_of symbols s) (second_law_tree symbols (scope_of symbols s) names (type_or (witness one.conclusion)) (j, one))
+      (term_tree symbols (scope_of symbols s) s.conclusion)
   second_law-row c f d e =
       let says : s ≡ second_law names part.c (predicate one.conclusion) = e ∙ (λ i. second_law names (same_type c f d i) (same_predicate c f d i)) in
       let none : s.hypotheses ≡ [] = ap (λ (x : Sequent). x.hypotheses) says in
       let shown : s.conclusion ≡ (second_law names part.c (predicate one.conclusion)).conclusion = ap (λ (x : Sequent). x.conclusion) says in
-      let free : free_variables_of s ≡ [] = ap free_variables_of says ∙ second-free names part.c (predicate one.conclusion) (shut-places (free_places (predicate one.conclusion)) own_definition.closed) in
+      let free : free_variables_of s ≡ [] = ap free_variables_of says ∙ second-free names part.c (predicate one.conclusion)
+      (shut-places (free_places (predicate one.conclusion)) own_definition.closed) in
       let other = under_types (type_variables_of s) unfilled in
       let E : scope_of symbols s ≡ filled symbols other = law-scope symbols s free none in
       let own = own_shape m closed symbols s is over in
-      let listed_places = subst (λ p. AllByRecursion (IsIn names.variables) (type_variable_places p)) (sym shown) (second-listed names part.c (predicate one.conclusion) one own_definition own_predicate) in
+      let listed_places = subst (λ p. AllByRecursion (IsIn names.variables) (type_variable_places p)) (sym shown)
+      (second-listed names part.c (predicate one.conclusion) one own_definition own_predicate) in
       let covers = Covers-more (type_variables_of s) names.variables other (law-listed names s none listed_places) (Covers-under (type_variables_of s)) in
-      let law = second-shaped m closed symbols names part.c j one premise part.operator part.abstraction part.representation (context_of symbols s) other (subst (ShapedScope m symbols (context_of symbols s)) E own.scope) covers in
-      let in_scope = subst (λ w. IsLaw m (context_of symbols s) (second_law_tree symbols w names part.c (j, one)) (proof_of (term_tree symbols w (second_law names part.c (predicate one.conclusion)).conclusion))) (sym E) law in
+      let law = second-shaped m closed symbols names part.c j one premise part.operator part.abstraction part.representation (context_of symbols s) other
+      (subst (ShapedScope m symbols (context_of symbols s)) E own.scope) covers in
+      let in_scope = subst
+      (λ w. IsLaw m (context_of symbols s) (second_law_tree symbols w names part.c (j, one))
+      (proof_of (term_tree symbols w (second_law names part.c (predicate one.conclusion)).conclusion))) (sym E) law in
       record {
         found = proof_of (term_tree symbols (scope_of symbols s) s.conclusion);
-        law = subst₂ (λ c p. IsLaw m (context_of symbols s) (second_law_tree symbols (scope_of symbols s) names c (j, one)) (proof_of (term_tree symbols (scope_of symbols s) p))) (sym own_type) (sym shown) in_scope;
+        law = subst₂
+            (λ c p. IsLaw m (context_of symbols s) (second_law_tree symbols (scope_of symbols s) names c (j, one))
+            (proof_of (term_tree symbols (scope_of symbols s) p))) (sym own_type) (sym shown) in_scope;
         close = close_same;
       }
 
@@ -544,31 +605,40 @@ module _ (m : List Declaration) (closed : IsClosed m) (symbols : SymbolMap) (nam
   law-covers none places =
       Covers-proofs names.variables s.hypotheses (scope_of_terms symbols s)
       (Covers-terms names.variables (free_variables_of s) (scope_of_types symbols s)
-      (Covers-more (type_variables_of s) names.variables (under_types (type_variables_of s) unfilled) (law-listed names s none places) (Covers-under (type_variables_of s))))
+      (Covers-more (type_variables_of s) names.variables (under_types (type_variables_of s) unfilled) (law-listed names s none places)
+      (Covers-under (type_variables_of s))))
 
   -- The laws in version 5
   pub first_law_free-row : (c : HolType) (f : Term) → IsTypeDefinition names c f one → s ≡ first_law_free names c
-      → ShownLaw m (context_of symbols s) (first_law_free_tree symbols (scope_of symbols s) names (type_or (witness one.conclusion)) (j, one)) (term_tree symbols (scope_of symbols s) s.conclusion)
+      → ShownLaw m (context_of symbols s) (first_law_free_tree symbols (scope_of symbols s) names (type_or (witness one.conclusion)) (j, one))
+      (term_tree symbols (scope_of symbols s) s.conclusion)
   first_law_free-row c f d e =
       let says : s ≡ first_law_free names part.c = e ∙ ap (first_law_free names) (same_type c f d) in
       let none : s.hypotheses ≡ [] = ap (λ (x : Sequent). x.hypotheses) says in
       let shown : s.conclusion ≡ (first_law_free names part.c).conclusion = ap (λ (x : Sequent). x.conclusion) says in
       let own = own_shape m closed symbols s is over in
-      let places = subst (λ p. AllByRecursion (IsIn names.variables) (type_variable_places p)) (sym shown) (first_free-listed names part.c (predicate one.conclusion) one own_definition own_predicate) in
-      subst₂ (λ c p. ShownLaw m (context_of symbols s) (first_law_free_tree symbols (scope_of symbols s) names c (j, one)) (term_tree symbols (scope_of symbols s) p)) (sym own_type) (sym shown)
-      (first_free m closed symbols names part.c j one premise part.operator part.abstraction part.representation (context_of symbols s) (scope_of symbols s) own.scope (law-covers none places))
+      let places = subst (λ p. AllByRecursion (IsIn names.variables) (type_variable_places p)) (sym shown)
+      (first_free-listed names part.c (predicate one.conclusion) one own_definition own_predicate) in
+      subst₂ (λ c p. ShownLaw m (context_of symbols s) (first_law_free_tree symbols (scope_of symbols s) names c (j, one))
+      (term_tree symbols (scope_of symbols s) p)) (sym own_type) (sym shown)
+      (first_free m closed symbols names part.c j one premise part.operator part.abstraction part.representation (context_of symbols s) (scope_of symbols s)
+      own.scope (law-covers none places))
 
   pub second_law_free-row : symbol_type m sym_symbol ≡ Some sym_lemma.ty → (c : HolType) (f : Term) → IsTypeDefinition names c f one
       → s ≡ second_law_free names c f
-      → ShownLaw m (context_of symbols s) (second_law_free_tree symbols (scope_of symbols s) names (type_or (witness one.conclusion)) (j, one)) (term_tree symbols (scope_of symbols s) s.conclusion)
+      → ShownLaw m (context_of symbols s) (second_law_free_tree symbols (scope_of symbols s) names (type_or (witness one.conclusion)) (j, one))
+      (term_tree symbols (scope_of symbols s) s.conclusion)
   second_law_free-row lemma c f d e =
       let says : s ≡ second_law_free names part.c (predicate one.conclusion) = e ∙ (λ i. second_law_free names (same_type c f d i) (same_predicate c f d i)) in
       let none : s.hypotheses ≡ [] = ap (λ (x : Sequent). x.hypotheses) says in
       let shown : s.conclusion ≡ (second_law_free names part.c (predicate one.conclusion)).conclusion = ap (λ (x : Sequent). x.conclusion) says in
       let own = own_shape m closed symbols s is over in
-      let places = subst (λ p. AllByRecursion (IsIn names.variables) (type_variable_places p)) (sym shown) (second_free-listed names part.c (predicate one.conclusion) one own_definition own_predicate) in
-      subst₂ (λ c p. ShownLaw m (context_of symbols s) (second_law_free_tree symbols (scope_of symbols s) names c (j, one)) (term_tree symbols (scope_of symbols s) p)) (sym own_type) (sym shown)
-      (second_free m closed symbols names part.c j one premise part.operator part.abstraction part.representation (context_of symbols s) (scope_of symbols s) own.scope (law-covers none places) lemma
+      let places = subst (λ p. AllByRecursion (IsIn names.variables) (type_variable_places p)) (sym shown)
+      (second_free-listed names part.c (predicate one.conclusion) one own_definition own_predicate) in
+      subst₂ (λ c p. ShownLaw m (context_of symbols s) (second_law_free_tree symbols (scope_of symbols s) names c (j, one))
+      (term_tree symbols (scope_of symbols s) p)) (sym own_type) (sym shown)
+      (second_free m closed symbols names part.c j one premise part.operator part.abstraction part.representation (context_of symbols s) (scope_of symbols s)
+      own.scope (law-covers none places) lemma
       (shut-places (free_places (predicate one.conclusion)) own_definition.closed))
 
 -- The definitions under their binders
@@ -581,11 +651,13 @@ call-size : (ns : List Name) (t : Tree) → 3 ≤ size t → 3 ≤ size (abstrac
 call-size [] t h = h
 call-size (n ∷ ns) t h = omega (arith, call-size ns t h)
 
-module _ (m : List Declaration) (closed : IsClosed m) (symbols : SymbolMap) (names : TypeNames) (c : HolType) (j : ℕ) (one : Sequent) (d : IsPartPremise m symbols names c j one) where
+module _ (m : List Declaration) (closed : IsClosed m) (symbols : SymbolMap) (names : TypeNames) (c : HolType) (j : ℕ) (one : Sequent)
+    (d : IsPartPremise m symbols names c j one) where
   pub part_definition-big : (ns : List Name) (s : ℕ) → 3 ≤ size (part_definition_tree symbols ns s c j one)
   part_definition-big ns s = call-size ns (part_tree symbols (filled symbols (under_types ns unfilled)) s c (j, one)) (omega arith)
 
-  pub operator-shaped : IsCallDefinition m [] (part_definition_tree symbols names.variables sub_symbol c j one) (products (replicate (length names.variables) types) types)
+  pub operator-shaped : IsCallDefinition m [] (part_definition_tree symbols names.variables sub_symbol c j one)
+      (products (replicate (length names.variables) types) types)
   operator-shaped =
       let ns = names.variables in
       let other = under_types ns unfilled in
@@ -598,12 +670,18 @@ module _ (m : List Declaration) (closed : IsClosed m) (symbols : SymbolMap) (nam
     typed : HasType d.f (function c bool)
     typed = predicate-type m closed symbols names c j one d
 
-    pub abstraction-shaped : IsCallDefinition m [] (part_definition_tree symbols (type_variables (abstraction_type names c)) sub_abs_symbol c j one) (generic_tree symbols (abstraction_type names c))
+    pub abstraction-shaped : IsCallDefinition m [] (part_definition_tree symbols (type_variables (abstraction_type names c)) sub_abs_symbol c j one)
+        (generic_tree symbols (abstraction_type names c))
     abstraction-shaped =
         let ns = type_variables (abstraction_type names c) in
-        call-abstractions m ns (abstraction-called m closed symbols names c j one d op ns (among-listed names (abstraction_type names c) (abstraction-listed names c d.f one d.defines typed)))
+        call-abstractions m ns
+        (abstraction-called m closed symbols names c j one d op ns
+        (among-listed names (abstraction_type names c) (abstraction-listed names c d.f one d.defines typed)))
 
-    pub representation-shaped : IsCallDefinition m [] (part_definition_tree symbols (type_variables (representation_type names c)) sub_rep_symbol c j one) (generic_tree symbols (representation_type names c))
+    pub representation-shaped : IsCallDefinition m [] (part_definition_tree symbols (type_variables (representation_type names c)) sub_rep_symbol c j one)
+        (generic_tree symbols (representation_type names c))
     representation-shaped =
         let ns = type_variables (representation_type names c) in
-        call-abstractions m ns (representation-called m closed symbols names c j one d op ns (among-listed names (representation_type names c) (representation-listed names c d.f one d.defines typed)))
+        call-abstractions m ns
+        (representation-called m closed symbols names c j one d op ns
+        (among-listed names (representation_type names c) (representation-listed names c d.f one d.defines typed)))

@@ -59,19 +59,22 @@ module _ (symbols : SymbolMap) where
       sub-applied s (Sym j) ((A ++ B) ++ C)
       ∙ ap (applied (Sym j))
       (map-append (sub s) (A ++ B) C ∙ ap (λ l. l ++ map (sub s) C) (map-append (sub s) A B)
-      ∙ (λ i. (map-twice (sub s) scope.types (type_variables_of one) i ++ map-twice (sub s) scope.terms (free_variables_of one) i) ++ map-twice (sub s) scope.proofs one.hypotheses i))
+      ∙ (λ i. (map-twice (sub s) scope.types (type_variables_of one) i ++ map-twice (sub s) scope.terms (free_variables_of one) i)
+      ++ map-twice (sub s) scope.proofs one.hypotheses i))
 
   -- a part after a substitution, and under a binder more
   pub part_tree-sub : (s : ℕ → Tree) (scope : Scope) (r : ℕ) (c : HolType) (p : Premise)
       → sub s (part_tree symbols scope r c p) ≡ part_tree symbols (through s scope) r c p
   part_tree-sub s scope r c p i =
-      part_of r (type_tree-sub symbols s scope.types c i) (term_tree-sub symbols s scope (predicate p.1.conclusion) i) (term_tree-sub symbols s scope (witness p.1.conclusion) i) (theorem_tree-sub s scope p.0 p.1 i)
+      part_of r (type_tree-sub symbols s scope.types c i) (term_tree-sub symbols s scope (predicate p.1.conclusion) i)
+      (term_tree-sub symbols s scope (witness p.1.conclusion) i) (theorem_tree-sub s scope p.0 p.1 i)
 
   pub part_tree-lift : (scope : Scope) (r : ℕ) (c : HolType) (p : Premise) → lift 1 (part_tree symbols scope r c p) ≡ part_tree symbols (lifted scope) r c p
   part_tree-lift scope r c p =
       lift_sub (part_tree symbols scope r c p) ∙ part_tree-sub (λ n. Var (suc n)) scope r c p
       ∙ ap (λ w. part_tree symbols w r c p)
-      (same_scope (through (λ n. Var (suc n)) scope) (lifted scope) (λ n. sym (lift_sub (scope.types n))) (λ v. sym (lift_sub (scope.terms v))) (λ h. sym (lift_sub (scope.proofs h))) (λ k. sym (lift_sub (scope.bounds k))))
+      (same_scope (through (λ n. Var (suc n)) scope) (lifted scope) (λ n. sym (lift_sub (scope.types n))) (λ v. sym (lift_sub (scope.terms v)))
+      (λ h. sym (lift_sub (scope.proofs h))) (λ k. sym (lift_sub (scope.bounds k))))
 
   -- a part owes nothing to bound numbers
   part_tree-bounds : (scope : Scope) (bounds : ℕ → Tree) (r : ℕ) (c : HolType) (p : Premise) → IsShut p.1
@@ -88,26 +91,31 @@ module _ (symbols : SymbolMap) where
       part_tree-sub s (filled symbols scope) r c p ∙ part_tree-bounds (through s (filled symbols scope)) Var r c p shut
       ∙ ap (λ w. part_tree symbols w r c p)
       (same_scope (with_bounds Var (through s (filled symbols scope))) (filled symbols other) e
-      (λ v. filler-sub s (type_tree symbols scope v.1) ∙ ap filler (type_tree-sub symbols s scope v.1 ∙ ap (λ w. type_tree symbols w v.1) (fun_ext e))) (λ h. refl) (λ k. refl))
+      (λ v. filler-sub s (type_tree symbols scope v.1) ∙ ap filler (type_tree-sub symbols s scope v.1 ∙ ap (λ w. type_tree symbols w v.1) (fun_ext e)))
+      (λ h. refl) (λ k. refl))
 
   pub part_tree-lifted : (scope : TypeScope) (r : ℕ) (c : HolType) (p : Premise) → IsShut p.1
       → part_tree symbols (lifted (filled symbols scope)) r c p ≡ part_tree symbols (filled symbols (lifted_types scope)) r c p
   part_tree-lifted scope r c p shut =
       part_tree-bounds (lifted (filled symbols scope)) Var r c p shut
       ∙ ap (λ w. part_tree symbols w r c p)
-      (same_scope (with_bounds Var (lifted (filled symbols scope))) (filled symbols (lifted_types scope)) (λ n. refl) (λ v. filler-lift (type_tree symbols scope v.1) ∙ ap filler (type_tree-lift symbols scope v.1)) (λ h. refl) (λ k. refl))
+      (same_scope (with_bounds Var (lifted (filled symbols scope))) (filled symbols (lifted_types scope)) (λ n. refl)
+      (λ v. filler-lift (type_tree symbols scope v.1) ∙ ap filler (type_tree-lift symbols scope v.1)) (λ h. refl) (λ k. refl))
 
 -- a term without free variables and loose numbers is alike in scopes that are alike in types
 module _ (symbols : SymbolMap) where
-  pub closed-agree : (d : ℕ) (scope other : Scope) → scope.types ≡ other.types → ((k : ℕ) → k < d → scope.bounds k ≡ other.bounds k) → (t : Term) → AllByRecursion (λ (v : Variable). ⊥) (free_places t) → loose t ≤ d
+  pub closed-agree : (d : ℕ) (scope other : Scope) → scope.types ≡ other.types → ((k : ℕ) → k < d → scope.bounds k ≡ other.bounds k) → (t : Term)
+      → AllByRecursion (λ (v : Variable). ⊥) (free_places t) → loose t ≤ d
       → term_tree symbols scope t ≡ term_tree symbols other t
   closed-agree d scope other e b (term.Term.free n t) h l = absurd h.0
   closed-agree d scope other e b (term.Term.bound k) h l = b k (omega (arith, l))
   closed-agree d scope other e b (term.Term.constant n t) h l = ap (λ s. constant_tree symbols s n t) e
   closed-agree d scope other e b (term.Term.app f x) h l =
-      ap₂ App (closed-agree d scope other e b f (All-left (λ (v : Variable). ⊥) (free_places f) (free_places x) h) (omega (arith, l))) (closed-agree d scope other e b x (All-right (λ (v : Variable). ⊥) (free_places f) (free_places x) h) (omega (arith, l)))
+      ap₂ App (closed-agree d scope other e b f (All-left (λ (v : Variable). ⊥) (free_places f) (free_places x) h) (omega (arith, l)))
+      (closed-agree d scope other e b x (All-right (λ (v : Variable). ⊥) (free_places f) (free_places x) h) (omega (arith, l)))
   closed-agree d scope other e b (term.Term.lam a t) h l =
-      ap₂ Lam (ap (λ s. term_of (type_tree symbols s a)) e) (closed-agree (suc d) (inside scope) (inside other) (ap lifted_types e) inner t h (omega (arith, l)))
+      ap₂ Lam (ap (λ s. term_of (type_tree symbols s a)) e)
+      (closed-agree (suc d) (inside scope) (inside other) (ap lifted_types e) inner t h (omega (arith, l)))
     where
       inner : (k : ℕ) → k < suc d → (inside scope).bounds k ≡ (inside other).bounds k
       inner zero l = refl
@@ -150,10 +158,12 @@ Covers-under ns n = from ns unfilled refl
 
 -- a definition by a symbol of parts takes as many arguments at once as there are binders
 given-part : (r : ℕ) (C F W H : Tree) (other : TypeScope) (ns : List Name) (before rest : List Tree)
-    → given before (abstractions (map (λ n. types) ns) (part_of r C F W H)) (map other ns ++ rest) ≡ Some (applied (put_all (before ++ map other ns) (part_of r C F W H)) rest)
+    → given before (abstractions (map (λ n. types) ns) (part_of r C F W H)) (map other ns ++ rest)
+    ≡ Some (applied (put_all (before ++ map other ns) (part_of r C F W H)) rest)
 given-part r C F W H other [] before rest = ap (λ l. Some (applied (put_all l (part_of r C F W H)) rest)) (sym (append-nil before))
 given-part r C F W H other (n ∷ ns) before rest =
-    given-part r C F W H other ns (before ++ other n ∷ []) rest ∙ ap (λ l. Some (applied (put_all l (part_of r C F W H)) rest)) (append_assoc before (other n ∷ []) (map other ns))
+    given-part r C F W H other ns (before ++ other n ∷ []) rest
+    ∙ ap (λ l. Some (applied (put_all l (part_of r C F W H)) rest)) (append_assoc before (other n ∷ []) (map other ns))
 
 variable_trees : (symbols : SymbolMap) (other : TypeScope) (ns : List Name) → type_trees symbols other (types_of (map variable ns)) ≡ map other ns
 variable_trees symbols other [] = refl
@@ -162,10 +172,12 @@ variable_trees symbols other (n ∷ ns) = ap (λ l. other n ∷ l) (variable_tre
 module _ (m : List Declaration) (symbols : SymbolMap) (c : HolType) (j : ℕ) (one : Sequent) (shut : IsShut one) where
   -- the definition with types put for its binders
   part-put : (ns : List Name) (other : TypeScope) → Covers ns other → (r : ℕ)
-      → put_all (map other ns) (part_tree symbols (filled symbols (under_types ns unfilled)) r c (j, one)) ≡ part_tree symbols (filled symbols other) r c (j, one)
+      → put_all (map other ns) (part_tree symbols (filled symbols (under_types ns unfilled)) r c (j, one))
+      ≡ part_tree symbols (filled symbols other) r c (j, one)
   part-put ns other covers r =
       put_all-after (map other ns) (part_tree symbols (filled symbols (under_types ns unfilled)) r c (j, one))
-      ∙ part_tree-filled symbols (after Var (map other ns)) (under_types ns unfilled) other (λ n. types-agree m [] other ns unfilled Var n (covers n)) r c (j, one) shut
+      ∙ part_tree-filled symbols (after Var (map other ns)) (under_types ns unfilled) other (λ n. types-agree m [] other ns unfilled Var n (covers n)) r c
+      (j, one) shut
 
   -- a symbol that is defined by a part, at types and at what follows them
   part-head : (s : ℕ) (ns : List Name) (r : ℕ) → symbol_definition m s ≡ Some (part_definition_tree symbols ns r c j one) → (other : TypeScope)
@@ -175,15 +187,18 @@ module _ (m : List Declaration) (symbols : SymbolMap) (c : HolType) (j : ℕ) (o
       let outer = filled symbols (under_types ns unfilled) in
       spine-applied m (Sym s) (map other ns) rest
       ∙ symbol_step-defined m s (map other ns ++ rest) (part_definition_tree symbols ns r c j one) d
-      ∙ given-part r (type_tree symbols outer.types c) (term_tree symbols outer (predicate one.conclusion)) (term_tree symbols outer (witness one.conclusion)) (theorem_tree outer j one) other ns [] rest
+      ∙ given-part r (type_tree symbols outer.types c) (term_tree symbols outer (predicate one.conclusion)) (term_tree symbols outer (witness one.conclusion))
+      (theorem_tree outer j one) other ns [] rest
       ∙ ap (λ t. Some (applied t rest)) (part-put ns other covers r)
 
   -- the new type
   pub operator-head : (names : TypeNames) (r : ℕ)
       → symbol_definition m (operator_symbol symbols names.operator (length names.variables)) ≡ Some (part_definition_tree symbols names.variables r c j one)
-      → (other : TypeScope) → Covers names.variables other → head_step m (type_tree symbols other (new_type names)) ≡ Some (part_tree symbols (filled symbols other) r c (j, one))
+      → (other : TypeScope) → Covers names.variables other → head_step m (type_tree symbols other (new_type names))
+      ≡ Some (part_tree symbols (filled symbols other) r c (j, one))
   operator-head names r d other covers =
-      ap (λ k. head_step m (applied (Sym (operator_symbol symbols names.operator k)) (type_trees symbols other (types_of (map variable names.variables))))) (count-variables names.variables)
+      ap (λ k. head_step m (applied (Sym (operator_symbol symbols names.operator k)) (type_trees symbols other (types_of (map variable names.variables)))))
+      (count-variables names.variables)
       ∙ ap (λ l. head_step m (applied (Sym (operator_symbol symbols names.operator (length names.variables))) l)) (variable_trees symbols other names.variables)
       ∙ part-head (operator_symbol symbols names.operator (length names.variables)) names.variables r d other covers []
 
@@ -198,7 +213,8 @@ module _ (m : List Declaration) (symbols : SymbolMap) (c : HolType) (j : ℕ) (o
 
   pub constant-part : (n : Name) (a : HolType) (r : ℕ) → generic_type symbols n ≡ a
       → symbol_definition m (constant_symbol symbols n) ≡ Some (part_definition_tree symbols (type_variables a) r c j one)
-      → (other : TypeScope) → Covers (type_variables a) other → (y : Tree) → head_step m (App (constant_tree symbols other n a) y) ≡ Some (App (part_tree symbols (filled symbols other) r c (j, one)) y)
+      → (other : TypeScope) → Covers (type_variables a) other → (y : Tree) → head_step m (App (constant_tree symbols other n a) y)
+      ≡ Some (App (part_tree symbols (filled symbols other) r c (j, one)) y)
   constant-part n a r generic d other covers y =
       ap (λ l. head_step m (App (applied (Sym (constant_symbol symbols n)) l) y)) (generic-arguments n a generic other)
       ∙ part-head (constant_symbol symbols n) (type_variables a) r d other covers (y ∷ [])

@@ -18,7 +18,8 @@ use Rattle.translate_laws.specs.SimultaneousArguments.{after, after-append, put-
 
 module _ (symbols : SymbolMap) where
   -- the tree of a term whose numbers are renamed
-  term_tree-rename : (r : ℕ → ℕ) (scope : Scope) (t : Term) → term_tree symbols scope (rename r t) ≡ term_tree symbols (with_bounds (λ k. scope.bounds (r k)) scope) t
+  term_tree-rename : (r : ℕ → ℕ) (scope : Scope) (t : Term) → term_tree symbols scope (rename r t)
+      ≡ term_tree symbols (with_bounds (λ k. scope.bounds (r k)) scope) t
   term_tree-rename r scope (free n t) = refl
   term_tree-rename r scope (bound k) = refl
   term_tree-rename r scope (constant n t) = refl
@@ -26,7 +27,9 @@ module _ (symbols : SymbolMap) where
   term_tree-rename r scope (lam t b) =
       ap (Lam (term_of (type_tree symbols scope.types t)))
       (term_tree-rename (renaming.up r) (inside scope) b
-      ∙ ap (λ w. term_tree symbols w b) (same_scope (with_bounds (λ k. (inside scope).bounds (renaming.up r k)) (inside scope)) (inside (with_bounds (λ k. scope.bounds (r k)) scope)) (λ n. refl) (λ v. refl) (λ h. refl) go))
+      ∙ ap (λ w. term_tree symbols w b)
+      (same_scope (with_bounds (λ k. (inside scope).bounds (renaming.up r k)) (inside scope)) (inside (with_bounds (λ k. scope.bounds (r k)) scope))
+      (λ n. refl) (λ v. refl) (λ h. refl) go))
     where
       go : (k : ℕ) → (inside scope).bounds (renaming.up r k) ≡ (inside (with_bounds (λ k. scope.bounds (r k)) scope)).bounds k
       go zero = refl
@@ -37,7 +40,8 @@ module _ (symbols : SymbolMap) where
   term_tree-passing scope t = term_tree-rename suc (inside scope) t ∙ sym (term_tree-lift symbols scope t)
 
   -- the tree of a term with terms put for its numbers
-  term_tree-replace : (s : ℕ → Term) (scope : Scope) (t : Term) → term_tree symbols scope (replace s t) ≡ term_tree symbols (with_bounds (λ k. term_tree symbols scope (s k)) scope) t
+  term_tree-replace : (s : ℕ → Term) (scope : Scope) (t : Term) → term_tree symbols scope (replace s t)
+      ≡ term_tree symbols (with_bounds (λ k. term_tree symbols scope (s k)) scope) t
   term_tree-replace s scope (free n t) = refl
   term_tree-replace s scope (bound k) = refl
   term_tree-replace s scope (constant n t) = refl
@@ -45,7 +49,9 @@ module _ (symbols : SymbolMap) where
   term_tree-replace s scope (lam t b) =
       ap (Lam (term_of (type_tree symbols scope.types t)))
       (term_tree-replace (up_terms s) (inside scope) b
-      ∙ ap (λ w. term_tree symbols w b) (same_scope (with_bounds (λ k. term_tree symbols (inside scope) (up_terms s k)) (inside scope)) (inside (with_bounds (λ k. term_tree symbols scope (s k)) scope)) (λ n. refl) (λ v. refl) (λ h. refl) go))
+      ∙ ap (λ w. term_tree symbols w b)
+      (same_scope (with_bounds (λ k. term_tree symbols (inside scope) (up_terms s k)) (inside scope))
+      (inside (with_bounds (λ k. term_tree symbols scope (s k)) scope)) (λ n. refl) (λ v. refl) (λ h. refl) go))
     where
       go : (k : ℕ) → term_tree symbols (inside scope) (up_terms s k) ≡ (inside (with_bounds (λ k. term_tree symbols scope (s k)) scope)).bounds k
       go zero = refl
@@ -81,7 +87,8 @@ put_all_var-snoc us x n = sym (put-put_all x us (Var n)) ∙ ap (put x) (sym (up
 put_all-from : (xs us : List Tree) → ((n : ℕ) → put_all_var 0 us n ≡ after Var us n) → (n : ℕ) → put_all_var 0 (us ++ xs) n ≡ after Var (us ++ xs) n
 put_all-from [] us h n = ap (λ l. put_all_var 0 l n) (append-nil us) ∙ h n ∙ ap (λ l. after Var l n) (sym (append-nil us))
 put_all-from (x ∷ xs) us h n =
-    ap (λ l. put_all_var 0 l n) (sym (append_assoc us (x ∷ []) xs)) ∙ put_all-from xs (us ++ x ∷ []) one n ∙ ap (λ l. after Var l n) (append_assoc us (x ∷ []) xs)
+    ap (λ l. put_all_var 0 l n) (sym (append_assoc us (x ∷ []) xs)) ∙ put_all-from xs (us ++ x ∷ []) one n
+    ∙ ap (λ l. after Var l n) (append_assoc us (x ∷ []) xs)
   where
     one : (n : ℕ) → put_all_var 0 (us ++ x ∷ []) n ≡ after Var (us ++ x ∷ []) n
     one n = put_all_var-snoc us x n ∙ put-ups (put_all_var 0 us) x (Var n) ∙ ap (λ w. cons x w n) (fun_ext h) ∙ sym (after-snoc us x n)

@@ -41,12 +41,14 @@ use Rattle.translate_laws.specs.PartRows.{is_law, ShownLaw, first_law-row, secon
 -- freshness, hypothesis by hypothesis
 fresh_places : (v : Variable) (ws : List Variable) → list_any (variable_eq v) ws ≡ false → AllByRecursion (λ w. variable_eq w v ≡ false) ws
 fresh_places v [] e = tt
-fresh_places v (w ∷ ws) e = let h = or_parts (variable_eq v w) (list_any (variable_eq v) ws) e in (symmetric variable_eq variable_eq-Decides v w h.0, fresh_places v ws h.1)
+fresh_places v (w ∷ ws) e = let h = or_parts (variable_eq v w) (list_any (variable_eq v) ws) e in
+    (symmetric variable_eq variable_eq-Decides v w h.0, fresh_places v ws h.1)
 
 fresh-all : (v : Variable) (hs : List Term) → is_free_in v hs ≡ false → AllByRecursion (IsFresh v) hs
 fresh-all v [] e = tt
 fresh-all v (h ∷ hs) e =
-    let both = or_parts (list_any (variable_eq v) (free_places h)) (list_any (variable_eq v) (flat_map free_places hs)) (sym (list_any-append (variable_eq v) (free_places h) (flat_map free_places hs)) ∙ e) in
+    let both = or_parts (list_any (variable_eq v) (free_places h)) (list_any (variable_eq v) (flat_map free_places hs))
+    (sym (list_any-append (variable_eq v) (free_places h) (flat_map free_places hs)) ∙ e) in
     (fresh_places v (free_places h) both.0, fresh-all v hs both.1)
 
 -- a shaped proof in the scope of its sequent
@@ -55,8 +57,10 @@ HasShapedBody m symbols t s = Shown m (context_of symbols s) (t (scope_of symbol
 
 module _ (m : List Declaration) (closed : IsClosed m) (lemmas : HasLemmas m) (symbols : SymbolMap) where
   -- what proves a conclusion wherever the hypotheses are entries proves it in the scope of the sequent
-  in_scope : (t : Scope → Tree) (s : Sequent) → IsSequent s → SequentOver m symbols s → (hypotheses : List Term) (conclusion : Term) → s ≡ record { hypotheses = hypotheses; conclusion = conclusion }
-      → ((G : List Tree) (scope : Scope) → HasHypotheses m symbols G scope hypotheses → TermOver m symbols conclusion → HasType conclusion bool → Shown m G (t scope) (term_tree symbols scope conclusion)) → HasShapedBody m symbols t s
+  in_scope : (t : Scope → Tree) (s : Sequent) → IsSequent s → SequentOver m symbols s → (hypotheses : List Term) (conclusion : Term) → s
+      ≡ record { hypotheses = hypotheses; conclusion = conclusion }
+      → ((G : List Tree) (scope : Scope) → HasHypotheses m symbols G scope hypotheses → TermOver m symbols conclusion → HasType conclusion bool
+      → Shown m G (t scope) (term_tree symbols scope conclusion)) → HasShapedBody m symbols t s
   in_scope t s is over hypotheses conclusion e f =
       let own = own_shape m closed symbols s is over in
       let hs : s.hypotheses ≡ hypotheses = ap (λ (x : Sequent). x.hypotheses) e in
@@ -83,70 +87,94 @@ module _ (m : List Declaration) (closed : IsClosed m) (lemmas : HasLemmas m) (sy
   rule-shaped kind js premises given s (rule.eq_mp {p = a} {q = b} {one = one} {two = two} e f i) row lawless p d is over =
       let w = two_premises m symbols js one two p in
       row_of s kinds.EqMp (one ∷ two ∷ []) Parameters.nothing js (w.j ∷ w.k ∷ []) w.is
-      (in_scope (λ scope. eq_mp_tree symbols scope (left_side one.conclusion) (right_side one.conclusion) (w.j, one) (w.k, two)) s is over (union term_eq one.hypotheses two.hypotheses) b i (λ G scope st o ty.
+      (in_scope (λ scope. eq_mp_tree symbols scope (left_side one.conclusion) (right_side one.conclusion) (w.j, one) (w.k, two)) s is over
+      (union term_eq one.hypotheses two.hypotheses) b i (λ G scope st o ty.
       subst (λ c. Shown m G (eq_mp_tree symbols scope (left_side c) (right_side c) (w.j, one) (w.k, two)) (term_tree symbols scope b)) (sym e)
       (shown (eq_mp-row m closed symbols G scope (union term_eq one.hypotheses two.hypotheses) st a b w.j w.k one two w.first w.second e f
-      (λ h k. IsIn-union_left term_eq term_eq-Decides two.hypotheses one.hypotheses h k) (λ h k. IsIn-union_right term_eq term_eq-Decides two.hypotheses one.hypotheses h k)))))
+      (λ h k. IsIn-union_left term_eq term_eq-Decides two.hypotheses one.hypotheses h k)
+      (λ h k. IsIn-union_right term_eq term_eq-Decides two.hypotheses one.hypotheses h k)))))
   rule-shaped kind js premises given s (rule.abs_thm {v = v} {b = b} {t = t} {u = u} {one = one} e fresh i) row lawless p d is over =
       let w = one_premise m symbols js one p in
       let says = equation (function v.1 b) (lam v.1 (close v t)) (lam v.1 (close v u)) in
       row_of s kinds.AbsThm (one ∷ []) (Parameters.variable v) js (w.j ∷ []) w.is
-      (in_scope (λ scope. fun_ext_tree symbols scope v (equated_type one.conclusion) (left_side one.conclusion) (right_side one.conclusion) (w.j, one)) s is over one.hypotheses says i (λ G scope st o ty.
+      (in_scope (λ scope. fun_ext_tree symbols scope v (equated_type one.conclusion) (left_side one.conclusion) (right_side one.conclusion) (w.j, one)) s is
+      over one.hypotheses says i (λ G scope st o ty.
       subst (λ c. Shown m G (fun_ext_tree symbols scope v (equated_type c) (left_side c) (right_side c) (w.j, one)) (term_tree symbols scope says)) (sym e)
       (shown (abs_thm-row m closed symbols G scope one.hypotheses st v b t u w.j one w.first e (λ h k. k) (fresh-all v one.hypotheses fresh) o))))
   rule-shaped kind js premises given s (rule.app_thm {a = a} {b = b} {f = f} {g = g} {x = x} {y = y} {one = one} {two = two} e i l) row lawless p d is over =
       let w = two_premises m symbols js one two p in
       row_of s kinds.AppThm (one ∷ two ∷ []) Parameters.nothing js (w.j ∷ w.k ∷ []) w.is
-      (in_scope (λ scope. app_thm_tree symbols scope (argument_type (equated_type one.conclusion)) (result_type (equated_type one.conclusion)) (left_side one.conclusion) (right_side one.conclusion) (left_side two.conclusion) (right_side two.conclusion) (w.j, one) (w.k, two))
+      (in_scope (λ scope. app_thm_tree symbols scope (argument_type (equated_type one.conclusion)) (result_type (equated_type one.conclusion))
+      (left_side one.conclusion) (right_side one.conclusion) (left_side two.conclusion) (right_side two.conclusion) (w.j, one) (w.k, two))
       s is over (union term_eq one.hypotheses two.hypotheses) (equation b (app f x) (app g y)) l (λ G scope st o ty.
-      subst (λ c. Shown m G (app_thm_tree symbols scope (argument_type (equated_type c)) (result_type (equated_type c)) (left_side c) (right_side c) (left_side two.conclusion) (right_side two.conclusion) (w.j, one) (w.k, two)) (term_tree symbols scope (equation b (app f x) (app g y)))) (sym e)
-      (subst (λ c. Shown m G (app_thm_tree symbols scope a b f g (left_side c) (right_side c) (w.j, one) (w.k, two)) (term_tree symbols scope (equation b (app f x) (app g y)))) (sym i)
+      subst (λ c. Shown m G
+      (app_thm_tree symbols scope (argument_type (equated_type c)) (result_type (equated_type c)) (left_side c) (right_side c) (left_side two.conclusion)
+      (right_side two.conclusion) (w.j, one) (w.k, two)) (term_tree symbols scope (equation b (app f x) (app g y)))) (sym e)
+      (subst (λ c. Shown m G (app_thm_tree symbols scope a b f g (left_side c) (right_side c) (w.j, one) (w.k, two))
+      (term_tree symbols scope (equation b (app f x) (app g y)))) (sym i)
       (shown (app_thm-row m closed symbols G scope (union term_eq one.hypotheses two.hypotheses) st a b f g x y w.j w.k one two w.first w.second e i
-      (λ h k. IsIn-union_left term_eq term_eq-Decides two.hypotheses one.hypotheses h k) (λ h k. IsIn-union_right term_eq term_eq-Decides two.hypotheses one.hypotheses h k))))))
+      (λ h k. IsIn-union_left term_eq term_eq-Decides two.hypotheses one.hypotheses h k)
+      (λ h k. IsIn-union_right term_eq term_eq-Decides two.hypotheses one.hypotheses h k))))))
   rule-shaped kind js premises given s (rule.deduct_antisym {one = one} {two = two} i) row lawless p d is over =
       let w = two_premises m symbols js one two p in
       let G₁ = without term_eq one.hypotheses two.conclusion in
       let D₁ = without term_eq two.hypotheses one.conclusion in
       row_of s kinds.DeductAntisym (one ∷ two ∷ []) Parameters.nothing js (w.j ∷ w.k ∷ []) w.is
-      (in_scope (λ scope. prop_ext_tree symbols scope one.conclusion two.conclusion (w.j, one) (w.k, two)) s is over (union term_eq G₁ D₁) (equation bool one.conclusion two.conclusion) i (λ G scope st o ty.
+      (in_scope (λ scope. prop_ext_tree symbols scope one.conclusion two.conclusion (w.j, one) (w.k, two)) s is over (union term_eq G₁ D₁)
+      (equation bool one.conclusion two.conclusion) i (λ G scope st o ty.
       shown (prop_ext-row m closed symbols G scope (union term_eq G₁ D₁) st one.conclusion two.conclusion w.j w.k one two w.first w.second refl refl
       (λ h k. ⊎_elim (λ l. inl l) (λ r. inr (IsIn-union_left term_eq term_eq-Decides D₁ G₁ h r)) (IsIn-without one.hypotheses two.conclusion h k))
       (λ h k. ⊎_elim (λ l. inl l) (λ r. inr (IsIn-union_right term_eq term_eq-Decides D₁ G₁ h r)) (IsIn-without two.hypotheses one.conclusion h k)))))
   rule-shaped kind js premises given s (rule.beta_conv {a = a} {b = b} {t = t} {u = u} h e) row lawless p d is over =
-      in_scope (λ scope. refl_tree symbols scope (type_or (app (lam a t) u)) (put u t)) s is over [] (equation b (app (lam a t) u) (put u t)) e (λ G scope st o ty.
-      subst (λ c. Shown m G (refl_tree symbols scope c (put u t)) (term_tree symbols scope (equation b (app (lam a t) u) (put u t)))) (sym (ap (λ x. unwrap_or x bool) h))
+      in_scope (λ scope. refl_tree symbols scope (type_or (app (lam a t) u)) (put u t)) s is over [] (equation b (app (lam a t) u) (put u t)) e
+      (λ G scope st o ty.
+      subst (λ c. Shown m G (refl_tree symbols scope c (put u t)) (term_tree symbols scope (equation b (app (lam a t) u) (put u t))))
+      (sym (ap (λ x. unwrap_or x bool) h))
       (beta-row m closed symbols G scope [] st a b t u o ty))
   rule-shaped kind js premises given s (rule.sym {a = a} {x = x} {y = y} {one = one} e i) row lawless p d is over =
       let w = one_premise m symbols js one p in
       row_of s kinds.Sym (one ∷ []) Parameters.nothing js (w.j ∷ []) w.is
-      (in_scope (λ scope. sym_tree symbols scope (equated_type one.conclusion) (left_side one.conclusion) (right_side one.conclusion) (w.j, one)) s is over one.hypotheses (equation a y x) i (λ G scope st o ty.
-      subst (λ c. Shown m G (sym_tree symbols scope (equated_type c) (left_side c) (right_side c) (w.j, one)) (term_tree symbols scope (equation a y x))) (sym e)
+      (in_scope (λ scope. sym_tree symbols scope (equated_type one.conclusion) (left_side one.conclusion) (right_side one.conclusion) (w.j, one)) s is over
+      one.hypotheses (equation a y x) i (λ G scope st o ty.
+      subst (λ c. Shown m G (sym_tree symbols scope (equated_type c) (left_side c) (right_side c) (w.j, one)) (term_tree symbols scope (equation a y x)))
+      (sym e)
       (shown (sym-row m closed symbols G scope one.hypotheses st lemmas a x y w.j one w.first e (λ h k. k)))))
   rule-shaped kind js premises given s (rule.trans {a = a} {x = x} {y = y} {z = z} {one = one} {two = two} e f i) row lawless p d is over =
       let w = two_premises m symbols js one two p in
       row_of s kinds.Trans (one ∷ two ∷ []) Parameters.nothing js (w.j ∷ w.k ∷ []) w.is
-      (in_scope (λ scope. trans_tree symbols scope (equated_type one.conclusion) (left_side one.conclusion) (right_side one.conclusion) (right_side two.conclusion) (w.j, one) (w.k, two)) s is over (union term_eq one.hypotheses two.hypotheses) (equation a x z) i (λ G scope st o ty.
-      subst (λ c. Shown m G (trans_tree symbols scope (equated_type c) (left_side c) (right_side c) (right_side two.conclusion) (w.j, one) (w.k, two)) (term_tree symbols scope (equation a x z))) (sym e)
+      (in_scope (λ scope. trans_tree symbols scope (equated_type one.conclusion) (left_side one.conclusion) (right_side one.conclusion)
+      (right_side two.conclusion) (w.j, one) (w.k, two)) s is over (union term_eq one.hypotheses two.hypotheses) (equation a x z) i (λ G scope st o ty.
+      subst (λ c. Shown m G (trans_tree symbols scope (equated_type c) (left_side c) (right_side c) (right_side two.conclusion) (w.j, one) (w.k, two))
+      (term_tree symbols scope (equation a x z))) (sym e)
       (subst (λ c. Shown m G (trans_tree symbols scope a x y (right_side c) (w.j, one) (w.k, two)) (term_tree symbols scope (equation a x z))) (sym f)
       (shown (trans-row m closed symbols G scope (union term_eq one.hypotheses two.hypotheses) st lemmas a x y z w.j w.k one two w.first w.second e f
-      (λ h k. IsIn-union_left term_eq term_eq-Decides two.hypotheses one.hypotheses h k) (λ h k. IsIn-union_right term_eq term_eq-Decides two.hypotheses one.hypotheses h k))))))
+      (λ h k. IsIn-union_left term_eq term_eq-Decides two.hypotheses one.hypotheses h k)
+      (λ h k. IsIn-union_right term_eq term_eq-Decides two.hypotheses one.hypotheses h k))))))
   rule-shaped kind js premises given s (rule.prove_hyp {one = one} {two = two} i) row lawless p d is over =
       let w = two_premises m symbols js one two p in
       let D₁ = without term_eq two.hypotheses one.conclusion in
       row_of s kinds.ProveHyp (one ∷ two ∷ []) Parameters.nothing js (w.j ∷ w.k ∷ []) w.is
-      (in_scope (λ scope. prove_hyp_tree symbols scope one.conclusion (w.j, one) (w.k, two)) s is over (union term_eq one.hypotheses D₁) two.conclusion i (λ G scope st o ty.
+      (in_scope (λ scope. prove_hyp_tree symbols scope one.conclusion (w.j, one) (w.k, two)) s is over (union term_eq one.hypotheses D₁) two.conclusion i
+      (λ G scope st o ty.
       shown (prove_hyp-row m closed symbols G scope (union term_eq one.hypotheses D₁) st one.conclusion w.j w.k one two w.first w.second refl
       (λ h k. IsIn-union_left term_eq term_eq-Decides D₁ one.hypotheses h k)
-      (λ h k. ⊎_elim (λ l. inl l) (λ r. inr (IsIn-union_right term_eq term_eq-Decides D₁ one.hypotheses h r)) (IsIn-without two.hypotheses one.conclusion h k)))))
+      (λ h k. ⊎_elim (λ l. inl l) (λ r. inr (IsIn-union_right term_eq term_eq-Decides D₁ one.hypotheses h r))
+      (IsIn-without two.hypotheses one.conclusion h k)))))
   rule-shaped kind js premises given s (rule.subst {types = pairs} {terms = terms} {one = one} fitting i) row lawless p d is over =
       let w = one_premise m symbols js one p in
       let images = map (sub pairs terms) one.hypotheses in
-      let member : (h : Term) → IsIn one.hypotheses h → IsIn (distinct term_eq images) (sub pairs terms h) = λ h k. IsIn-distinct term_eq term_eq-Decides images (sub pairs terms h) (IsIn-map (sub pairs terms) one.hypotheses h k) in
+      let member : (h : Term) → IsIn one.hypotheses h → IsIn (distinct term_eq images) (sub pairs terms h) =
+      λ h k. IsIn-distinct term_eq term_eq-Decides images (sub pairs terms h) (IsIn-map (sub pairs terms) one.hypotheses h k) in
       let hs : s.hypotheses ≡ distinct term_eq images = ap (λ (x : Sequent). x.hypotheses) i in
-      let over_images : AllByRecursion (λ t. TermOver m symbols (sub pairs terms t)) one.hypotheses = All-each _ one.hypotheses (λ h k. All-at (TermOver m symbols) (distinct term_eq images) (sub pairs terms h) (subst (AllByRecursion (TermOver m symbols)) hs over.hypotheses) (member h k)) in
+      let over_images : AllByRecursion (λ t. TermOver m symbols (sub pairs terms t)) one.hypotheses =
+      All-each _ one.hypotheses
+      (λ h k. All-at (TermOver m symbols) (distinct term_eq images) (sub pairs terms h) (subst (AllByRecursion (TermOver m symbols)) hs over.hypotheses)
+      (member h k)) in
       row_of s kinds.Subst (one ∷ []) (Parameters.substitution pairs terms) js (w.j ∷ []) w.is
-      (in_scope (λ scope. subst_tree symbols scope pairs terms (w.j, one)) s is over (distinct term_eq images) (sub pairs terms one.conclusion) i (λ G scope st o ty.
-      shown (subst-row m closed symbols G scope (distinct term_eq images) st pairs terms fitting w.j one w.first (All-append _ one.hypotheses (one.conclusion ∷ []) over_images (o, tt {0})) member)))
+      (in_scope (λ scope. subst_tree symbols scope pairs terms (w.j, one)) s is over (distinct term_eq images) (sub pairs terms one.conclusion) i
+      (λ G scope st o ty.
+      shown (subst-row m closed symbols G scope (distinct term_eq images) st pairs terms fitting w.j one w.first
+      (All-append _ one.hypotheses (one.conclusion ∷ []) over_images (o, tt {0})) member)))
   rule-shaped kind js premises given s (rule.define_const {n = n} {t = t} {a = a} defining e) row lawless p d is over =
       let same : type_or t ≡ a = ap (λ x. unwrap_or x bool) defining.typed in
       in_scope (λ scope. refl_tree symbols scope (type_or t) t) s is over [] (equation a (constant n a) t) e (λ G scope st o ty.
@@ -163,7 +191,8 @@ module _ (m : List Declaration) (closed : IsClosed m) (lemmas : HasLemmas m) (sy
   rule-shaped kind js premises given s (rule.define_const_list {pairs = pairs} {one = one} defining list e) row lawless p d is over =
       let w = one_premise m symbols js one p in
       row_of s kinds.DefineConstList (one ∷ []) (Parameters.constants pairs) js (w.j ∷ []) w.is
-      (in_scope (λ scope. theorem_tree (constants_scope symbols scope (constants_put pairs)) w.j one) s is over [] (sub [] (constants_put pairs) one.conclusion) e (λ G scope st o ty.
+      (in_scope (λ scope. theorem_tree (constants_scope symbols scope (constants_put pairs)) w.j one) s is over [] (sub [] (constants_put pairs) one.conclusion)
+      e (λ G scope st o ty.
       shown (define_const_list-row m closed symbols G scope [] st (constants_put pairs) (constants-fit pairs) w.j one w.first d.0 d.1)))
   rule-shaped kind js premises given s (rule.recorded proper) row lawless p d is over = absurd (cc)
   rule-shaped kind js premises given s (rule.first_law defining e) row lawless p d is over = absurd (cc)
@@ -179,14 +208,18 @@ module _ (m : List Declaration) (closed : IsClosed m) (lemmas : HasLemmas m) (sy
   law-shaped kind [] premises given s (rule.first_law_free defining e) law p d is over = absurd p
   law-shaped kind (j ∷ k ∷ js) premises given s (rule.first_law defining e) law p d is over = absurd p.1
   law-shaped kind (j ∷ k ∷ js) premises given s (rule.first_law_free defining e) law p d is over = absurd p.1
-  law-shaped kind (j ∷ []) premises given s (rule.first_law {names = names} {c = c} {f = f} {one = one} defining e) law p d is over = first_law-row m closed symbols names j one d s is over c f defining e
-  law-shaped kind (j ∷ []) premises given s (rule.first_law_free {names = names} {c = c} {f = f} {one = one} defining e) law p d is over = first_law_free-row m closed symbols names j one d s is over c f defining e
+  law-shaped kind (j ∷ []) premises given s (rule.first_law {names = names} {c = c} {f = f} {one = one} defining e) law p d is over =
+      first_law-row m closed symbols names j one d s is over c f defining e
+  law-shaped kind (j ∷ []) premises given s (rule.first_law_free {names = names} {c = c} {f = f} {one = one} defining e) law p d is over =
+      first_law_free-row m closed symbols names j one d s is over c f defining e
   law-shaped kind [] premises given s (rule.second_law defining e) law p d is over = absurd p
   law-shaped kind [] premises given s (rule.second_law_free defining e) law p d is over = absurd p
   law-shaped kind (j ∷ k ∷ js) premises given s (rule.second_law defining e) law p d is over = absurd p.1
   law-shaped kind (j ∷ k ∷ js) premises given s (rule.second_law_free defining e) law p d is over = absurd p.1
-  law-shaped kind (j ∷ []) premises given s (rule.second_law {names = names} {c = c} {f = f} {one = one} defining e) law p d is over = second_law-row m closed symbols names j one d s is over c f defining e
-  law-shaped kind (j ∷ []) premises given s (rule.second_law_free {names = names} {c = c} {f = f} {one = one} defining e) law p d is over = second_law_free-row m closed symbols names j one d s is over lemmas.symmetry c f defining e
+  law-shaped kind (j ∷ []) premises given s (rule.second_law {names = names} {c = c} {f = f} {one = one} defining e) law p d is over =
+      second_law-row m closed symbols names j one d s is over c f defining e
+  law-shaped kind (j ∷ []) premises given s (rule.second_law_free {names = names} {c = c} {f = f} {one = one} defining e) law p d is over =
+      second_law_free-row m closed symbols names j one d s is over lemmas.symmetry c f defining e
   law-shaped kind js premises given s (rule.refl h e) law p d is over = absurd (cc)
   law-shaped kind js premises given s (rule.assume h e) law p d is over = absurd (cc)
   law-shaped kind js premises given s (rule.eq_mp e f i) law p d is over = absurd (cc)
@@ -211,6 +244,7 @@ module _ (m : List Declaration) (closed : IsClosed m) (lemmas : HasLemmas m) (sy
   step-shaped kind js premises given s r row p d is over = go (is_law kind) refl
     where
       go : (b : Bool) → is_law kind ≡ b → HasShapedBody m symbols (λ scope. proof_tree symbols scope kind js premises given) s
-          ⊎ ShownLaw m (context_of symbols s) (proof_tree symbols (scope_of symbols s) kind js premises given) (term_tree symbols (scope_of symbols s) s.conclusion)
+          ⊎ ShownLaw m (context_of symbols s) (proof_tree symbols (scope_of symbols s) kind js premises given)
+          (term_tree symbols (scope_of symbols s) s.conclusion)
       go false e = inl (rule-shaped kind js premises given s r row e p d is over)
       go true e = inr (law-shaped kind js premises given s r e p d is over)

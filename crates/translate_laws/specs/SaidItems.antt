@@ -59,5 +59,6 @@ pub premise_at-said : (items before zs : List Item) (z : Item) (s : Sequent) →
 premise_at-said items before zs z s whole e =
     let none : ℕ × Sequent = (0, record { hypotheses = []; conclusion = bound 0 }) in
     ap (λ l. slice_index_or l (length (said_by before)) none)
-    (ap said_by whole ∙ filter_map-append said_of before (z ∷ zs) ∙ ap (λ l. said_by before ++ l) (ap (λ o. cons_option {X = ℕ × Sequent} (option_map (λ (t : Sequent). (z.symbol, t)) o) (said_by zs)) e))
+    (ap said_by whole ∙ filter_map-append said_of before (z ∷ zs)
+    ∙ ap (λ l. said_by before ++ l) (ap (λ o. cons_option {X = ℕ × Sequent} (option_map (λ (t : Sequent). (z.symbol, t)) o) (said_by zs)) e))
     ∙ get_or-seam (said_by before) (said_by zs) (z.symbol, s) none

@@ -41,7 +41,8 @@ pub same_scope : (scope other : Scope) → ((n : Name) → scope.types n ≡ oth
 same_scope scope other a b c d = λ i. record { types = fun_ext a i; terms = fun_ext b i; proofs = fun_ext c i; bounds = fun_ext d i }
 
 inside-through : (s : ℕ → Tree) (scope : Scope) → through (ups s) (inside scope) ≡ inside (through s scope)
-inside-through s scope = same_scope (through (ups s) (inside scope)) (inside (through s scope)) (λ n. sub-lift s (scope.types n)) (λ v. sub-lift s (scope.terms v)) (λ h. sub-lift s (scope.proofs h)) go
+inside-through s scope = same_scope (through (ups s) (inside scope)) (inside (through s scope)) (λ n. sub-lift s (scope.types n))
+    (λ v. sub-lift s (scope.terms v)) (λ h. sub-lift s (scope.proofs h)) go
   where
     go : (k : ℕ) → sub (ups s) (cons (Var 0) (λ k. lift 1 (scope.bounds k)) k) ≡ cons (Var 0) (λ k. lift 1 (sub s (scope.bounds k))) k
     go zero = refl
@@ -63,7 +64,8 @@ module _ (symbols : SymbolMap) where
 
   -- and so is lifting
   pub type_tree-lift : (scope : TypeScope) (t : HolType) → lift 1 (type_tree symbols scope t) ≡ type_tree symbols (lifted_types scope) t
-  type_tree-lift scope t = lift_sub (type_tree symbols scope t) ∙ type_tree-sub (λ n. Var (suc n)) scope t ∙ ap (λ w. type_tree symbols w t) (fun_ext (λ n. sym (lift_sub (scope n))))
+  type_tree-lift scope t = lift_sub (type_tree symbols scope t) ∙ type_tree-sub (λ n. Var (suc n)) scope t ∙ ap (λ w. type_tree symbols w t)
+      (fun_ext (λ n. sym (lift_sub (scope n))))
 
   -- substitution in the tree of a term is substitution in its scope
   pub term_tree-sub : (s : ℕ → Tree) (scope : Scope) (t : Term) → sub s (term_tree symbols scope t) ≡ term_tree symbols (through s scope) t
@@ -84,15 +86,18 @@ module _ (symbols : SymbolMap) where
   term_tree-lift scope t =
       lift_sub (term_tree symbols scope t) ∙ term_tree-sub (λ n. Var (suc n)) scope t
       ∙ ap (λ w. term_tree symbols w t)
-      (same_scope (through (λ n. Var (suc n)) scope) (lifted scope) (λ n. sym (lift_sub (scope.types n))) (λ v. sym (lift_sub (scope.terms v))) (λ h. sym (lift_sub (scope.proofs h))) (λ k. sym (lift_sub (scope.bounds k))))
+      (same_scope (through (λ n. Var (suc n)) scope) (lifted scope) (λ n. sym (lift_sub (scope.types n))) (λ v. sym (lift_sub (scope.terms v)))
+      (λ h. sym (lift_sub (scope.proofs h))) (λ k. sym (lift_sub (scope.bounds k))))
 
   mutual
     -- the tree of a type with types substituted is the tree in the scope of the images
-    pub type_tree-substitute : (pairs : TypePairs) (scope : TypeScope) (t : HolType) → type_tree symbols scope (substitute pairs t) ≡ type_tree symbols (λ n. type_tree symbols scope (image pairs n)) t
+    pub type_tree-substitute : (pairs : TypePairs) (scope : TypeScope) (t : HolType) → type_tree symbols scope (substitute pairs t)
+        ≡ type_tree symbols (λ n. type_tree symbols scope (image pairs n)) t
     type_tree-substitute pairs scope (variable n) = refl
     type_tree-substitute pairs scope (operator n ts) =
         ap₂ (λ k xs. applied (Sym (operator_symbol symbols n k)) xs) (count-substitute_all pairs ts) (type_trees-substitute pairs scope ts)
 
-    type_trees-substitute : (pairs : TypePairs) (scope : TypeScope) (ts : HolTypes) → type_trees symbols scope (substitute_all pairs ts) ≡ type_trees symbols (λ n. type_tree symbols scope (image pairs n)) ts
+    type_trees-substitute : (pairs : TypePairs) (scope : TypeScope) (ts : HolTypes) → type_trees symbols scope (substitute_all pairs ts)
+        ≡ type_trees symbols (λ n. type_tree symbols scope (image pairs n)) ts
     type_trees-substitute pairs scope none = refl
     type_trees-substitute pairs scope (more t ts) = ap₂ (λ x xs. x ∷ xs) (type_tree-substitute pairs scope t) (type_trees-substitute pairs scope ts)

@@ -105,7 +105,8 @@ module _ (m : List Declaration) (G : List Tree) (other : TypeScope) where
       → sub (after s (map other ns)) (under_types ns scope n) ≡ other n
   types-agree [] scope s n (inl k) = absurd k
   types-agree [] scope s n (inr e) = e
-  types-agree (k ∷ ns) scope s n h = types-agree ns (under_type k scope) (cons (other k) s) n (go (name_eq n k) (name_eq-Decides n k).0 (name_eq-Decides n k).1 h)
+  types-agree (k ∷ ns) scope s n h = types-agree ns (under_type k scope) (cons (other k) s) n
+      (go (name_eq n k) (name_eq-Decides n k).0 (name_eq-Decides n k).1 h)
     where
       go : (b : Bool) → (b ≡ true → n ≡ k) → (n ≡ k → b ≡ true) → (IsIn (k ∷ ns) n ⊎ (sub s (scope n) ≡ other n))
           → IsIn ns n ⊎ (sub (cons (other k) s) (cond b (Var 0) (lift 1 (scope n))) ≡ other n)

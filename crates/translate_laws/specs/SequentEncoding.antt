@@ -53,13 +53,21 @@ told-at same decides d from (x ∷ xs) y k = go (same y x) refl (decides y x).1 
     go true e f later k =
         let p : position_or_len (same y) (x ∷ xs) ≡ 0 = position-cons (same y) x xs true e in
         let z : from ≡ from + position_or_len (same y) (x ∷ xs) = omega (arith, p) in
-        record { within = omega (arith, p); told = ap (λ b. cond b (Some (parameter d from)) (lookup (same y) (parameters d (suc from) xs))) e ∙ ap (λ i. Some (parameter d i)) z }
+        record {
+          within = omega (arith, p);
+          told =
+              ap (λ b. cond b (Some (parameter d from)) (lookup (same y) (parameters d (suc from) xs))) e ∙ ap (λ i. Some (parameter d i)) z;
+        }
     go false e f later (inl is) = absurd (let yes = f is in cc)
     go false e f later (inr i) =
         let r = later i in
         let p : position_or_len (same y) (x ∷ xs) ≡ suc (position_or_len (same y) xs) = position-cons (same y) x xs false e in
         let z : suc from + position_or_len (same y) xs ≡ from + position_or_len (same y) (x ∷ xs) = omega (arith, p) in
-        record { within = omega (arith, p, r.within); told = ap (λ b. cond b (Some (parameter d from)) (lookup (same y) (parameters d (suc from) xs))) e ∙ r.told ∙ ap (λ i. Some (parameter d i)) z }
+        record {
+          within = omega (arith, p, r.within);
+          told =
+              ap (λ b. cond b (Some (parameter d from)) (lookup (same y) (parameters d (suc from) xs))) e ∙ r.told ∙ ap (λ i. Some (parameter d i)) z;
+        }
 
 -- a list of types as closed types
 abbrev closed_list : List Name → List HolType → ClosedTypes
@@ -75,7 +83,8 @@ argument-at names (v ∷ vs) f n k = go (name_eq n v) refl (name_eq-Decides n v)
     go : (b : Bool) → name_eq n v ≡ b → Decides (name_eq n v) (n ≡ v)
         → (IsIn vs n → argument (closed_list names (map f vs)) (position_or_len (name_eq n) vs) ≡ close_type names (f n)) → IsIn (v ∷ vs) n
         → argument (closed_list names (map f (v ∷ vs))) (position_or_len (name_eq n) (v ∷ vs)) ≡ close_type names (f n)
-    go true e d later k = ap (argument (closed_list names (map f (v ∷ vs)))) (position-cons (name_eq n) v vs true e) ∙ ap (λ u. close_type names (f u)) (sym (d.0 e))
+    go true e d later k = ap (argument (closed_list names (map f (v ∷ vs)))) (position-cons (name_eq n) v vs true e) ∙ ap (λ u. close_type names (f u))
+        (sym (d.0 e))
     go false e d later (inl is) = absurd (let yes = d.1 is in cc)
     go false e d later (inr i) = ap (argument (closed_list names (map f (v ∷ vs)))) (position-cons (name_eq n) v vs false e) ∙ later i
 
@@ -91,7 +100,8 @@ module _ (names vs : List Name) (f : Name → HolType) where
         → close_types names (filled_in_all f gs) ≡ instances_of (closed_list names (map f vs)) (close_types vs gs)
     instances-closed type.HolTypes.none h = refl
     instances-closed (type.HolTypes.more g gs) h =
-        λ i. ClosedTypes.more (instance-closed g (All-left (IsIn vs) (variable_places g) (variable_places_of_all gs) h) i) (instances-closed gs (All-right (IsIn vs) (variable_places g) (variable_places_of_all gs) h) i)
+        λ i. ClosedTypes.more (instance-closed g (All-left (IsIn vs) (variable_places g) (variable_places_of_all gs) h) i)
+        (instances-closed gs (All-right (IsIn vs) (variable_places g) (variable_places_of_all gs) h) i)
 
 -- the symbols of a type and of a term mean what they stand for
 abbrev mutual
@@ -104,7 +114,8 @@ abbrev mutual
   TypesMeant d symbols (type.HolTypes.more t ts) = TypeMeant d symbols t × TypesMeant d symbols ts
 
 pub record ConstantMeant (d : List Declaration) (symbols : SymbolMap) (n : Name) (t : HolType) : Type 0 where
-  pub means : MeansConstant d (constant_symbol symbols n) n (length (type_variables (generic_type symbols n))) (close_type (type_variables (generic_type symbols n)) (generic_type symbols n))
+  pub means : MeansConstant d (constant_symbol symbols n) n (length (type_variables (generic_type symbols n)))
+      (close_type (type_variables (generic_type symbols n)) (generic_type symbols n))
   pub instance : Instance (generic_type symbols n) t
   pub ty : TypeMeant d symbols t
 
@@ -118,7 +129,8 @@ TermMeant d symbols (term.Term.lam t b) = TypeMeant d symbols t × TermMeant d s
 module _ (d : List Declaration) (symbols : SymbolMap) (names : List Name) where
   -- what stands for each of these type variables is the binder of its place
   abbrev pub TypesPlaced : Place → TypeScope → Type 0
-  TypesPlaced at scope = (n : Name) → IsIn names n → (position_or_len (name_eq n) names < at.type_variables) × (scope n ≡ parameter (depth_of at) (position_or_len (name_eq n) names))
+  TypesPlaced at scope = (n : Name) → IsIn names n → (position_or_len (name_eq n) names < at.type_variables)
+      × (scope n ≡ parameter (depth_of at) (position_or_len (name_eq n) names))
 
   mutual
     pub type_stands : (at : Place) (scope : TypeScope) → TypesPlaced at scope → (t : HolType) → TypeMeant d symbols t
@@ -144,7 +156,8 @@ module _ (d : List Declaration) (symbols : SymbolMap) (names : List Name) where
     -- the types filled in one
     meant-filled_in : (f : Name → HolType) (t : HolType) (n : Name) → IsIn (variable_places t) n → TypeMeant d symbols (filled_in f t)
         → AllByRecursion (IsIn names) (variable_places (filled_in f t)) → TypeMeant d symbols (f n) × AllByRecursion (IsIn names) (variable_places (f n))
-    meant-filled_in f (type.HolType.variable k) n (inl e) m h = subst (λ k. TypeMeant d symbols (f k) × AllByRecursion (IsIn names) (variable_places (f k))) (sym e) (m, h)
+    meant-filled_in f (type.HolType.variable k) n (inl e) m h =
+        subst (λ k. TypeMeant d symbols (f k) × AllByRecursion (IsIn names) (variable_places (f k))) (sym e) (m, h)
     meant-filled_in f (type.HolType.variable k) n (inr i) m h = absurd i
     meant-filled_in f (type.HolType.operator k ts) n i m h = all_meant-filled_in f ts n i m.1 h
 
@@ -158,7 +171,9 @@ module _ (d : List Declaration) (symbols : SymbolMap) (names : List Name) where
         (λ r. all_meant-filled_in f ts n r m.1 (All-right (IsIn names) (variable_places (filled_in f t)) (variable_places_of_all (filled_in_all f ts)) h))
         (IsIn-either (variable_places t) (variable_places_of_all ts) n i)
 
-  list_stands : (at : Place) (scope : TypeScope) → TypesPlaced at scope → (ts : List HolType) → AllByRecursion (λ t. TypeMeant d symbols t × AllByRecursion (IsIn names) (variable_places t)) ts → StandForTypes d (closed_list names ts) at (map (type_tree symbols scope) ts)
+  list_stands : (at : Place) (scope : TypeScope) → TypesPlaced at scope → (ts : List HolType)
+      → AllByRecursion (λ t. TypeMeant d symbols t × AllByRecursion (IsIn names) (variable_places t)) ts
+      → StandForTypes d (closed_list names ts) at (map (type_tree symbols scope) ts)
   list_stands at scope p [] h = tt
   list_stands at scope p (t ∷ ts) h = (type_stands at scope p t h.0.0 h.0.1, list_stands at scope p ts h.1)
 
@@ -174,15 +189,18 @@ module _ (d : List Declaration) (symbols : SymbolMap) (names : List Name) where
       let arguments : AllByRecursion (λ u. TypeMeant d symbols u × AllByRecursion (IsIn names) (variable_places u)) (map w.0 vs) =
       All-mapped (λ u. TypeMeant d symbols u × AllByRecursion (IsIn names) (variable_places u)) w.0 vs
       (All-each _ vs (λ k i. meant-filled_in w.0 g k (IsIn-distinct_of name_eq name_eq-Decides (variable_places g) k i) meant known)) in
-      let size : length vs ≡ length (map (type_tree symbols scope) (type_arguments g t)) = sym (length-map (type_arguments g t) (type_tree symbols scope) ∙ ap length own ∙ length-map vs w.0) in
+      let size : length vs ≡ length (map (type_tree symbols scope) (type_arguments g t)) =
+      sym (length-map (type_arguments g t) (type_tree symbols scope) ∙ ap length own ∙ length-map vs w.0) in
       record {
         symbol = constant_symbol symbols n;
         args = map (type_tree symbols scope) (type_arguments g t);
         generic = close_type vs g;
         means = subst (λ k. MeansConstant d (constant_symbol symbols n) n k (close_type vs g)) size m.means;
         arguments = closed_list names (map w.0 vs);
-        args_stand = subst (λ ts. StandForTypes d (closed_list names (map w.0 vs)) at (map (type_tree symbols scope) ts)) (sym own) (list_stands at scope p (map w.0 vs) arguments);
-        is_instance = ap (close_type names) (sym w.1) ∙ instance-closed names vs w.0 g (All-each _ (variable_places g) (λ k i. IsIn-distinct name_eq name_eq-Decides (variable_places g) k i));
+        args_stand = subst (λ ts. StandForTypes d (closed_list names (map w.0 vs)) at (map (type_tree symbols scope) ts)) (sym own)
+            (list_stands at scope p (map w.0 vs) arguments);
+        is_instance = ap (close_type names) (sym w.1) ∙ instance-closed names vs w.0 g
+            (All-each _ (variable_places g) (λ k i. IsIn-distinct name_eq name_eq-Decides (variable_places g) k i));
         tree = refl;
       }
 
@@ -191,15 +209,21 @@ module _ (d : List Declaration) (symbols : SymbolMap) (names : List Name) where
     pub record Placed (at : Place) (scope : Scope) : Type 0 where
       pub types : TypesPlaced at scope.types
       pub terms : (v : Variable) → IsIn variables v
-          → (position_or_len (variable_eq v) variables < at.free_variables) × (scope.terms v ≡ parameter (depth_of at) (at.type_variables + position_or_len (variable_eq v) variables))
+          → (position_or_len (variable_eq v) variables < at.free_variables)
+          × (scope.terms v ≡ parameter (depth_of at) (at.type_variables + position_or_len (variable_eq v) variables))
       pub bounds : (k : ℕ) → k < at.binders → scope.bounds k ≡ Var k
 
     Placed-inside : (at : Place) (scope : Scope) → Placed at scope → Placed (inside at) (scopes.inside scope)
     Placed-inside at scope p = record {
-      types = λ n i. let h = p.types n i in (h.0, ap (lift 1) h.1 ∙ parameter-lift (depth_of at) (position_or_len (name_eq n) names) (omega (arith, h.0)) ∙ ap (λ k. parameter k (position_or_len (name_eq n) names)) deeper);
+      types = λ n i. let h = p.types n i in (
+        h.0,
+        ap (lift 1) h.1 ∙ parameter-lift (depth_of at) (position_or_len (name_eq n) names) (omega (arith, h.0))
+            ∙ ap (λ k. parameter k (position_or_len (name_eq n) names)) deeper,
+      );
       terms = λ v i. let h = p.terms v i in (
         h.0,
-        ap (lift 1) h.1 ∙ parameter-lift (depth_of at) (at.type_variables + position_or_len (variable_eq v) variables) (omega (arith, h.0)) ∙ ap (λ k. parameter k (at.type_variables + position_or_len (variable_eq v) variables)) deeper,
+        ap (lift 1) h.1 ∙ parameter-lift (depth_of at) (at.type_variables + position_or_len (variable_eq v) variables) (omega (arith, h.0))
+            ∙ ap (λ k. parameter k (at.type_variables + position_or_len (variable_eq v) variables)) deeper,
       );
       bounds = go;
     }
@@ -220,29 +244,36 @@ module _ (d : List Declaration) (symbols : SymbolMap) (names : List Name) where
     term_stands at scope p (term.Term.app f x) m h k l = (
       term_tree symbols scope f,
       term_tree symbols scope x,
-      term_stands at scope p f m.0 (All-left (IsIn names) (type_variable_places f) (type_variable_places x) h) (All-left (IsIn variables) (free_places f) (free_places x) k) (omega (arith, l)),
-      term_stands at scope p x m.1 (All-right (IsIn names) (type_variable_places f) (type_variable_places x) h) (All-right (IsIn variables) (free_places f) (free_places x) k) (omega (arith, l)),
+      term_stands at scope p f m.0 (All-left (IsIn names) (type_variable_places f) (type_variable_places x) h)
+          (All-left (IsIn variables) (free_places f) (free_places x) k) (omega (arith, l)),
+      term_stands at scope p x m.1 (All-right (IsIn names) (type_variable_places f) (type_variable_places x) h)
+          (All-right (IsIn variables) (free_places f) (free_places x) k) (omega (arith, l)),
       refl,
     )
     term_stands at scope p (term.Term.lam t b) m h k l = (
       type_tree symbols scope.types t,
       term_tree symbols (scopes.inside scope) b,
       type_stands at scope.types p.types t m.0 (All-left (IsIn names) (variable_places t) (type_variable_places b) h),
-      term_stands (inside at) (scopes.inside scope) (Placed-inside at scope p) b m.1 (All-right (IsIn names) (variable_places t) (type_variable_places b) h) k (omega (arith, l)),
+      term_stands (inside at) (scopes.inside scope) (Placed-inside at scope p) b m.1 (All-right (IsIn names) (variable_places t) (type_variable_places b) h) k
+          (omega (arith, l)),
       refl,
     )
 
 -- the free variables of a term whose symbols mean what they stand for have such types
-free_types-meant : (d : List Declaration) (symbols : SymbolMap) (t : Term) → TermMeant d symbols t → AllByRecursion (λ (v : Variable). TypeMeant d symbols v.1) (free_places t)
+free_types-meant : (d : List Declaration) (symbols : SymbolMap) (t : Term) → TermMeant d symbols t
+    → AllByRecursion (λ (v : Variable). TypeMeant d symbols v.1) (free_places t)
 free_types-meant d symbols (term.Term.free n t) h = (h, tt {0})
 free_types-meant d symbols (term.Term.bound k) h = tt
 free_types-meant d symbols (term.Term.constant n t) h = tt
-free_types-meant d symbols (term.Term.app f x) h = All-append _ (free_places f) (free_places x) (free_types-meant d symbols f h.0) (free_types-meant d symbols x h.1)
+free_types-meant d symbols (term.Term.app f x) h =
+    All-append _ (free_places f) (free_places x) (free_types-meant d symbols f h.0) (free_types-meant d symbols x h.1)
 free_types-meant d symbols (term.Term.lam t b) h = free_types-meant d symbols b h.1
 
-all_free_types-meant : (d : List Declaration) (symbols : SymbolMap) (ts : List Term) → AllByRecursion (TermMeant d symbols) ts → AllByRecursion (λ (v : Variable). TypeMeant d symbols v.1) (flat_map free_places ts)
+all_free_types-meant : (d : List Declaration) (symbols : SymbolMap) (ts : List Term) → AllByRecursion (TermMeant d symbols) ts
+    → AllByRecursion (λ (v : Variable). TypeMeant d symbols v.1) (flat_map free_places ts)
 all_free_types-meant d symbols [] h = tt
-all_free_types-meant d symbols (t ∷ ts) h = All-append _ (free_places t) (flat_map free_places ts) (free_types-meant d symbols t h.0) (all_free_types-meant d symbols ts h.1)
+all_free_types-meant d symbols (t ∷ ts) h = All-append _ (free_places t) (flat_map free_places ts) (free_types-meant d symbols t h.0)
+    (all_free_types-meant d symbols ts h.1)
 
 -- the trees of the domains
 abbrev variable_trees : SymbolMap → List Variable → Scope → List Tree
@@ -281,7 +312,8 @@ module _ (d : List Declaration) (symbols : SymbolMap) (names : List Name) where
       let z : 0 + position_or_len (name_eq n) names ≡ position_or_len (name_eq n) names = omega arith in
       (omega (arith, many, t.within), told n ∙ ap (λ o. unwrap_or o bools) t.told ∙ ap (parameter (depth_of at)) z)
 
-  variables_stand : (vs : List Variable) (m : ℕ) (scope : Scope) → TypesTold names (length names + m) scope.types → AllByRecursion (λ (v : Variable). TypeMeant d symbols v.1) vs → AllByRecursion (λ (v : Variable). AllByRecursion (IsIn names) (variable_places v.1)) vs
+  variables_stand : (vs : List Variable) (m : ℕ) (scope : Scope) → TypesTold names (length names + m) scope.types
+      → AllByRecursion (λ (v : Variable). TypeMeant d symbols v.1) vs → AllByRecursion (λ (v : Variable). AllByRecursion (IsIn names) (variable_places v.1)) vs
       → StandForVariables d (map (λ (v : Variable). close_type names v.1) vs) (length names) m (variable_trees symbols vs scope)
   variables_stand [] m scope told meant known = tt
   variables_stand (v ∷ vs) m scope told meant known =
@@ -289,8 +321,10 @@ module _ (d : List Declaration) (symbols : SymbolMap) (names : List Name) where
       let own : n + m ≡ depth_of (place n m 0 0) = omega arith in
       let next : suc (n + m) ≡ n + suc m = omega arith in
       let low : n ≤ n + m = omega arith in (
-        type_stands d symbols names (place n m 0 0) scope.types (placed-types (place n m 0 0) scope.types refl (subst (λ k. TypesTold names k scope.types) own told)) v.1 meant.0 known.0,
-        variables_stand vs (suc m) (under_term v scope) (subst (λ k. TypesTold names k (under_term v scope).types) next (TypesTold-lifted names (n + m) scope.types low told)) meant.1 known.1,
+        type_stands d symbols names (place n m 0 0) scope.types
+            (placed-types (place n m 0 0) scope.types refl (subst (λ k. TypesTold names k scope.types) own told)) v.1 meant.0 known.0,
+        variables_stand vs (suc m) (under_term v scope)
+            (subst (λ k. TypesTold names k (under_term v scope).types) next (TypesTold-lifted names (n + m) scope.types low told)) meant.1 known.1,
       )
 
   module _ (variables : List Variable) where
@@ -316,7 +350,8 @@ module _ (d : List Declaration) (symbols : SymbolMap) (names : List Name) where
         → TermsTold names variables (length names + length variables + l) scope → (t : Term) → TermMeant d symbols t
         → IsFormula symbols (IsIn names) (IsIn variables) t
         → StandsForTerm d (close_term names variables t) (place (length names) (length variables) l 0) (term_tree symbols scope t)
-    formula_stands l scope told terms t m f = term_stands d symbols names variables (place (length names) (length variables) l 0) scope (placed-scope l scope told terms) t m f.type_variables f.free_variables f.closed
+    formula_stands l scope told terms t m f = term_stands d symbols names variables (place (length names) (length variables) l 0) scope
+        (placed-scope l scope told terms) t m f.type_variables f.free_variables f.closed
 
     under-types : (l : ℕ) (h : Term) (scope : Scope) → TypesTold names (length names + length variables + l) scope.types
         → TypesTold names (length names + length variables + suc l) (under_proof h scope).types
@@ -330,11 +365,13 @@ module _ (d : List Declaration) (symbols : SymbolMap) (names : List Name) where
     under-terms l h scope terms =
         let low : length names + length variables ≤ length names + length variables + l = omega arith in
         let next : suc (length names + length variables + l) ≡ length names + length variables + suc l = omega arith in
-        subst (λ k. TermsTold names variables k (under_proof h scope)) next (TermsTold-lifted names variables (length names + length variables + l) scope (under_proof h scope) low terms (λ v. refl))
+        subst (λ k. TermsTold names variables k (under_proof h scope)) next
+        (TermsTold-lifted names variables (length names + length variables + l) scope (under_proof h scope) low terms (λ v. refl))
 
     hypotheses_stand : (hs : List Term) (l : ℕ) (scope : Scope) → TypesTold names (length names + length variables + l) scope.types
         → TermsTold names variables (length names + length variables + l) scope
-        → AllByRecursion (TermMeant d symbols) hs → AllByRecursion (IsFormula symbols (IsIn names) (IsIn variables)) hs → StandForHypotheses d (map (close_term names variables) hs) (length names) (length variables) l (formula_trees symbols hs scope)
+        → AllByRecursion (TermMeant d symbols) hs → AllByRecursion (IsFormula symbols (IsIn names) (IsIn variables)) hs
+        → StandForHypotheses d (map (close_term names variables) hs) (length names) (length variables) l (formula_trees symbols hs scope)
     hypotheses_stand [] l scope told terms m f = tt
     hypotheses_stand (h ∷ hs) l scope told terms m f = (
       formula_stands l scope told terms h m.0 f.0,
@@ -343,13 +380,16 @@ module _ (d : List Declaration) (symbols : SymbolMap) (names : List Name) where
 
     conclusion_stands : (hs : List Term) (l : ℕ) (scope : Scope) (c : Term) → TypesTold names (length names + length variables + l) scope.types
         → TermsTold names variables (length names + length variables + l) scope → TermMeant d symbols c → IsFormula symbols (IsIn names) (IsIn variables) c
-        → StandsForTerm d (close_term names variables c) (place (length names) (length variables) (l + length hs) 0) (term_tree symbols (under_proofs hs scope) c)
+        → StandsForTerm d (close_term names variables c) (place (length names) (length variables) (l + length hs) 0)
+        (term_tree symbols (under_proofs hs scope) c)
     conclusion_stands [] l scope c told terms m f =
         let z : l ≡ l + 0 = omega arith in
-        subst (λ k. StandsForTerm d (close_term names variables c) (place (length names) (length variables) k 0) (term_tree symbols scope c)) z (formula_stands l scope told terms c m f)
+        subst (λ k. StandsForTerm d (close_term names variables c) (place (length names) (length variables) k 0) (term_tree symbols scope c)) z
+        (formula_stands l scope told terms c m f)
     conclusion_stands (h ∷ hs) l scope c told terms m f =
         let z : suc l + length hs ≡ l + suc (length hs) = omega arith in
-        subst (λ k. StandsForTerm d (close_term names variables c) (place (length names) (length variables) k 0) (term_tree symbols (under_proofs (h ∷ hs) scope) c)) z
+        subst (λ k. StandsForTerm d (close_term names variables c) (place (length names) (length variables) k 0)
+        (term_tree symbols (under_proofs (h ∷ hs) scope) c)) z
         (conclusion_stands hs (suc l) (under_proof h scope) c (under-types l h scope told) (under-terms l h scope terms) m f)
 
 -- The tree of a sequent stands for its closed form
@@ -368,14 +408,21 @@ sequent_tree-Enc d symbols s is within instances meant =
     let z : n + length variables ≡ n + length variables + 0 = omega arith in
     let first = TypesTold-own names (distinct-IsDistinct name_eq (symmetric name_eq name_eq-Decides) (flat_map type_variable_places (terms_of s))) in
     let second = subst (λ k. TypesTold names k outer.types) z (TypesTold-terms names variables n inner l first) in
-    let terms = subst (λ k. TermsTold names variables k outer) z (TermsTold-own names variables inner (distinct-IsDistinct variable_eq (symmetric variable_eq variable_eq-Decides) (flat_map free_places (terms_of s)))) in
+    let terms = subst (λ k. TermsTold names variables k outer) z
+    (TermsTold-own names variables inner (distinct-IsDistinct variable_eq (symmetric variable_eq variable_eq-Decides) (flat_map free_places (terms_of s))))
+    in
     let hypotheses_meant = All-left (TermMeant d symbols) s.hypotheses (s.conclusion ∷ []) meant in
     let conclusion_meant = (All-right (TermMeant d symbols) s.hypotheses (s.conclusion ∷ []) meant).0 in
     let formulas_are : AllByRecursion (IsFormula symbols (IsIn names) (IsIn variables)) s.hypotheses =
-    All-each _ s.hypotheses (λ h i. term-IsFormula s symbols h (IsIn-left s.hypotheses (s.conclusion ∷ []) h i) (All-at _ s.hypotheses h instances.hypotheses i) (All-at _ s.hypotheses h is.hypotheses i)) in
-    let conclusion_is = term-IsFormula s symbols s.conclusion (IsIn-right s.hypotheses (s.conclusion ∷ []) s.conclusion (inl refl)) instances.conclusion is.conclusion in
+    All-each _ s.hypotheses
+    (λ h i. term-IsFormula s symbols h (IsIn-left s.hypotheses (s.conclusion ∷ []) h i) (All-at _ s.hypotheses h instances.hypotheses i)
+    (All-at _ s.hypotheses h is.hypotheses i)) in
+    let conclusion_is = term-IsFormula s symbols s.conclusion (IsIn-right s.hypotheses (s.conclusion ∷ []) s.conclusion (inl refl)) instances.conclusion
+    is.conclusion in
     let variables_meant : AllByRecursion (λ (v : Variable). TypeMeant d symbols v.1) variables =
-    All-each _ variables (λ v i. All-at _ (flat_map free_places (terms_of s)) v (all_free_types-meant d symbols (terms_of s) meant) (IsIn-distinct_of variable_eq variable_eq-Decides (flat_map free_places (terms_of s)) v i)) in
+    All-each _ variables
+    (λ v i. All-at _ (flat_map free_places (terms_of s)) v (all_free_types-meant d symbols (terms_of s) meant)
+    (IsIn-distinct_of variable_eq variable_eq-Decides (flat_map free_places (terms_of s)) v i)) in
     let many = length-variable_trees symbols variables inner in
     let more = length-formula_trees symbols s.hypotheses outer in
     let e = types-are names in
@@ -390,7 +437,8 @@ sequent_tree-Enc d symbols s is within instances meant =
       hypotheses = formulas;
       conclusion = conclusion;
       product = λ i. products (e i ++ f i ++ g i) (proof_of conclusion);
-      variables_stand = variables_stand d symbols names variables 0 inner (subst (λ k. TypesTold names k inner.types) none first) variables_meant (free_variables-known s);
+      variables_stand = variables_stand d symbols names variables 0 inner (subst (λ k. TypesTold names k inner.types) none first) variables_meant
+          (free_variables-known s);
       hypotheses_stand = subst (λ m. StandForHypotheses d (map (close_term names variables) s.hypotheses) n m 0 formulas) many
           (hypotheses_stand d symbols names variables s.hypotheses 0 outer second terms hypotheses_meant formulas_are);
       conclusion_stands = subst (λ m. StandsForTerm d closed_conclusion (place n m (length formulas) 0) conclusion) many

@@ -44,7 +44,8 @@ term_tree-proofs symbols proofs scope (free n t) = refl
 term_tree-proofs symbols proofs scope (bound k) = refl
 term_tree-proofs symbols proofs scope (constant n t) = refl
 term_tree-proofs symbols proofs scope (app f x) = ap₂ App (term_tree-proofs symbols proofs scope f) (term_tree-proofs symbols proofs scope x)
-term_tree-proofs symbols proofs scope (lam t b) = ap (Lam (term_of (type_tree symbols scope.types t))) (term_tree-proofs symbols (λ h. lift 1 (proofs h)) (inside scope) b)
+term_tree-proofs symbols proofs scope (lam t b) = ap (Lam (term_of (type_tree symbols scope.types t)))
+    (term_tree-proofs symbols (λ h. lift 1 (proofs h)) (inside scope) b)
 
 -- the free variables of a term over the symbols have types over them
 free_types-over : (m : List Declaration) (symbols : SymbolMap) (t : Term) → TermOver m symbols t → AllByRecursion (λ v. TypeOver m symbols v.1) (free_places t)
@@ -57,7 +58,8 @@ free_types-over m symbols (lam t b) h = free_types-over m symbols b h.1
 all_free_types-over : (m : List Declaration) (symbols : SymbolMap) (ts : List Term) → AllByRecursion (TermOver m symbols) ts
     → AllByRecursion (λ v. TypeOver m symbols v.1) (flat_map free_places ts)
 all_free_types-over m symbols [] h = tt
-all_free_types-over m symbols (t ∷ ts) h = All-append _ (free_places t) (flat_map free_places ts) (free_types-over m symbols t h.0) (all_free_types-over m symbols ts h.1)
+all_free_types-over m symbols (t ∷ ts) h = All-append _ (free_places t) (flat_map free_places ts) (free_types-over m symbols t h.0)
+    (all_free_types-over m symbols ts h.1)
 
 module _ (m : List Declaration) (symbols : SymbolMap) (s : Sequent) (over : SequentOver m symbols s) where
   pub terms-over : AllByRecursion (TermOver m symbols) (terms_of s)
@@ -79,4 +81,5 @@ module _ (m : List Declaration) (closed : IsClosed m) where
   pub Typed-abstraction : {G : List Tree} {t : Tree} (a b : Tree) → Typed m G a types → Typed m G b types → Typed m (term_of a ∷ G) t (lift 1 (term_of b))
       → Typed m G (Lam (term_of a) t) (term_of (arr_of a b))
   Typed-abstraction a b ha hb ht =
-      of_conversion (of_abstraction (of_product (Typed-term_of m ha) (weaken m closed (Typed-term_of m hb)) is_type) is_type ht) (back (rule refl) same) (Typed-term_of m (Typed-arr_of m ha hb)) is_type
+      of_conversion (of_abstraction (of_product (Typed-term_of m ha) (weaken m closed (Typed-term_of m hb)) is_type) is_type ht) (back (rule refl) same)
+      (Typed-term_of m (Typed-arr_of m ha hb)) is_type

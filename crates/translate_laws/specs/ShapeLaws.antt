@@ -28,7 +28,8 @@ module _ (m : List Declaration) (closed : IsClosed m) where
   term-ren v (of_constant h s) = of_constant (constant-ren m closed v h) (constant-ren m closed v s)
   term-ren {r = r} v (of_function f x) = of_function (term-ren v f) (term-ren v x)
   term-ren {r = r} {D = D} v (of_binder {t = t} {a = a} {b = b} ha hb h) =
-      of_binder (constant-ren m closed v ha) (constant-ren m closed v hb) (subst (IsTerm m (term_of (ren r a) ∷ D) (ren (up r) t)) (ren-lift r b) (term-ren {r = up r} (inside v) h))
+      of_binder (constant-ren m closed v ha) (constant-ren m closed v hb)
+      (subst (IsTerm m (term_of (ren r a) ∷ D) (ren (up r) t)) (ren-lift r b) (term-ren {r = up r} (inside v) h))
 
   pub term-weaken : {G : List Tree} {C t a : Tree} → IsTerm m G t a → IsTerm m (C ∷ G) (lift 1 t) (lift 1 a)
   term-weaken {G = G} {C = C} {t = t} {a = a} h = subst₂ (IsTerm m (C ∷ G)) (sym (lift_one t)) (sym (lift_one a)) (term-ren outside h)
@@ -95,10 +96,12 @@ module _ (m : List Declaration) (G : List Tree) where
   shaped-at s (a ∷ domains) (x ∷ xs) f B h k = shaped-at (cons x s) domains xs (App f x) B (at_one h k.0 (put-ups s x (products domains B))) k.1
 
   -- a constant at simple types, for the binders of type variables
-  pub constant-at : (other : TypeScope) (ns : List Name) (s : ℕ → Tree) (f B : Tree) → IsConstant m G f (sub s (products (map (λ n. types) ns) B)) → AllByRecursion (λ n. IsSimple m G (other n)) ns
+  pub constant-at : (other : TypeScope) (ns : List Name) (s : ℕ → Tree) (f B : Tree) → IsConstant m G f (sub s (products (map (λ n. types) ns) B))
+      → AllByRecursion (λ n. IsSimple m G (other n)) ns
       → IsConstant m G (applied f (map other ns)) (sub (after s (map other ns)) B)
   constant-at other [] s f B h k = h
-  constant-at other (n ∷ ns) s f B h k = constant-at other ns (cons (other n) s) (App f (other n)) B (at_type h k.0 (put-ups s (other n) (products (map (λ n. types) ns) B))) k.1
+  constant-at other (n ∷ ns) s f B h k = constant-at other ns (cons (other n) s) (App f (other n)) B
+      (at_type h k.0 (put-ups s (other n) (products (map (λ n. types) ns) B))) k.1
 
   put_at-types : (d : ℕ) (x : Tree) (k : ℕ) → put_at d x (products (replicate k types) types) ≡ products (replicate k types) types
   put_at-types d x zero = refl

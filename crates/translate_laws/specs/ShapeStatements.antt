@@ -61,8 +61,10 @@ theorems_shaped m symbols G scope s symbol declared is instances fits = theorem_
 -- type definition, whose found type is close to it.
 abbrev pub RulesShaped : Type 0
 RulesShaped =
-    (m : List Declaration) → IsClosed m → HasLemmas m → (symbols : SymbolMap) (kind : StepKind) (js : List ℕ) (premises : List Sequent) (given : Parameters) (s : Sequent)
-    → Rule kind premises given s → has_row kind ≡ true → ArePremises m symbols js premises → Defined m symbols kind js premises given → IsSequent s → SequentOver m symbols s
+    (m : List Declaration) → IsClosed m → HasLemmas m
+    → (symbols : SymbolMap) (kind : StepKind) (js : List ℕ) (premises : List Sequent) (given : Parameters) (s : Sequent)
+    → Rule kind premises given s → has_row kind ≡ true → ArePremises m symbols js premises → Defined m symbols kind js premises given → IsSequent s
+    → SequentOver m symbols s
     → Shown m (context_of symbols s) (proof_tree symbols (scope_of symbols s) kind js premises given) (term_tree symbols (scope_of symbols s) s.conclusion)
     ⊎ ShownLaw m (context_of symbols s) (proof_tree symbols (scope_of symbols s) kind js premises given) (term_tree symbols (scope_of symbols s) s.conclusion)
 
@@ -86,7 +88,8 @@ modules_typed roots made h = reached-WellTyped roots made h
 -- Its check says yes, each declaration within 64 times the square of its weight.
 abbrev pub ModulesPriced : Type 0
 ModulesPriced =
-    (roots : List Key) (made : List Item) → AreMadeInOrder [] made → (i : ℕ) (d : Declaration) → slice_get (reached roots made) i ≡ Some d → IsPriced (reached roots made) i d
+    (roots : List Key) (made : List Item) → AreMadeInOrder [] made → (i : ℕ) (d : Declaration) → slice_get (reached roots made) i ≡ Some d
+    → IsPriced (reached roots made) i d
 
 pub modules_priced : ModulesPriced
 modules_priced roots made h i d e = reached-priced roots made h i d e

@@ -31,7 +31,8 @@ module _ (m : List Declaration) where
       → IsProof m false G (applied (Sym prop_ext_symbol) (p ∷ q ∷ h ∷ k ∷ [])) (proof_of (eq_of bools p q))
   shaped-prop_ext {G = G} {p = p} {q = q} {h = h} {k = k} hp hq hh hk =
       let domains = term_of bools ∷ term_of bools ∷ Pi (proof_of (Var 1)) (proof_of (Var 1)) ∷ Pi (proof_of (Var 1)) (proof_of (Var 3)) ∷ [] in
-      let c = shaped-call m G domains (p ∷ q ∷ h ∷ k ∷ []) prop_ext_symbol (proof_of (eq_of bools (Var 3) (Var 2))) refl tt refl (a_term hp, (a_term hq, (a_proof (simp lift_zero hh), (a_proof (simp lift_zero hk), tt {0})))) in
+      let c = shaped-call m G domains (p ∷ q ∷ h ∷ k ∷ []) prop_ext_symbol (proof_of (eq_of bools (Var 3) (Var 2))) refl tt refl
+      (a_term hp, (a_term hq, (a_proof (simp lift_zero hh), (a_proof (simp lift_zero hk), tt {0})))) in
       called (simp lift_zero at c)
 
   module _ (lemmas : HasLemmas m) where
@@ -46,8 +47,13 @@ module _ (m : List Declaration) where
         → IsProof m false G g (proof_of (eq_of a x y)) → IsProof m false G h (proof_of (eq_of a y z))
         → IsProof m false G (applied (Sym trans_symbol) (a ∷ x ∷ y ∷ z ∷ g ∷ h ∷ [])) (proof_of (eq_of a x z))
     shaped-trans_of {G = G} {a = a} {x = x} {y = y} {z = z} {g = g} {h = h} ha hx hy hz hg hh =
-        let c = shaped-call m G trans_domains (a ∷ x ∷ y ∷ z ∷ g ∷ h ∷ []) trans_symbol (proof_of (eq_of (Var 5) (Var 4) (Var 2))) lemmas.transitivity tt refl
-        (a_type ha, (a_term (simp lift_zero hx), (a_term (simp lift_zero hy), (a_term (simp lift_zero hz), (a_proof (simp lift_zero hg), (a_proof (simp lift_zero hh), tt {0})))))) in
+        let c = shaped-call m G trans_domains (a ∷ x ∷ y ∷ z ∷ g ∷ h ∷ []) trans_symbol (proof_of (eq_of (Var 5) (Var 4) (Var 2))) lemmas.transitivity tt refl (
+          a_type ha,
+          (
+            a_term (simp lift_zero hx),
+            (a_term (simp lift_zero hy), (a_term (simp lift_zero hz), (a_proof (simp lift_zero hg), (a_proof (simp lift_zero hh), tt {0})))),
+          ),
+        ) in
         called (simp lift_zero at c)
 
 -- Under the binders of a sequent: a shaped scope, in which each of these hypotheses is an entry.
@@ -55,7 +61,8 @@ pub record HasHypotheses (m : List Declaration) (symbols : SymbolMap) (G : List 
   pub is : ShapedScope m symbols G scope
   pub proofs : (h : Term) → IsIn hypotheses h → HasEntry symbols G scope h
 
-module _ (m : List Declaration) (closed : IsClosed m) (symbols : SymbolMap) (G : List Tree) (scope : Scope) (hypotheses : List Term) (stands : HasHypotheses m symbols G scope hypotheses) where
+module _ (m : List Declaration) (closed : IsClosed m) (symbols : SymbolMap) (G : List Tree) (scope : Scope) (hypotheses : List Term)
+    (stands : HasHypotheses m symbols G scope hypotheses) where
   -- what proves a formula here
   abbrev pub Proves : Tree → Term → Type 0
   Proves t p = IsProof m false G t (proof_of (term_tree symbols scope p))
@@ -70,7 +77,8 @@ module _ (m : List Declaration) (closed : IsClosed m) (symbols : SymbolMap) (G :
   -- a premise whose hypotheses are all here
   pub premise-here : (k : ℕ) (one : Sequent) → IsPremise m symbols k one → ((h : Term) → IsIn one.hypotheses h → IsIn hypotheses h)
       → Proves (theorem_tree scope k one) one.conclusion
-  premise-here k one p inside = premise-shaped m closed symbols G scope stands.is k one p (λ h i. laws.Argument.a_proof (entry-proof m (stands.proofs h (inside h i))))
+  premise-here k one p inside = premise-shaped m closed symbols G scope stands.is k one p
+      (λ h i. laws.Argument.a_proof (entry-proof m (stands.proofs h (inside h i))))
 
   -- refl
   pub refl-row : (a : HolType) (t : Term) → TypeOver m symbols a → TermOver m symbols t → HasType t a
@@ -92,7 +100,8 @@ module _ (m : List Declaration) (closed : IsClosed m) (symbols : SymbolMap) (G :
         let second = equation-over m symbols a y z (subst (TermOver m symbols) f q.over.conclusion) in
         let left = equation-sides a x y (subst (λ t. HasType t bool) e p.is.conclusion) in
         let right = equation-sides a y z (subst (λ t. HasType t bool) f q.is.conclusion) in
-        shaped-trans_of m lemmas (type-here a first.ty) (term-here x a first.left left.left) (term-here y a first.right left.right) (term-here z a second.right right.right)
+        shaped-trans_of m lemmas (type-here a first.ty) (term-here x a first.left left.left) (term-here y a first.right left.right)
+        (term-here z a second.right right.right)
         (subst (Proves (theorem_tree scope j one)) e (premise-here j one p i))
         (subst (Proves (theorem_tree scope k two)) f (premise-here k two q l))
 
@@ -142,14 +151,18 @@ module _ (m : List Declaration) (closed : IsClosed m) (symbols : SymbolMap) (G :
   -- under a hypothesis more, a premise proves what it says outside
   under-hypothesis : (p q : Term) (k : ℕ) (two : Sequent) → IsPremise m symbols k two → two.conclusion ≡ q → TermOver m symbols p → HasType p bool
       → ((h : Term) → IsIn two.hypotheses h → (h ≡ p) ⊎ IsIn hypotheses h)
-      → IsProof m false G (Lam (proof_of (term_tree symbols scope p)) (theorem_tree (under_proof p scope) k two)) (Pi (proof_of (term_tree symbols scope p)) (proof_of (lift 1 (term_tree symbols scope q))))
+      → IsProof m false G (Lam (proof_of (term_tree symbols scope p)) (theorem_tree (under_proof p scope) k two))
+      (Pi (proof_of (term_tree symbols scope p)) (proof_of (lift 1 (term_tree symbols scope q))))
   under-hypothesis p q k two w e op tp i =
       let A = proof_of (term_tree symbols scope p) in
       let inner = premise-shaped m closed symbols (A ∷ G) (under_proof p scope) (under_proof-shaped m closed symbols G A p scope stands.is) k two w
-      (λ h a. laws.Argument.a_proof (entry-proof m (under_proof-HasEntry m closed symbols G p scope h (⊎_elim (λ l. inl l) (λ r. inr (stands.proofs h r)) (i h a))))) in
+      (λ h a. laws.Argument.a_proof
+      (entry-proof m (under_proof-HasEntry m closed symbols G p scope h (⊎_elim (λ l. inl l) (λ r. inr (stands.proofs h r)) (i h a))))) in
       let same : term_tree symbols (under_proof p scope) two.conclusion ≡ lift 1 (term_tree symbols scope q) =
-      ap (term_tree symbols (under_proof p scope)) e ∙ sym (term_tree-lift symbols scope q ∙ term_tree-proofs symbols (under_proof p scope).proofs (lifted scope) q) in
-      under_binder (of_proofs (term-here p bool op tp)) (subst (λ t. IsProof m false (A ∷ G) (theorem_tree (under_proof p scope) k two) (proof_of t)) same inner)
+      ap (term_tree symbols (under_proof p scope)) e
+      ∙ sym (term_tree-lift symbols scope q ∙ term_tree-proofs symbols (under_proof p scope).proofs (lifted scope) q) in
+      under_binder (of_proofs (term-here p bool op tp))
+      (subst (λ t. IsProof m false (A ∷ G) (theorem_tree (under_proof p scope) k two) (proof_of t)) same inner)
 
   -- deductAntisym
   pub prop_ext-row : (p q : Term) (j k : ℕ) (one two : Sequent) → IsPremise m symbols j one → IsPremise m symbols k two → one.conclusion ≡ p
@@ -173,7 +186,8 @@ module _ (m : List Declaration) (closed : IsClosed m) (symbols : SymbolMap) (G :
 
       go : (b : Bool) → (b ≡ true → h ≡ p) → (h ≡ p → b ≡ true) → ((h ≡ p) ⊎ HasEntry symbols G scope h)
           → Argument m G (cond b x (scope.proofs h)) (proof_of (term_tree symbols (set_proof p x scope) h))
-      go true e f either = subst (Argument m G x) (is p ∙ ap (λ g. proof_of (term_tree symbols (set_proof p x scope) g)) (sym (e refl))) (laws.Argument.a_proof hx)
+      go true e f either = subst (Argument m G x) (is p ∙ ap (λ g. proof_of (term_tree symbols (set_proof p x scope) g)) (sym (e refl)))
+          (laws.Argument.a_proof hx)
       go false e f (inl k) = absurd (let yes = f k in cc)
       go false e f (inr k) = subst (Argument m G (scope.proofs h)) (is h) (laws.Argument.a_proof (entry-proof m k))
 

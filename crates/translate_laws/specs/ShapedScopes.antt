@@ -53,7 +53,8 @@ module _ (m : List Declaration) (G : List Tree) (symbols : SymbolMap) (scope : T
     type_tree-shaped (variable n) h = is n
     type_tree-shaped (operator n ts) h =
         operator-at m G (Sym (operator_symbol symbols n (count ts))) (type_trees symbols scope ts)
-        (subst (λ k. IsConstant m G (Sym (operator_symbol symbols n (count ts))) (products (replicate k types) types)) (length-type_trees symbols scope ts) (shape.IsConstant.constant h.0 (Solid-replicate (count ts))))
+        (subst (λ k. IsConstant m G (Sym (operator_symbol symbols n (count ts))) (products (replicate k types) types)) (length-type_trees symbols scope ts)
+        (shape.IsConstant.constant h.0 (Solid-replicate (count ts))))
         (type_trees-shaped ts h.1)
 
     type_trees-shaped : (ts : HolTypes) → TypesOver m symbols ts → AllByRecursion (λ x. IsSimple m G x) (type_trees symbols scope ts)
@@ -76,10 +77,12 @@ module _ (m : List Declaration) (closed : IsClosed m) (symbols : SymbolMap) wher
       → ShapedBounds m symbols (term_of (type_tree symbols scope.types t) ∷ G) (inside scope) (t ∷ binders)
   bounds-inside G scope binders t is o b zero a e =
       let A = type_tree symbols scope.types t in
-      let same : lift 1 A ≡ type_tree symbols (lifted_types scope.types) a = type_tree-lift symbols scope.types t ∙ ap (type_tree symbols (lifted_types scope.types)) (same_Some _ _ e) in
+      let same : lift 1 A ≡ type_tree symbols (lifted_types scope.types) a =
+      type_tree-lift symbols scope.types t ∙ ap (type_tree symbols (lifted_types scope.types)) (same_Some _ _ e) in
       of_entry refl same (subst (IsSimple m (term_of A ∷ G)) same (simple-weaken m closed (type_tree-shaped m G symbols scope.types is t o)))
   bounds-inside G scope binders t is o b (suc k) a e =
-      subst (IsTerm m (term_of (type_tree symbols scope.types t) ∷ G) (lift 1 (scope.bounds k))) (type_tree-lift symbols scope.types a) (term-weaken m closed (b k a e))
+      subst (IsTerm m (term_of (type_tree symbols scope.types t) ∷ G) (lift 1 (scope.bounds k))) (type_tree-lift symbols scope.types a)
+      (term-weaken m closed (b k a e))
 
   -- the tree of a constant has the tree of its type
   pub constant_tree-shaped : (G : List Tree) (scope : TypeScope) → ShapedTypes m G scope → (n : Name) (t : HolType) → ConstantOver m symbols n t
@@ -92,13 +95,17 @@ module _ (m : List Declaration) (closed : IsClosed m) (symbols : SymbolMap) wher
       let own : filled_in (image pairs) generic ≡ t = sym (substitute-is pairs generic) ∙ h.instance.1 in
       let over : TypeOver m symbols (filled_in (image pairs) generic) = subst (TypeOver m symbols) (sym own) h.ty in
       let shaped : AllByRecursion (λ k. IsSimple m G (other k)) names =
-      All-each _ names (λ k i. type_tree-shaped m G symbols scope is (image pairs k) (TypeOver-filled_in m symbols (image pairs) generic k (IsIn-distinct_of name_eq name_eq-Decides (variable_places generic) k i) over)) in
+      All-each _ names
+      (λ k i. type_tree-shaped m G symbols scope is (image pairs k)
+      (TypeOver-filled_in m symbols (image pairs) generic k (IsIn-distinct_of name_eq name_eq-Decides (variable_places generic) k i) over)) in
       let B = term_of (type_tree symbols (under_types names unfilled) generic) in
       let call = constant-at m G other names Var (Sym (constant_symbol symbols n)) B
-      (shape.IsConstant.constant (h.declared ∙ ap Some (sym (sub_var (generic_tree symbols generic)))) (subst Solid (sym (sub_var (generic_tree symbols generic))) (Solid-products (map (λ n. types) names) B tt))) shaped in
+      (shape.IsConstant.constant (h.declared ∙ ap Some (sym (sub_var (generic_tree symbols generic))))
+      (subst Solid (sym (sub_var (generic_tree symbols generic))) (Solid-products (map (λ n. types) names) B tt))) shaped in
       let result : sub (after Var (map other names)) (type_tree symbols (under_types names unfilled) generic) ≡ type_tree symbols scope t =
       type_tree-sub symbols (after Var (map other names)) (under_types names unfilled) generic
-      ∙ type_tree-agrees symbols (IsIn names) (through_types (after Var (map other names)) (under_types names unfilled)) other (λ k i. types-agree m G other names unfilled Var k (inl i)) generic
+      ∙ type_tree-agrees symbols (IsIn names) (through_types (after Var (map other names)) (under_types names unfilled)) other
+      (λ k i. types-agree m G other names unfilled Var k (inl i)) generic
       (All-each _ (variable_places generic) (λ k i. IsIn-distinct name_eq name_eq-Decides (variable_places generic) k i))
       ∙ sym (type_tree-substitute symbols pairs scope generic)
       ∙ ap (type_tree symbols scope) h.instance.1 in
@@ -110,8 +117,10 @@ module _ (m : List Declaration) (closed : IsClosed m) (symbols : SymbolMap) wher
   -- Translated terms are shaped
   pub term_tree-shaped : (G : List Tree) (scope : Scope) (binders : List HolType) → ShapedScope m symbols G scope → ShapedBounds m symbols G scope binders
       → ((k : ℕ) (a : HolType) → slice_get binders k ≡ Some a → TypeOver m symbols a)
-      → (t : Term) (a : HolType) → TermOver m symbols t → type_under binders t ≡ Some a → IsTerm m G (term_tree symbols scope t) (type_tree symbols scope.types a)
-  term_tree-shaped G scope binders is b o (free n t) a h e = subst (λ u. IsTerm m G (scope.terms (n, t)) (type_tree symbols scope.types u)) (same_Some _ _ e) (is.terms (n, t) h)
+      → (t : Term) (a : HolType) → TermOver m symbols t → type_under binders t ≡ Some a
+      → IsTerm m G (term_tree symbols scope t) (type_tree symbols scope.types a)
+  term_tree-shaped G scope binders is b o (free n t) a h e =
+      subst (λ u. IsTerm m G (scope.terms (n, t)) (type_tree symbols scope.types u)) (same_Some _ _ e) (is.terms (n, t) h)
   term_tree-shaped G scope binders is b o (bound k) a h e = b k a e
   term_tree-shaped G scope binders is b o (constant n t) a h e =
       subst (λ u. IsTerm m G (constant_tree symbols scope.types n t) (type_tree symbols scope.types u)) (same_Some _ _ e)
@@ -127,8 +136,10 @@ module _ (m : List Declaration) (closed : IsClosed m) (symbols : SymbolMap) wher
       let over : TypeOver m symbols p.0 = TypeOver-type_under m symbols (t ∷ binders) inner c p.0 h.1 p.1.0 in
       let hA = type_tree-shaped m G symbols scope.types is.types t h.0 in
       let hB = type_tree-shaped m G symbols scope.types is.types p.0 over in
-      let body = term_tree-shaped (term_of A ∷ G) (inside scope) (t ∷ binders) (inside-shaped G (term_of A) scope is) (bounds-inside G scope binders t is.types h.0 b) inner c p.0 h.1 p.1.0 in
-      let lowered : IsTerm m (term_of A ∷ G) (term_tree symbols (inside scope) c) (lift 1 B) = subst (IsTerm m (term_of A ∷ G) (term_tree symbols (inside scope) c)) (sym (type_tree-lift symbols scope.types p.0)) body in
+      let body = term_tree-shaped (term_of A ∷ G) (inside scope) (t ∷ binders) (inside-shaped G (term_of A) scope is)
+      (bounds-inside G scope binders t is.types h.0 b) inner c p.0 h.1 p.1.0 in
+      let lowered : IsTerm m (term_of A ∷ G) (term_tree symbols (inside scope) c) (lift 1 B) =
+      subst (IsTerm m (term_of A ∷ G) (term_tree symbols (inside scope) c)) (sym (type_tree-lift symbols scope.types p.0)) body in
       subst (λ u. IsTerm m G (Lam (term_of A) (term_tree symbols (inside scope) c)) (type_tree symbols scope.types u)) (sym p.1.1) (of_binder hA hB lowered)
     where
       under : (t : HolType) → TypeOver m symbols t → (k : ℕ) (a : HolType) → slice_get (t ∷ binders) k ≡ Some a → TypeOver m symbols a

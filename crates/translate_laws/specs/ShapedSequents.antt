@@ -87,7 +87,8 @@ module _ (m : List Declaration) (closed : IsClosed m) where
             → IsTerm m (term_of A ∷ G) (lift 1 (scope.terms w)) (type_tree symbols (lifted_types scope.types) w.1)
             → IsTerm m (term_of A ∷ G) (cond b (Var 0) (lift 1 (scope.terms w))) (type_tree symbols (lifted_types scope.types) w.1)
         go w true e t =
-            let same : lift 1 A ≡ type_tree symbols (lifted_types scope.types) w.1 = type_tree-lift symbols scope.types v.1 ∙ ap (λ (u : Variable). type_tree symbols (lifted_types scope.types) u.1) (sym (e refl)) in
+            let same : lift 1 A ≡ type_tree symbols (lifted_types scope.types) w.1 =
+            type_tree-lift symbols scope.types v.1 ∙ ap (λ (u : Variable). type_tree symbols (lifted_types scope.types) u.1) (sym (e refl)) in
             of_entry refl same (subst (IsSimple m (term_of A ∷ G)) same (simple-weaken m closed (type_tree-shaped m G symbols scope.types h.types v.1 ov)))
         go w false e t = t
 
@@ -102,7 +103,8 @@ module _ (m : List Declaration) (closed : IsClosed m) where
     under_terms-shaped : (vs : List Variable) (G : List Tree) (scope : Scope) → ShapedScope m symbols G scope → AllByRecursion (λ v. TypeOver m symbols v.1) vs
         → ShapedScope m symbols (under G (term_domains symbols vs scope)) (under_terms vs scope)
     under_terms-shaped [] G scope h o = h
-    under_terms-shaped (v ∷ vs) G scope h o = under_terms-shaped vs (term_of (type_tree symbols scope.types v.1) ∷ G) (under_term v scope) (under_term-shaped G v scope o.0 h) o.1
+    under_terms-shaped (v ∷ vs) G scope h o = under_terms-shaped vs (term_of (type_tree symbols scope.types v.1) ∷ G) (under_term v scope)
+        (under_term-shaped G v scope o.0 h) o.1
 
     pub under_proof-shaped : (G : List Tree) (A : Tree) (p : Term) (scope : Scope) → ShapedScope m symbols G scope
         → ShapedScope m symbols (A ∷ G) (under_proof p scope)
@@ -118,13 +120,15 @@ module _ (m : List Declaration) (closed : IsClosed m) where
     under_proofs-AreDeclared [] G scope h o t = tt
     under_proofs-AreDeclared (p ∷ ps) G scope h o t = (
       of_proofs (formula-shaped G scope h p o.0 t.0),
-      under_proofs-AreDeclared ps (proof_of (term_tree symbols scope p) ∷ G) (under_proof p scope) (under_proof-shaped G (proof_of (term_tree symbols scope p)) p scope h) o.1 t.1,
+      under_proofs-AreDeclared ps (proof_of (term_tree symbols scope p) ∷ G) (under_proof p scope)
+          (under_proof-shaped G (proof_of (term_tree symbols scope p)) p scope h) o.1 t.1,
     )
 
     under_proofs-shaped : (hs : List Term) (G : List Tree) (scope : Scope) → ShapedScope m symbols G scope
         → ShapedScope m symbols (under G (proof_domains symbols hs scope)) (under_proofs hs scope)
     under_proofs-shaped [] G scope h = h
-    under_proofs-shaped (p ∷ ps) G scope h = under_proofs-shaped ps (proof_of (term_tree symbols scope p) ∷ G) (under_proof p scope) (under_proof-shaped G (proof_of (term_tree symbols scope p)) p scope h)
+    under_proofs-shaped (p ∷ ps) G scope h = under_proofs-shaped ps (proof_of (term_tree symbols scope p) ∷ G) (under_proof p scope)
+        (under_proof-shaped G (proof_of (term_tree symbols scope p)) p scope h)
 
     -- under the binder of a hypothesis that and each other that had an entry have one
     pub under_proof-HasEntry : (G : List Tree) (p : Term) (scope : Scope) (h : Term) → ((h ≡ p) ⊎ HasEntry symbols G scope h)
@@ -140,7 +144,14 @@ module _ (m : List Declaration) (closed : IsClosed m) where
         go : (b : Bool) → (b ≡ true → h ≡ p) → (h ≡ p → b ≡ true) → ((h ≡ p) ⊎ HasEntry symbols G scope h)
             → IsEntry D (cond b (Var 0) (lift 1 (scope.proofs h))) (term_tree symbols (under_proof p scope) h)
         go true e f either =
-            record { number = 0; declared = term_tree symbols scope p; is = refl; at = refl; lifted = ap proof_of (is p ∙ ap (λ g. term_tree symbols (under_proof p scope) g) (sym (e refl))) }
+            record {
+              number = 0;
+              declared = term_tree symbols scope p;
+              is = refl;
+              at = refl;
+              lifted =
+                  ap proof_of (is p ∙ ap (λ g. term_tree symbols (under_proof p scope) g) (sym (e refl)));
+            }
         go false e f (inl k) = absurd (let yes = f k in cc)
         go false e f (inr k) = subst (IsEntry D (lift 1 (scope.proofs h))) (is h) (entry-weaken (proof_of (term_tree symbols scope p)) k)
 
@@ -148,9 +159,11 @@ module _ (m : List Declaration) (closed : IsClosed m) where
         → HasEntry symbols (under G (proof_domains symbols hs scope)) (under_proofs hs scope) h
     under_proofs-HasEntry [] G scope h (inl k) = absurd k
     under_proofs-HasEntry [] G scope h (inr k) = k
-    under_proofs-HasEntry (p ∷ ps) G scope h (inl (inl e)) = under_proofs-HasEntry ps (proof_of (term_tree symbols scope p) ∷ G) (under_proof p scope) h (inr (under_proof-HasEntry G p scope h (inl e)))
+    under_proofs-HasEntry (p ∷ ps) G scope h (inl (inl e)) =
+        under_proofs-HasEntry ps (proof_of (term_tree symbols scope p) ∷ G) (under_proof p scope) h (inr (under_proof-HasEntry G p scope h (inl e)))
     under_proofs-HasEntry (p ∷ ps) G scope h (inl (inr k)) = under_proofs-HasEntry ps (proof_of (term_tree symbols scope p) ∷ G) (under_proof p scope) h (inl k)
-    under_proofs-HasEntry (p ∷ ps) G scope h (inr k) = under_proofs-HasEntry ps (proof_of (term_tree symbols scope p) ∷ G) (under_proof p scope) h (inr (under_proof-HasEntry G p scope h (inr k)))
+    under_proofs-HasEntry (p ∷ ps) G scope h (inr k) =
+        under_proofs-HasEntry ps (proof_of (term_tree symbols scope p) ∷ G) (under_proof p scope) h (inr (under_proof-HasEntry G p scope h (inr k)))
 
     -- The sequent's telescope
     pub own_shape : (s : Sequent) → IsSequent s → SequentOver m symbols s → OwnShape m symbols s
@@ -160,17 +173,25 @@ module _ (m : List Declaration) (closed : IsClosed m) where
         let B = term_domains symbols vs (scope_of_types symbols s) in
         let C = proof_domains symbols s.hypotheses (scope_of_terms symbols s) in
         let known = variables-over m symbols s over in
-        let one : ShapedScope m symbols (under [] A) (scope_of_types symbols s) = filled-shaped (under [] A) (under_types (type_variables_of s) unfilled) (under_types-shaped (type_variables_of s) [] unfilled (λ n. constant refl tt)) in
-        let two : ShapedScope m symbols (under (under [] A) B) (scope_of_terms symbols s) = under_terms-shaped vs (under [] A) (scope_of_types symbols s) one known in
-        let three : ShapedScope m symbols (under (under (under [] A) B) C) (scope_of symbols s) = under_proofs-shaped s.hypotheses (under (under [] A) B) (scope_of_terms symbols s) two in
+        let one : ShapedScope m symbols (under [] A) (scope_of_types symbols s) =
+        filled-shaped (under [] A) (under_types (type_variables_of s) unfilled)
+        (under_types-shaped (type_variables_of s) [] unfilled (λ n. constant refl tt)) in
+        let two : ShapedScope m symbols (under (under [] A) B) (scope_of_terms symbols s) =
+        under_terms-shaped vs (under [] A) (scope_of_types symbols s) one known in
+        let three : ShapedScope m symbols (under (under (under [] A) B) C) (scope_of symbols s) =
+        under_proofs-shaped s.hypotheses (under (under [] A) B) (scope_of_terms symbols s) two in
         let split : under (under (under [] A) B) C ≡ context_of symbols s = sym (under-append [] (A ++ B) C ∙ ap (λ G. under G C) (under-append [] A B)) in
-        let front : AreDeclared m [] (A ++ B) = AreDeclared-append m [] A B (types-AreDeclared (type_variables_of s) []) (under_terms-AreDeclared vs (under [] A) (scope_of_types symbols s) one known) in
-        let back : AreDeclared m (under [] (A ++ B)) C = subst (λ G. AreDeclared m G C) (sym (under-append [] A B)) (under_proofs-AreDeclared s.hypotheses (under (under [] A) B) (scope_of_terms symbols s) two over.hypotheses is.hypotheses) in
+        let front : AreDeclared m [] (A ++ B) = AreDeclared-append m [] A B (types-AreDeclared (type_variables_of s) [])
+        (under_terms-AreDeclared vs (under [] A) (scope_of_types symbols s) one known) in
+        let back : AreDeclared m (under [] (A ++ B)) C =
+        subst (λ G. AreDeclared m G C) (sym (under-append [] A B))
+        (under_proofs-AreDeclared s.hypotheses (under (under [] A) B) (scope_of_terms symbols s) two over.hypotheses is.hypotheses) in
         let whole = subst (λ G. ShapedScope m symbols G (scope_of symbols s)) split three in
         record {
           domains = AreDeclared-append m [] (A ++ B) C front back;
           scope = whole;
-          proofs = λ h i. subst (λ G. HasEntry symbols G (scope_of symbols s) h) split (under_proofs-HasEntry s.hypotheses (under (under [] A) B) (scope_of_terms symbols s) h (inl i));
+          proofs = λ h i. subst (λ G. HasEntry symbols G (scope_of symbols s) h) split
+              (under_proofs-HasEntry s.hypotheses (under (under [] A) B) (scope_of_terms symbols s) h (inl i));
           conclusion = of_proofs (formula-shaped (context_of symbols s) (scope_of symbols s) whole s.conclusion over.conclusion is.conclusion);
         }
 

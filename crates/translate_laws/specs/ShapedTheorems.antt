@@ -28,12 +28,15 @@ pub record ShapedFits (m : List Declaration) (symbols : SymbolMap) (G : List Tre
   pub proofs : AllByRecursion (λ h. Argument m G (scope.proofs h) (proof_of (term_tree symbols scope h))) s.hypotheses
 
 module _ (m : List Declaration) (G : List Tree) (symbols : SymbolMap) (other : Scope) (P : Name → Type 0) (Q : Variable → Type 0) where
-  types-after : (ns : List Name) (s : ℕ → Tree) → AllByRecursion (λ n. IsSimple m G (other.types n)) ns → AreAfter m G s (map (λ n. types) ns) (map other.types ns)
+  types-after : (ns : List Name) (s : ℕ → Tree) → AllByRecursion (λ n. IsSimple m G (other.types n)) ns
+      → AreAfter m G s (map (λ n. types) ns) (map other.types ns)
   types-after [] s h = tt
   types-after (n ∷ ns) s h = (a_type h.0, types-after ns (cons (other.types n) s) h.1)
 
-  terms-after : (vs : List Variable) (scope : Scope) (s : ℕ → Tree) → TypesAgree m G symbols other P Q s scope → AllByRecursion (λ v. AllByRecursion P (variable_places v.1)) vs
-      → AllByRecursion (λ v. IsTerm m G (other.terms v) (type_tree symbols other.types v.1)) vs → AreAfter m G s (term_domains symbols vs scope) (map other.terms vs)
+  terms-after : (vs : List Variable) (scope : Scope) (s : ℕ → Tree) → TypesAgree m G symbols other P Q s scope
+      → AllByRecursion (λ v. AllByRecursion P (variable_places v.1)) vs
+      → AllByRecursion (λ v. IsTerm m G (other.terms v) (type_tree symbols other.types v.1)) vs
+      → AreAfter m G s (term_domains symbols vs scope) (map other.terms vs)
   terms-after [] scope s a k h = tt
   terms-after (v ∷ vs) scope s a k h = (
     subst (λ w. Argument m G (other.terms v) (term_of w))
@@ -43,11 +46,13 @@ module _ (m : List Declaration) (G : List Tree) (symbols : SymbolMap) (other : S
 
   proofs-after : (hs : List Term) (scope : Scope) (s : ℕ → Tree) → TypesAgree m G symbols other P Q s scope → TermsAgree m G symbols other P Q s scope
       → AllByRecursion (IsFormula symbols P Q) hs
-      → AllByRecursion (λ h. Argument m G (other.proofs h) (proof_of (term_tree symbols other h))) hs → AreAfter m G s (proof_domains symbols hs scope) (map other.proofs hs)
+      → AllByRecursion (λ h. Argument m G (other.proofs h) (proof_of (term_tree symbols other h))) hs
+      → AreAfter m G s (proof_domains symbols hs scope) (map other.proofs hs)
   proofs-after [] scope s a b f h = tt
   proofs-after (p ∷ ps) scope s a b f h = (
     subst (λ w. Argument m G (other.proofs p) (proof_of w)) (sym (formula-agrees m G symbols other P Q s scope a b p f.0)) h.0,
-    proofs-after ps (under_proof p scope) (cons (other.proofs p) s) (TypesAgree-under m G symbols other P Q s (other.proofs p) scope a) (TermsAgree-under m G symbols other P Q s (other.proofs p) scope b) f.1 h.1,
+    proofs-after ps (under_proof p scope) (cons (other.proofs p) s) (TypesAgree-under m G symbols other P Q s (other.proofs p) scope a)
+        (TermsAgree-under m G symbols other P Q s (other.proofs p) scope b) f.1 h.1,
   )
 
 pub theorem_tree-shaped : (m : List Declaration) (symbols : SymbolMap) (G : List Tree) (scope : Scope) (s : Sequent) (symbol : ℕ)
@@ -62,13 +67,17 @@ theorem_tree-shaped m symbols G scope s symbol declared is instances fits =
     let one = after Var names in
     let two = after one variables in
     let three = after two proofs in
-    let types_one : (n : Name) → P n → sub one ((scope_of_types symbols s).types n) ≡ scope.types n = λ n p. types-agree m G scope.types (type_variables_of s) unfilled Var n (inl p) in
+    let types_one : (n : Name) → P n → sub one ((scope_of_types symbols s).types n) ≡ scope.types n =
+    λ n p. types-agree m G scope.types (type_variables_of s) unfilled Var n (inl p) in
     let types_two = terms-TypesAgree m G symbols scope P Q (free_variables_of s) (scope_of_types symbols s) one types_one in
-    let terms_two : (v : Variable) → Q v → sub two ((scope_of_terms symbols s).terms v) ≡ scope.terms v = λ v q. terms-agree m G symbols scope P Q (free_variables_of s) (scope_of_types symbols s) one v (inl q) in
+    let terms_two : (v : Variable) → Q v → sub two ((scope_of_terms symbols s).terms v) ≡ scope.terms v =
+    λ v q. terms-agree m G symbols scope P Q (free_variables_of s) (scope_of_types symbols s) one v (inl q) in
     let types_three = proofs-TypesAgree m G symbols scope P Q s.hypotheses (scope_of_terms symbols s) two types_two in
     let terms_three = proofs-TermsAgree m G symbols scope P Q s.hypotheses (scope_of_terms symbols s) two terms_two in
     let formulas : AllByRecursion (IsFormula symbols P Q) s.hypotheses =
-    All-each _ s.hypotheses (λ h i. term-IsFormula s symbols h (IsIn-left s.hypotheses (s.conclusion ∷ []) h i) (All-at _ s.hypotheses h instances.hypotheses i) (All-at _ s.hypotheses h is.hypotheses i)) in
+    All-each _ s.hypotheses
+    (λ h i. term-IsFormula s symbols h (IsIn-left s.hypotheses (s.conclusion ∷ []) h i) (All-at _ s.hypotheses h instances.hypotheses i)
+    (All-at _ s.hypotheses h is.hypotheses i)) in
     let conclusion : IsFormula symbols P Q s.conclusion =
     term-IsFormula s symbols s.conclusion (IsIn-right s.hypotheses (s.conclusion ∷ []) s.conclusion (inl refl)) instances.conclusion is.conclusion in
     let first = types-after m G symbols scope P Q (type_variables_of s) Var fits.types in
@@ -83,8 +92,11 @@ theorem_tree-shaped m symbols G scope s symbol declared is instances fits =
     let all = AreAfter-append m G Var (type_domains ++ variable_domains) hypothesis_domains (names ++ variables) proofs front
     (subst (λ w. AreAfter m G w hypothesis_domains proofs) (sym split) third) in
     let at_symbol : IsProof m true G (Sym symbol) (sub Var (sequent_tree symbols s)) =
-    subst (IsProof m true G (Sym symbol)) (sym (sub_var (sequent_tree symbols s))) (call declared (Solid-products (domains_of symbols s) (conclusion_tree symbols s) tt)) in
+    subst (IsProof m true G (Sym symbol)) (sym (sub_var (sequent_tree symbols s)))
+    (call declared (Solid-products (domains_of symbols s) (conclusion_tree symbols s) tt)) in
     let whole = shaped-at m G Var (domains_of symbols s) ((names ++ variables) ++ proofs) (Sym symbol) (conclusion_tree symbols s) at_symbol all in
-    let becomes : sub (after Var ((names ++ variables) ++ proofs)) (term_tree symbols (scope_of symbols s) s.conclusion) ≡ term_tree symbols scope s.conclusion =
-    ap (λ w. sub w (term_tree symbols (scope_of symbols s) s.conclusion)) split_all ∙ formula-agrees m G symbols scope P Q three (scope_of symbols s) types_three terms_three s.conclusion conclusion in
+    let becomes : sub (after Var ((names ++ variables) ++ proofs)) (term_tree symbols (scope_of symbols s) s.conclusion)
+    ≡ term_tree symbols scope s.conclusion =
+    ap (λ w. sub w (term_tree symbols (scope_of symbols s) s.conclusion)) split_all
+    ∙ formula-agrees m G symbols scope P Q three (scope_of symbols s) types_three terms_three s.conclusion conclusion in
     subst (λ w. IsProof m false G (theorem_tree scope symbol s) (proof_of w)) becomes (called whole)

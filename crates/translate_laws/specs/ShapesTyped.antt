@@ -60,7 +60,8 @@ module _ (m : List Declaration) where
 
     -- an equation of two abstractions at the variable is one of their bodies
     beta-sides : (A B t u : Tree) → Conv m (proof_of (eq_of B t u)) (proof_of (eq_of B (App (lift 1 (Lam A t)) (Var 0)) (App (lift 1 (Lam A u)) (Var 0))))
-    beta-sides A B t u = back (step.Step.app_argument (step.Step.app_function (step.Step.app_argument (step.Step.beta (put-lift_at t))))) (back (step.Step.app_argument (step.Step.app_argument (step.Step.beta (put-lift_at u)))) same)
+    beta-sides A B t u = back (step.Step.app_argument (step.Step.app_function (step.Step.app_argument (step.Step.beta (put-lift_at t)))))
+        (back (step.Step.app_argument (step.Step.app_argument (step.Step.beta (put-lift_at u)))) same)
 
     -- a tree is convertible to those near it, and to those close to it
     unfolded-Conv : {a S : Tree} → Unfolded a S → Conv m (term_of a) S
@@ -68,10 +69,12 @@ module _ (m : List Declaration) where
     unfolded-Conv (arrow {a = a} h) = forth (rule refl) (Conv-under (Pi (term_of a)) (λ u v s. step.Step.pi_body s) (unfolded-Conv h))
 
     parts-Conv : {f g x y : Tree} → Conv m f g → Conv m x y → Conv m (App f x) (App g y)
-    parts-Conv {g = g} {x = x} h k = Conv-trans (Conv-under (λ w. App w x) (λ u v s. step.Step.app_function s) h) (Conv-under (App g) (λ u v s. step.Step.app_argument s) k)
+    parts-Conv {g = g} {x = x} h k = Conv-trans (Conv-under (λ w. App w x) (λ u v s. step.Step.app_function s) h)
+        (Conv-under (App g) (λ u v s. step.Step.app_argument s) k)
 
     product-Conv : {a b c d : Tree} → Conv m a c → Conv m b d → Conv m (Pi a b) (Pi c d)
-    product-Conv {b = b} {c = c} h k = Conv-trans (Conv-under (λ w. Pi w b) (λ u v s. step.Step.pi_domain s) h) (Conv-under (Pi c) (λ u v s. step.Step.pi_body s) k)
+    product-Conv {b = b} {c = c} h k = Conv-trans (Conv-under (λ w. Pi w b) (λ u v s. step.Step.pi_domain s) h)
+        (Conv-under (Pi c) (λ u v s. step.Step.pi_body s) k)
 
     head-Conv : {E H : Tree} → head_step m E ≡ Some H → Conv m E H
     head-Conv {E = E} {H = H} e = Steps-Conv (head_step-Steps m E H e)
@@ -111,7 +114,8 @@ module _ (m : List Declaration) where
         let closed = IsSound-closed m sound in
         let simple = constant-typed (term-simple m ht) in
         let whole = equation-sorted closed simple (constant-typed hc) (term-typed closed ht) in
-        let same_sides = Conv-under (λ w. proof_of (eq_of a w t)) (λ u v s. step.Step.app_argument (step.Step.app_function (step.Step.app_argument s))) (Conv-sym (Steps-Conv (head_step-Steps m k t s))) in
+        let same_sides = Conv-under (λ w. proof_of (eq_of a w t)) (λ u v s. step.Step.app_argument (step.Step.app_function (step.Step.app_argument s)))
+        (Conv-sym (Steps-Conv (head_step-Steps m k t s))) in
         of_application (proof-typed c f) (of_conversion (proof-typed c h) same_sides whole is_type) e
     proof-typed c (at_abstractions {a = a} {b = b} {t = t} {u = u} f ha hb ht hu h e) =
         let closed = IsSound-closed m sound in
@@ -135,14 +139,17 @@ module _ (m : List Declaration) where
 
     -- what is shown is typed
     pub shown-typed : {G : List Tree} {t p : Tree} → IsContext m G → IsDeclared m G (proof_of p) → Shown m G t p → Typed m G t (proof_of p)
-    shown-typed c d h = of_conversion (proof-typed c h.proof) (Conv-sym (near-Conv (IsSound-closed m sound) h.near)) (declared-typed (IsSound-closed m sound) d) is_type
+    shown-typed c d h = of_conversion (proof-typed c h.proof) (Conv-sym (near-Conv (IsSound-closed m sound) h.near)) (declared-typed (IsSound-closed m sound) d)
+        is_type
 
     -- the last call of a law, and laws
     last-typed : {G : List Tree} {h F : Tree} → IsContext m G → IsLast m G h F → Typed m G h F
     last-typed c (last_call h) = proof-typed c h
     last-typed c (last_defined f x d z y v s ss sp e) =
         let closed = IsSound-closed m sound in
-        of_application (proof-typed c f) (of_conversion (term-typed closed x) (Conv-under term_of (λ u v s. step.Step.app_argument s) (head-Conv closed d)) (Typed-term_of m (proof-typed c s)) is_type) e
+        of_application (proof-typed c f)
+        (of_conversion (term-typed closed x) (Conv-under term_of (λ u v s. step.Step.app_argument s) (head-Conv closed d))
+        (Typed-term_of m (proof-typed c s)) is_type) e
 
     law-not_kind : {G : List Tree} {t A : Tree} → IsLaw m G t A → A ≡ SortKind → ⊥
     law-not_kind (at_close_abstractions f ha hb ht hu h c q) e = cc
@@ -167,18 +174,22 @@ module _ (m : List Declaration) where
     law-typed c (law_last big h) = last-typed c h
     law-typed c (at_close_equation f hl hr ss sp h k e) =
         let closed = IsSound-closed m sound in
-        of_application (proof-typed c f) (of_conversion (last-typed c h) (Conv-sym (close-Conv closed k)) (equation-sorted closed (of_symbol refl) (term-typed closed hl) (term-typed closed hr)) is_type) e
+        of_application (proof-typed c f)
+        (of_conversion (last-typed c h) (Conv-sym (close-Conv closed k))
+        (equation-sorted closed (of_symbol refl) (term-typed closed hl) (term-typed closed hr)) is_type) e
     law-typed c (law_under a h) =
         let A = declared-typed (IsSound-closed m sound) a in
         let t = law-typed (entry c A) h in
         ⊎_elim (λ k. absurd (law-not_kind h k)) (λ (s : IsSorted m _ _). of_abstraction (of_product A s.by s.is) s.is t) (regular m sound (entry c A) t)
 
     shown_law-typed : {G : List Tree} {t p : Tree} → IsContext m G → IsDeclared m G (proof_of p) → ShownLaw m G t p → Typed m G t (proof_of p)
-    shown_law-typed c d h = of_conversion (law-typed c h.law) (Conv-sym (close-Conv (IsSound-closed m sound) h.close)) (declared-typed (IsSound-closed m sound) d) is_type
+    shown_law-typed c d h = of_conversion (law-typed c h.law) (Conv-sym (close-Conv (IsSound-closed m sound) h.close))
+        (declared-typed (IsSound-closed m sound) d) is_type
 
     call-typed : {G : List Tree} {t A : Tree} → IsContext m G → IsCallDefinition m G t A → IsDeclared m G A → Typed m G t A
     call-typed c (by_type h) k = proof-typed c h
-    call-typed c (by_term h d) k = of_conversion (proof-typed c h) (Conv-sym (close-Conv (IsSound-closed m sound) d)) (declared-typed (IsSound-closed m sound) k) is_type
+    call-typed c (by_term h d) k = of_conversion (proof-typed c h) (Conv-sym (close-Conv (IsSound-closed m sound) d))
+        (declared-typed (IsSound-closed m sound) k) is_type
     call-typed c (call_under h) (of_products k l) =
         of_abstraction (of_product (Typed-types m) (declared-typed (IsSound-closed m sound) l) is_type) is_type (call-typed (entry c (Typed-types m)) h l)
 
@@ -189,8 +200,10 @@ module _ (m : List Declaration) where
     shaped-body Def (Some t) A d (inl h) = (definition-typed (IsSound-closed m sound) h).0
     shaped-body Def (Some t) A d (inr h) = call-typed nothing h.0 d
     shaped-body Thm None A d h = h
-    shaped-body Thm (Some t) A d (inl h) = of_conversion (proof-typed nothing h.proof) (Conv-sym (near-Conv (IsSound-closed m sound) h.near)) (declared-typed (IsSound-closed m sound) d) is_type
-    shaped-body Thm (Some t) A d (inr h) = of_conversion (law-typed nothing h.law) (Conv-sym (close-Conv (IsSound-closed m sound) h.close)) (declared-typed (IsSound-closed m sound) d) is_type
+    shaped-body Thm (Some t) A d (inl h) = of_conversion (proof-typed nothing h.proof) (Conv-sym (near-Conv (IsSound-closed m sound) h.near))
+        (declared-typed (IsSound-closed m sound) d) is_type
+    shaped-body Thm (Some t) A d (inr h) = of_conversion (law-typed nothing h.law) (Conv-sym (close-Conv (IsSound-closed m sound) h.close))
+        (declared-typed (IsSound-closed m sound) d) is_type
 
     pub shaped-IsTypedAfter : (d : Declaration) → IsShaped m d → IsTypedAfter m d
     shaped-IsTypedAfter d h = record { ty = declared-typed (IsSound-closed m sound) h.ty; body = shaped-body d.form d.body d.ty h.ty h.body }
@@ -201,10 +214,12 @@ module _ (m : List Declaration) where
 
     -- Bodies typed, by the shapes
     pub body-typed : HasLemmas m → (symbols : SymbolMap) (kind : StepKind) (js : List ℕ) (premises : List Sequent) (given : Parameters) (s : Sequent)
-        → Rule kind premises given s → has_row kind ≡ true → ArePremises m symbols js premises → Defined m symbols kind js premises given → IsSequent s → SequentOver m symbols s
+        → Rule kind premises given s → has_row kind ≡ true → ArePremises m symbols js premises → Defined m symbols kind js premises given → IsSequent s
+        → SequentOver m symbols s
         → HasBody m symbols (λ scope. proof_tree symbols scope kind js premises given) s
     body-typed lemmas symbols kind js premises given s r row p d is over =
         let closed = IsSound-closed m sound in
         let own = own_shape m closed symbols s is over in
         let context = declared-context (domains_of symbols s) nothing own.domains in
-        ⊎_elim (shown-typed context own.conclusion) (shown_law-typed context own.conclusion) (step-shaped m closed lemmas symbols kind js premises given s r row p d is over)
+        ⊎_elim (shown-typed context own.conclusion) (shown_law-typed context own.conclusion)
+        (step-shaped m closed lemmas symbols kind js premises given s r row p d is over)

@@ -20,7 +20,8 @@ module _ (m : List Declaration) (symbols : SymbolMap) (pairs : TypePairs) (terms
     images-over (variable n) h = (h, tt {0})
     images-over (operator n ts) h = all_images-over ts h.1
 
-    all_images-over : (ts : HolTypes) → TypesOver m symbols (substitute_all pairs ts) → AllByRecursion (λ n. TypeOver m symbols (image pairs n)) (variable_places_of_all ts)
+    all_images-over : (ts : HolTypes) → TypesOver m symbols (substitute_all pairs ts)
+        → AllByRecursion (λ n. TypeOver m symbols (image pairs n)) (variable_places_of_all ts)
     all_images-over none h = tt
     all_images-over (more t ts) h = All-append _ (variable_places t) (variable_places_of_all ts) (images-over t h.0) (all_images-over ts h.1)
 
@@ -33,23 +34,27 @@ module _ (m : List Declaration) (symbols : SymbolMap) (pairs : TypePairs) (terms
   -- where a term with types and terms put is over the symbols, so are the types put and the terms put
   types-over : (t : Term) → TermOver m symbols (sub pairs terms t) → AllByRecursion (λ n. TypeOver m symbols (image pairs n)) (type_variable_places t)
   types-over (free n t) h =
-      images-over t (TypeOver-type_under m symbols [] (λ k a e. absurd (cc)) (term_image terms (n, substitute pairs t)) (substitute pairs t) h (image_of-type (n, substitute pairs t)))
+      images-over t (TypeOver-type_under m symbols [] (λ k a e. absurd (cc)) (term_image terms (n, substitute pairs t)) (substitute pairs t) h
+      (image_of-type (n, substitute pairs t)))
   types-over (bound k) h = tt
   types-over (constant n t) h = images-over t h.ty
   types-over (app f x) h = All-append _ (type_variable_places f) (type_variable_places x) (types-over f h.0) (types-over x h.1)
   types-over (lam t b) h = All-append _ (variable_places t) (type_variable_places b) (images-over t h.0) (types-over b h.1)
 
-  terms-over : (t : Term) → TermOver m symbols (sub pairs terms t) → AllByRecursion (λ v. TermOver m symbols (term_image terms (v.0, substitute pairs v.1))) (free_places t)
+  terms-over : (t : Term) → TermOver m symbols (sub pairs terms t)
+      → AllByRecursion (λ v. TermOver m symbols (term_image terms (v.0, substitute pairs v.1))) (free_places t)
   terms-over (free n t) h = (h, tt {0})
   terms-over (bound k) h = tt
   terms-over (constant n t) h = tt
   terms-over (app f x) h = All-append _ (free_places f) (free_places x) (terms-over f h.0) (terms-over x h.1)
   terms-over (lam t b) h = terms-over b h.1
 
-  pub all_types-over : (ts : List Term) → AllByRecursion (λ t. TermOver m symbols (sub pairs terms t)) ts → AllByRecursion (λ n. TypeOver m symbols (image pairs n)) (flat_map type_variable_places ts)
+  pub all_types-over : (ts : List Term) → AllByRecursion (λ t. TermOver m symbols (sub pairs terms t)) ts
+      → AllByRecursion (λ n. TypeOver m symbols (image pairs n)) (flat_map type_variable_places ts)
   all_types-over [] h = tt
   all_types-over (t ∷ ts) h = All-append _ (type_variable_places t) (flat_map type_variable_places ts) (types-over t h.0) (all_types-over ts h.1)
 
-  pub all_terms-over : (ts : List Term) → AllByRecursion (λ t. TermOver m symbols (sub pairs terms t)) ts → AllByRecursion (λ v. TermOver m symbols (term_image terms (v.0, substitute pairs v.1))) (flat_map free_places ts)
+  pub all_terms-over : (ts : List Term) → AllByRecursion (λ t. TermOver m symbols (sub pairs terms t)) ts
+      → AllByRecursion (λ v. TermOver m symbols (term_image terms (v.0, substitute pairs v.1))) (flat_map free_places ts)
   all_terms-over [] h = tt
   all_terms-over (t ∷ ts) h = All-append _ (free_places t) (flat_map free_places ts) (terms-over t h.0) (all_terms-over ts h.1)

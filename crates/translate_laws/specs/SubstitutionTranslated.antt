@@ -36,23 +36,28 @@ rest_tree symbols s = products (proof_domains symbols s.hypotheses (scope_of_ter
 
 module _ (symbols : SymbolMap) where
   -- a statement owes nothing to what stands for hypotheses
-  statement-proofs : (hs : List Term) (c : Term) (scope : Scope) (proofs : Term → Tree) → statement_tree symbols hs c scope ≡ statement_tree symbols hs c (record { types = scope.types; terms = scope.terms; proofs = proofs; bounds = scope.bounds })
+  statement-proofs : (hs : List Term) (c : Term) (scope : Scope) (proofs : Term → Tree) → statement_tree symbols hs c scope
+      ≡ statement_tree symbols hs c (record { types = scope.types; terms = scope.terms; proofs = proofs; bounds = scope.bounds })
   statement-proofs [] c scope proofs = ap proof_of (term_tree-proofs symbols proofs scope c)
-  statement-proofs (h ∷ hs) c scope proofs = ap₂ (λ x y. Pi (proof_of x) y) (term_tree-proofs symbols proofs scope h) (statement-proofs hs c (lifted scope) (λ g. lift 1 (proofs g)))
+  statement-proofs (h ∷ hs) c scope proofs = ap₂ (λ x y. Pi (proof_of x) y) (term_tree-proofs symbols proofs scope h)
+      (statement-proofs hs c (lifted scope) (λ g. lift 1 (proofs g)))
 
   pub rest-statement : (hs : List Term) (c : Term) (scope : Scope)
       → products (proof_domains symbols hs scope) (proof_of (term_tree symbols (under_proofs hs scope) c)) ≡ statement_tree symbols hs c scope
   rest-statement [] c scope = refl
-  rest-statement (h ∷ hs) c scope = ap (Pi (proof_of (term_tree symbols scope h))) (rest-statement hs c (under_proof h scope) ∙ sym (statement-proofs hs c (lifted scope) (under_proof h scope).proofs))
+  rest-statement (h ∷ hs) c scope = ap (Pi (proof_of (term_tree symbols scope h)))
+      (rest-statement hs c (under_proof h scope) ∙ sym (statement-proofs hs c (lifted scope) (under_proof h scope).proofs))
 
   lifted-through : (s : ℕ → Tree) (scope : Scope) → through (ups s) (lifted scope) ≡ lifted (through s scope)
-  lifted-through s scope = same_scope (through (ups s) (lifted scope)) (lifted (through s scope)) (λ n. sub-lift s (scope.types n)) (λ v. sub-lift s (scope.terms v)) (λ h. sub-lift s (scope.proofs h)) (λ k. sub-lift s (scope.bounds k))
+  lifted-through s scope = same_scope (through (ups s) (lifted scope)) (lifted (through s scope)) (λ n. sub-lift s (scope.types n))
+      (λ v. sub-lift s (scope.terms v)) (λ h. sub-lift s (scope.proofs h)) (λ k. sub-lift s (scope.bounds k))
 
   statement-sub : (s : ℕ → Tree) (hs : List Term) (c : Term) (scope : Scope)
       → trees.sub s (statement_tree symbols hs c scope) ≡ statement_tree symbols hs c (through s scope)
   statement-sub s [] c scope = ap proof_of (term_tree-sub symbols s scope c)
   statement-sub s (h ∷ hs) c scope =
-      ap₂ (λ x y. Pi (proof_of x) y) (term_tree-sub symbols s scope h) (statement-sub (ups s) hs c (lifted scope) ∙ ap (statement_tree symbols hs c) (lifted-through s scope))
+      ap₂ (λ x y. Pi (proof_of x) y) (term_tree-sub symbols s scope h)
+      (statement-sub (ups s) hs c (lifted scope) ∙ ap (statement_tree symbols hs c) (lifted-through s scope))
 
   module _ (P : Name → Type 0) (Q : Variable → Type 0) where
     formula-agrees : (scope other : Scope) → Agrees symbols P Q 0 scope other → (h : Term) → IsFormula symbols P Q h
@@ -65,22 +70,28 @@ module _ (symbols : SymbolMap) where
     statement-agrees [] c scope other a f g = ap proof_of (formula-agrees scope other a c g)
     statement-agrees (h ∷ hs) c scope other a f g =
         ap₂ (λ x y. Pi (proof_of x) y) (formula-agrees scope other a h f.0)
-        (statement-agrees hs c (lifted scope) (lifted other) (record { types = λ n p. ap (lift 1) (a.types n p); terms = λ v q. ap (lift 1) (a.terms v q); bounds = λ k l. absurd (omega (arith, l)) }) f.1 g)
+        (statement-agrees hs c (lifted scope) (lifted other)
+        (record { types = λ n p. ap (lift 1) (a.types n p); terms = λ v q. ap (lift 1) (a.terms v q); bounds = λ k l. absurd (omega (arith, l)) }) f.1 g)
 
 -- what a statement is in a scope that fits a sequent: its rest with what stands there for its variables put in
 pub rest-put_all : (m : List Declaration) (symbols : SymbolMap) (other : Scope) (s : Sequent) → IsSequent s → HasInstances symbols s
-    → put_all (map other.types (type_variables_of s) ++ map other.terms (free_variables_of s)) (rest_tree symbols s) ≡ statement_tree symbols s.hypotheses s.conclusion other
+    → put_all (map other.types (type_variables_of s) ++ map other.terms (free_variables_of s)) (rest_tree symbols s)
+    ≡ statement_tree symbols s.hypotheses s.conclusion other
 rest-put_all m symbols other s is instances =
     let P = IsIn (type_variables_of s) in
     let Q = IsIn (free_variables_of s) in
     let names = map other.types (type_variables_of s) in
     let variables = map other.terms (free_variables_of s) in
     let one = after Var names in
-    let types_one : (n : Name) → P n → trees.sub one ((scope_of_types symbols s).types n) ≡ other.types n = λ n p. types-agree m [] other.types (type_variables_of s) unfilled Var n (inl p) in
+    let types_one : (n : Name) → P n → trees.sub one ((scope_of_types symbols s).types n) ≡ other.types n =
+    λ n p. types-agree m [] other.types (type_variables_of s) unfilled Var n (inl p) in
     let types_two = terms-TypesAgree m [] symbols other P Q (free_variables_of s) (scope_of_types symbols s) one types_one in
-    let terms_two : (v : Variable) → Q v → trees.sub (after one variables) ((scope_of_terms symbols s).terms v) ≡ other.terms v = λ v q. terms-agree m [] symbols other P Q (free_variables_of s) (scope_of_types symbols s) one v (inl q) in
+    let terms_two : (v : Variable) → Q v → trees.sub (after one variables) ((scope_of_terms symbols s).terms v) ≡ other.terms v =
+    λ v q. terms-agree m [] symbols other P Q (free_variables_of s) (scope_of_types symbols s) one v (inl q) in
     let formulas : AllByRecursion (IsFormula symbols P Q) s.hypotheses =
-    All-each _ s.hypotheses (λ h i. term-IsFormula s symbols h (IsIn-left s.hypotheses (s.conclusion ∷ []) h i) (All-at _ s.hypotheses h instances.hypotheses i) (All-at _ s.hypotheses h is.hypotheses i)) in
+    All-each _ s.hypotheses
+    (λ h i. term-IsFormula s symbols h (IsIn-left s.hypotheses (s.conclusion ∷ []) h i) (All-at _ s.hypotheses h instances.hypotheses i)
+    (All-at _ s.hypotheses h is.hypotheses i)) in
     let conclusion : IsFormula symbols P Q s.conclusion =
     term-IsFormula s symbols s.conclusion (IsIn-right s.hypotheses (s.conclusion ∷ []) s.conclusion (inl refl)) instances.conclusion is.conclusion in
     put_all-after (names ++ variables) (rest_tree symbols s)
@@ -95,7 +106,8 @@ images-lifted : (symbols : SymbolMap) (pairs : TypePairs) (terms : TermPairs) (s
     → lifted (images symbols pairs terms scope) ≡ images symbols pairs terms (lifted scope)
 images-lifted symbols pairs terms scope =
     same_scope (lifted (images symbols pairs terms scope)) (images symbols pairs terms (lifted scope))
-    (λ n. type_tree-lift symbols scope.types (image pairs n)) (λ v. term_tree-lift symbols scope (term_image terms (v.0, substitute pairs v.1))) (λ h. refl) (λ k. refl)
+    (λ n. type_tree-lift symbols scope.types (image pairs n)) (λ v. term_tree-lift symbols scope (term_image terms (v.0, substitute pairs v.1))) (λ h. refl)
+    (λ k. refl)
 
 substituted-statement : (symbols : SymbolMap) (pairs : TypePairs) (terms : TermPairs) → AreClosed terms → (hs : List Term) (c : Term) (scope : Scope)
     → AllByRecursion (AreInstances symbols) hs → AreInstances symbols c
@@ -108,9 +120,11 @@ substituted-statement symbols pairs terms closed (h ∷ hs) c scope i j =
 -- Translation of substitution for a sequent: what follows its products over type variables and free variables, with the translated images put
 -- in, is the product over the proofs of the substituted hypotheses, one for each also where two become equal, which ends in the proofs of the
 -- substituted conclusion.
-pub sequent-substitution : (m : List Declaration) (symbols : SymbolMap) (pairs : TypePairs) (terms : TermPairs) → AreClosed terms → (scope : Scope) (s : Sequent)
+pub sequent-substitution : (m : List Declaration) (symbols : SymbolMap) (pairs : TypePairs) (terms : TermPairs) → AreClosed terms
+    → (scope : Scope) (s : Sequent)
     → IsSequent s → HasInstances symbols s
-    → put_all (map (images symbols pairs terms scope).types (type_variables_of s) ++ map (images symbols pairs terms scope).terms (free_variables_of s)) (rest_tree symbols s)
+    → put_all (map (images symbols pairs terms scope).types (type_variables_of s) ++ map (images symbols pairs terms scope).terms (free_variables_of s))
+    (rest_tree symbols s)
     ≡ statement_tree symbols (map (sub pairs terms) s.hypotheses) (sub pairs terms s.conclusion) scope
 sequent-substitution m symbols pairs terms closed scope s is instances =
     rest-put_all m symbols (images symbols pairs terms scope) s is instances
@@ -120,19 +134,22 @@ sequent-substitution m symbols pairs terms closed scope s is instances =
 -- translate what was substituted.
 pub type-put_all : (symbols : SymbolMap) (pairs : TypePairs) (scope : TypeScope) (names : List Name) (t : HolType)
     → AllByRecursion (IsIn names) (variable_places t)
-    → put_all (map (λ n. type_tree symbols scope (image pairs n)) names) (type_tree symbols (under_types names unfilled) t) ≡ type_tree symbols scope (substitute pairs t)
+    → put_all (map (λ n. type_tree symbols scope (image pairs n)) names) (type_tree symbols (under_types names unfilled) t)
+    ≡ type_tree symbols scope (substitute pairs t)
 type-put_all symbols pairs scope names t h =
     let other : TypeScope = λ n. type_tree symbols scope (image pairs n) in
     let one = after Var (map other names) in
     put_all-after (map other names) (type_tree symbols (under_types names unfilled) t)
     ∙ type_tree-sub symbols one (under_types names unfilled) t
-    ∙ type_tree-agrees symbols (IsIn names) (λ n. trees.sub one (under_types names unfilled n)) other (λ n i. types-agree [] [] other names unfilled Var n (inl i)) t h
+    ∙ type_tree-agrees symbols (IsIn names) (λ n. trees.sub one (under_types names unfilled n)) other
+    (λ n i. types-agree [] [] other names unfilled Var n (inl i)) t h
     ∙ sym (type_tree-substitute symbols pairs scope t)
 
 pub term-put_all : (symbols : SymbolMap) (pairs : TypePairs) (terms : TermPairs) → AreClosed terms
     → (scope : Scope) (names : List Name) (variables : List Variable) (t : Term)
     → IsFormula symbols (IsIn names) (IsIn variables) t
-    → put_all (map (images symbols pairs terms scope).types names ++ map (images symbols pairs terms scope).terms variables) (term_tree symbols (under_terms variables (filled symbols (under_types names unfilled))) t)
+    → put_all (map (images symbols pairs terms scope).types names ++ map (images symbols pairs terms scope).terms variables)
+    (term_tree symbols (under_terms variables (filled symbols (under_types names unfilled))) t)
     ≡ term_tree symbols scope (sub pairs terms t)
 term-put_all symbols pairs terms closed scope names variables t f =
     let P = IsIn names in
@@ -145,9 +162,11 @@ term-put_all symbols pairs terms closed scope names variables t f =
     let one = after Var xs in
     let types_one : (n : Name) → P n → trees.sub one (inner.types n) ≡ other.types n = λ n p. types-agree [] [] other.types names unfilled Var n (inl p) in
     let types_two = terms-TypesAgree [] [] symbols other P Q variables inner one types_one in
-    let terms_two : (v : Variable) → Q v → trees.sub (after one ys) (outer.terms v) ≡ other.terms v = λ v q. terms-agree [] [] symbols other P Q variables inner one v (inl q) in
+    let terms_two : (v : Variable) → Q v → trees.sub (after one ys) (outer.terms v) ≡ other.terms v =
+    λ v q. terms-agree [] [] symbols other P Q variables inner one v (inl q) in
     put_all-after (xs ++ ys) (term_tree symbols outer t)
     ∙ ap (λ w. trees.sub w (term_tree symbols outer t)) (after-append Var xs ys)
     ∙ term_tree-sub symbols (after one ys) outer t
-    ∙ formula-agrees symbols P Q (through (after one ys) outer) other (record { types = types_two; terms = terms_two; bounds = λ k l. absurd (omega (arith, l)) }) t f
+    ∙ formula-agrees symbols P Q (through (after one ys) outer) other
+    (record { types = types_two; terms = terms_two; bounds = λ k l. absurd (omega (arith, l)) }) t f
     ∙ sym (term_tree-substitution symbols pairs terms closed scope t f.instances)

@@ -60,7 +60,8 @@ module _ (ps : List Item) where
       go : (b : Bool) → (b ≡ true → n ≡ m) → cond b (type_of u) None ≡ Some g → ConstantTaken ps n t
       go true same e =
           let a : type_or u ≡ g = ap (λ o. unwrap_or o bool) e in
-          items.ConstantTaken.defined (type_or u) u (subst (λ (l : Name). Has ps (defined_constant l (type_or u) u)) (sym (same refl)) h.0) (subst (λ b. Instance b t) (sym a) i)
+          items.ConstantTaken.defined (type_or u) u (subst (λ (l : Name). Has ps (defined_constant l (type_or u) u)) (sym (same refl)) h.0)
+          (subst (λ b. Instance b t) (sym a) i)
       go false same e = absurd (cc)
   symbol-constant n g (Symbol.defined (Definition.type_operator names c f)) h e t i = go (name_eq n names.abstraction) (name_eq-Decides n names.abstraction).0 e
     where
@@ -89,7 +90,8 @@ module _ (ps : List Item) where
 
   symbol-input_constant : (n : Name) (t : HolType) (x : Symbol) → IsHeld x → is_input_constant n x ≡ true → ConstantTaken ps n t
   symbol-input_constant n t (Symbol.input_constant m) h e =
-      items.ConstantTaken.declared generic (subst (λ (l : Name). Has ps (constant l generic)) (sym ((name_eq-Decides n m).0 e)) h.0) ((generic_variable, t) ∷ [], refl)
+      items.ConstantTaken.declared generic (subst (λ (l : Name). Has ps (constant l generic)) (sym ((name_eq-Decides n m).0 e)) h.0)
+      ((generic_variable, t) ∷ [], refl)
   symbol-input_constant n t (Symbol.input_operator m j) h e = absurd (cc)
   symbol-input_constant n t (Symbol.defined d) h e = absurd (cc)
 
@@ -156,7 +158,12 @@ module _ (ps : List Item) where
 
     pub held-sequent : (s : Sequent) → IsSequent s → machine.TermsTaken ss s → SequentTaken ps s
     held-sequent s is h =
-        record { is = is; hypotheses = All-weaker (machine.TermTaken ss) (TermTaken ps) held-term s.hypotheses h.hypotheses; conclusion = held-term s.conclusion h.conclusion }
+        record {
+          is = is;
+          hypotheses = All-weaker (machine.TermTaken ss) (TermTaken ps) held-term s.hypotheses h.hypotheses;
+          conclusion =
+              held-term s.conclusion h.conclusion;
+        }
 
 -- What an item names is taken in the machine.
 abbrev pub IsNamed : List Symbol → Content → Type 0
@@ -181,8 +188,10 @@ named-more ss xs (step kind js premises given s) h = tt
 
 module _ (ss : List Symbol) (n : Name) where
   no_such-constant : is_taken_constant ss n ≡ false → (a : HolType) → machine.ConstantTaken ss n a → ⊥
-  no_such-constant new a (machine.ConstantTaken.instance g e i) = let h = (or_parts (is_some (generic_type ss n)) (list_any (is_input_constant n) ss) new).0 in let k : true ≡ false = ap is_some (sym e) ∙ h in absurd (cc)
-  no_such-constant new a (machine.ConstantTaken.input e) = let h = (or_parts (is_some (generic_type ss n)) (list_any (is_input_constant n) ss) new).1 in let k : true ≡ false = sym e ∙ h in absurd (cc)
+  no_such-constant new a (machine.ConstantTaken.instance g e i) = let h =
+      (or_parts (is_some (generic_type ss n)) (list_any (is_input_constant n) ss) new).0 in let k : true ≡ false = ap is_some (sym e) ∙ h in absurd (cc)
+  no_such-constant new a (machine.ConstantTaken.input e) = let h =
+      (or_parts (is_some (generic_type ss n)) (list_any (is_input_constant n) ss) new).1 in let k : true ≡ false = sym e ∙ h in absurd (cc)
 
   no_such-operator : (k : ℕ) → is_some (operator_arity ss n) ≡ false → list_any (is_input_operator n k) ss ≡ false → machine.OperatorTaken ss n k → ⊥
   no_such-operator k undefined new (machine.OperatorTaken.of_arity e) = let k : true ≡ false = ap is_some (sym e) ∙ undefined in absurd (cc)
@@ -190,13 +199,19 @@ module _ (ss : List Symbol) (n : Name) where
 
   other-constant : is_taken_constant ss n ≡ false → (c : Content) → IsNamed ss c → is_constant n c ≡ false
   other-constant new (operator m k) h = refl
-  other-constant new (constant m a) h = false_from_ne_true (name_eq n m) (λ e. no_such-constant new a (subst (λ (l : Name). machine.ConstantTaken ss l a) (sym ((name_eq-Decides n m).0 e)) h))
-  other-constant new (defined_constant m a t) h = false_from_ne_true (name_eq n m) (λ e. no_such-constant new a (subst (λ (l : Name). machine.ConstantTaken ss l a) (sym ((name_eq-Decides n m).0 e)) h))
+  other-constant new (constant m a) h = false_from_ne_true (name_eq n m)
+      (λ e. no_such-constant new a (subst (λ (l : Name). machine.ConstantTaken ss l a) (sym ((name_eq-Decides n m).0 e)) h))
+  other-constant new (defined_constant m a t) h = false_from_ne_true (name_eq n m)
+      (λ e. no_such-constant new a (subst (λ (l : Name). machine.ConstantTaken ss l a) (sym ((name_eq-Decides n m).0 e)) h))
   other-constant new (type_operator names c u j one) h = refl
   other-constant new (type_abstraction names c u j one) h =
-      false_from_ne_true (name_eq n names.abstraction) (λ e. no_such-constant new (abstraction_type names c) (subst (λ (l : Name). machine.ConstantTaken ss l (abstraction_type names c)) (sym ((name_eq-Decides n names.abstraction).0 e)) h))
+      false_from_ne_true (name_eq n names.abstraction)
+      (λ e. no_such-constant new (abstraction_type names c)
+      (subst (λ (l : Name). machine.ConstantTaken ss l (abstraction_type names c)) (sym ((name_eq-Decides n names.abstraction).0 e)) h))
   other-constant new (type_representation names c u j one) h =
-      false_from_ne_true (name_eq n names.representation) (λ e. no_such-constant new (representation_type names c) (subst (λ (l : Name). machine.ConstantTaken ss l (representation_type names c)) (sym ((name_eq-Decides n names.representation).0 e)) h))
+      false_from_ne_true (name_eq n names.representation)
+      (λ e. no_such-constant new (representation_type names c)
+      (subst (λ (l : Name). machine.ConstantTaken ss l (representation_type names c)) (sym ((name_eq-Decides n names.representation).0 e)) h))
   other-constant new (unproved s) h = refl
   other-constant new (step kind js premises given s) h = refl
 
@@ -220,7 +235,8 @@ module _ (ss : List Symbol) (n : Name) where
   other-operator k undefined new (unproved s) h = refl
   other-operator k undefined new (step kind js premises given s) h = refl
 
-  none-such : (test : Content → Bool) → ((c : Content) → IsNamed ss c → test c ≡ false) → (ps : List Item) → AllByRecursion (λ (z : Item). IsNamed ss z.content) ps → any_content test ps ≡ false
+  none-such : (test : Content → Bool) → ((c : Content) → IsNamed ss c → test c ≡ false) → (ps : List Item)
+      → AllByRecursion (λ (z : Item). IsNamed ss z.content) ps → any_content test ps ≡ false
   none-such test f [] h = refl
   none-such test f (z ∷ zs) h = ap (λ b. b || any_content test zs) (f z.content h.0) ∙ none-such test f zs h.1
 
@@ -229,10 +245,15 @@ module _ (ss : List Symbol) (n : Name) where
   no-primitive (Some x) p e = absurd (cc)
 
   -- what the machine finds new
-  pub new-constant : is_taken_constant ss n ≡ false → (ps : List Item) → AllByRecursion (λ (z : Item). IsNamed ss z.content) ps → (primitive_type n ≡ None) × (any_content (is_constant n) ps ≡ false)
-  new-constant new ps h =
-      (no-primitive (primitive_type n) (first_defined_type n ss) (or_parts (is_some (generic_type ss n)) (list_any (is_input_constant n) ss) new).0, none-such (is_constant n) (other-constant new) ps h)
+  pub new-constant : is_taken_constant ss n ≡ false → (ps : List Item) → AllByRecursion (λ (z : Item). IsNamed ss z.content) ps → (primitive_type n ≡ None)
+      × (any_content (is_constant n) ps ≡ false)
+  new-constant new ps h = (
+    no-primitive (primitive_type n) (first_defined_type n ss) (or_parts (is_some (generic_type ss n)) (list_any (is_input_constant n) ss) new).0,
+    none-such (is_constant n) (other-constant new) ps h,
+  )
 
-  pub new-operator : (k : ℕ) → is_some (operator_arity ss n) ≡ false → list_any (is_input_operator n k) ss ≡ false → (ps : List Item) → AllByRecursion (λ (z : Item). IsNamed ss z.content) ps
+  pub new-operator : (k : ℕ) → is_some (operator_arity ss n) ≡ false → list_any (is_input_operator n k) ss ≡ false → (ps : List Item)
+      → AllByRecursion (λ (z : Item). IsNamed ss z.content) ps
       → (primitive_arity n ≡ None) × (any_content (is_operator n k) ps ≡ false)
-  new-operator k undefined new ps h = (no-primitive (primitive_arity n) (first_defined_arity n ss) undefined, none-such (is_operator n k) (other-operator k undefined new) ps h)
+  new-operator k undefined new ps h =
+      (no-primitive (primitive_arity n) (first_defined_arity n ss) undefined, none-such (is_operator n k) (other-operator k undefined new) ps h)

@@ -39,8 +39,10 @@ module _ (symbols : SymbolMap) where
   term_tree-bounds d scope bounds e (free n t) h = refl
   term_tree-bounds d scope bounds e (bound k) h = e k (omega (arith, h))
   term_tree-bounds d scope bounds e (constant n t) h = refl
-  term_tree-bounds d scope bounds e (app f x) h = ap₂ App (term_tree-bounds d scope bounds e f (omega (arith, h))) (term_tree-bounds d scope bounds e x (omega (arith, h)))
-  term_tree-bounds d scope bounds e (lam t b) h = ap (Lam (term_of (type_tree symbols scope.types t))) (term_tree-bounds (suc d) (inside scope) (cons (Var 0) (λ k. lift 1 (bounds k))) go b (omega (arith, h)))
+  term_tree-bounds d scope bounds e (app f x) h = ap₂ App (term_tree-bounds d scope bounds e f (omega (arith, h)))
+      (term_tree-bounds d scope bounds e x (omega (arith, h)))
+  term_tree-bounds d scope bounds e (lam t b) h = ap (Lam (term_of (type_tree symbols scope.types t)))
+      (term_tree-bounds (suc d) (inside scope) (cons (Var 0) (λ k. lift 1 (bounds k))) go b (omega (arith, h)))
     where
       go : (k : ℕ) → k < suc d → (inside scope).bounds k ≡ cons (Var 0) (λ k. lift 1 (bounds k)) k
       go zero l = refl
@@ -60,7 +62,8 @@ module _ (symbols : SymbolMap) where
       (ap (map (type_tree symbols scope.types)) (type_arguments-substitute pairs (generic_type symbols n) t h)
       ∙ map-twice (type_tree symbols scope.types) (substitute pairs) (type_arguments (generic_type symbols n) t)
       ∙ ap (λ f. map f (type_arguments (generic_type symbols n) t)) (fun_ext (type_tree-substitute symbols pairs scope.types)))
-  term_tree-substitution pairs terms c scope (app f x) h = ap₂ App (term_tree-substitution pairs terms c scope f h.0) (term_tree-substitution pairs terms c scope x h.1)
+  term_tree-substitution pairs terms c scope (app f x) h =
+      ap₂ App (term_tree-substitution pairs terms c scope f h.0) (term_tree-substitution pairs terms c scope x h.1)
   term_tree-substitution pairs terms c scope (lam t b) h =
       ap₂ (λ a d. Lam (term_of a) d) (type_tree-substitute symbols pairs scope.types t)
       (term_tree-substitution pairs terms c (inside scope) b h
@@ -97,7 +100,8 @@ module _ (symbols : SymbolMap) where
       ap (Lam (term_of (type_tree symbols scope.types t)))
       (term_tree-close_at (suc d) v (inside scope) b
       ∙ ap (λ w. term_tree symbols w b)
-      (same_scope (opened (suc d) v (inside scope)) (inside (opened d v scope)) (λ n. refl) (λ w. lift_cond (variable_eq w v) (scope.bounds d) (scope.terms w)) (λ h. refl) go))
+      (same_scope (opened (suc d) v (inside scope)) (inside (opened d v scope)) (λ n. refl) (λ w. lift_cond (variable_eq w v) (scope.bounds d) (scope.terms w))
+      (λ h. refl) go))
     where
       low : raised (suc d) 1 0 ≡ 0
       low = grind arith
@@ -113,7 +117,8 @@ module _ (symbols : SymbolMap) where
   pub term_tree-close : (v : Variable) (scope : Scope) (t : Term) → term_tree symbols (inside scope) (close v t) ≡ term_tree symbols (under_term v scope) t
   term_tree-close v scope t =
       term_tree-close_at 0 v (inside scope) t
-      ∙ ap (λ w. term_tree symbols w t) (same_scope (opened 0 v (inside scope)) (under_term v scope) (λ n. refl) (λ w. refl) (λ h. refl) (λ k. ap (inside scope).bounds (one k)))
+      ∙ ap (λ w. term_tree symbols w t)
+      (same_scope (opened 0 v (inside scope)) (under_term v scope) (λ n. refl) (λ w. refl) (λ h. refl) (λ k. ap (inside scope).bounds (one k)))
     where
       one : (k : ℕ) → raised 0 1 k ≡ suc k
       one k = grind arith
@@ -160,9 +165,12 @@ module _ (symbols : SymbolMap) where
           (type_arguments-All P (generic_type symbols n) t i p)))
       term_tree-agrees d scope other a (app f x) i p q h =
           ap₂ App
-          (term_tree-agrees d scope other a f i.0 (All-left P (type_variable_places f) (type_variable_places x) p) (All-left Q (free_places f) (free_places x) q) (omega (arith, h)))
-          (term_tree-agrees d scope other a x i.1 (All-right P (type_variable_places f) (type_variable_places x) p) (All-right Q (free_places f) (free_places x) q) (omega (arith, h)))
+          (term_tree-agrees d scope other a f i.0 (All-left P (type_variable_places f) (type_variable_places x) p)
+          (All-left Q (free_places f) (free_places x) q) (omega (arith, h)))
+          (term_tree-agrees d scope other a x i.1 (All-right P (type_variable_places f) (type_variable_places x) p)
+          (All-right Q (free_places f) (free_places x) q) (omega (arith, h)))
       term_tree-agrees d scope other a (lam t b) i p q h =
           ap₂ (λ x y. Lam (term_of x) y)
           (type_tree-agrees scope.types other.types a.types t (All-left P (variable_places t) (type_variable_places b) p))
-          (term_tree-agrees (suc d) (inside scope) (inside other) (Agrees-inside d scope other a) b i (All-right P (variable_places t) (type_variable_places b) p) q (omega (arith, h)))
+          (term_tree-agrees (suc d) (inside scope) (inside other) (Agrees-inside d scope other a) b i
+          (All-right P (variable_places t) (type_variable_places b) p) q (omega (arith, h)))

@@ -68,7 +68,8 @@ module _ (m : List Declaration) (G : List Tree) (symbols : SymbolMap) (other : S
       → sub (after s (map other.terms vs)) ((under_terms vs scope).terms v) ≡ other.terms v
   terms-agree [] scope s v (inl k) = absurd k
   terms-agree [] scope s v (inr e) = e
-  terms-agree (w ∷ ws) scope s v h = terms-agree ws (under_term w scope) (cons (other.terms w) s) v (go (variable_eq v w) (variable_eq-Decides v w).0 (variable_eq-Decides v w).1 h)
+  terms-agree (w ∷ ws) scope s v h = terms-agree ws (under_term w scope) (cons (other.terms w) s) v
+      (go (variable_eq v w) (variable_eq-Decides v w).0 (variable_eq-Decides v w).1 h)
     where
       go : (b : Bool) → (b ≡ true → v ≡ w) → (v ≡ w → b ≡ true) → (IsIn (w ∷ ws) v ⊎ (sub s (scope.terms v) ≡ other.terms v))
           → IsIn ws v ⊎ (sub (cons (other.terms w) s) (cond b (Var 0) (lift 1 (scope.terms v))) ≡ other.terms v)
@@ -81,7 +82,8 @@ module _ (m : List Declaration) (G : List Tree) (symbols : SymbolMap) (other : S
       → sub s (term_tree symbols scope h) ≡ term_tree symbols other h
   formula-agrees s scope a b h f =
       term_tree-sub symbols s scope h
-      ∙ term_tree-agrees symbols P Q 0 (through s scope) other (record { types = a; terms = b; bounds = λ k l. absurd (omega (arith, l)) }) h f.instances f.type_variables f.free_variables f.closed
+      ∙ term_tree-agrees symbols P Q 0 (through s scope) other (record { types = a; terms = b; bounds = λ k l. absurd (omega (arith, l)) }) h f.instances
+      f.type_variables f.free_variables f.closed
 
   pub proofs-TypesAgree : (hs : List Term) (scope : Scope) (s : ℕ → Tree) → TypesAgree s scope
       → TypesAgree (after s (map other.proofs hs)) (under_proofs hs scope)

@@ -36,7 +36,8 @@ module _ {A : Type 0} (test : A → Bool) where
     where
       go : (b : Bool) → lift 1 (parameter d from) ≡ parameter (suc d) from
           → lookup test (parameters (suc d) (suc from) xs) ≡ option_map (lift 1) (lookup test (parameters d (suc from) xs))
-          → cond b (Some (parameter (suc d) from)) (lookup test (parameters (suc d) (suc from) xs)) ≡ option_map (lift 1) (cond b (Some (parameter d from)) (lookup test (parameters d (suc from) xs)))
+          → cond b (Some (parameter (suc d) from)) (lookup test (parameters (suc d) (suc from) xs))
+          ≡ option_map (lift 1) (cond b (Some (parameter d from)) (lookup test (parameters d (suc from) xs)))
       go true e f = ap Some (sym e)
       go false e f = f
 
@@ -52,7 +53,8 @@ pub TypesTold-lifted : (names : List Name) (d : ℕ) (scope : TypeScope) → len
     → TypesTold names (suc d) (lifted_types scope)
 TypesTold-lifted names d scope l h n =
     let low : 0 + length names ≤ d = omega (arith, l) in
-    ap (lift 1) (h n) ∙ sym (unwrap-lift (lookup (name_eq n) (parameters d 0 names)) bools) ∙ ap (λ o. unwrap_or o bools) (sym (lookup-shift (name_eq n) d 0 names low))
+    ap (lift 1) (h n) ∙ sym (unwrap-lift (lookup (name_eq n) (parameters d 0 names)) bools)
+    ∙ ap (λ o. unwrap_or o bools) (sym (lookup-shift (name_eq n) d 0 names low))
 
 pub TypesTold-own : (names : List Name) → IsDistinct name_eq names → TypesTold names (length names) (under_types names unfilled)
 TypesTold-own names h n =
@@ -84,7 +86,8 @@ pub TermsTold-lifted : (names : List Name) (vs : List Variable) (d : ℕ) (scope
     → ((v : Variable) → other.terms v ≡ lift 1 (scope.terms v)) → TermsTold names vs (suc d) other
 TermsTold-lifted names vs d scope other l h e v k x =
     let t = told-in variable_eq variable_eq-Decides d (length names) vs v k in
-    let shifted : lookup (variable_eq v) (parameters (suc d) (length names) vs) ≡ option_map (lift 1) (lookup (variable_eq v) (parameters d (length names) vs)) = lookup-shift (variable_eq v) d (length names) vs l in
+    let shifted : lookup (variable_eq v) (parameters (suc d) (length names) vs)
+    ≡ option_map (lift 1) (lookup (variable_eq v) (parameters d (length names) vs)) = lookup-shift (variable_eq v) d (length names) vs l in
     e v ∙ ap (lift 1) (h v k bools) ∙ sym (unwrap-lift (lookup (variable_eq v) (parameters d (length names) vs)) bools)
     ∙ ap (λ o. unwrap_or o bools) (sym shifted)
     ∙ whatever (lookup (variable_eq v) (parameters (suc d) (length names) vs)) (lift 1 t.0) bools x (shifted ∙ ap (option_map (lift 1)) t.1)
@@ -102,4 +105,5 @@ TypesTold-terms names [] d scope l h = let z : d ≡ d + 0 = omega arith in subs
 TypesTold-terms names (v ∷ vs) d scope l h =
     let z : suc d + length vs ≡ d + suc (length vs) = omega arith in
     let m : length names ≤ suc d = omega (arith, l) in
-    subst (λ k. TypesTold names k (under_terms (v ∷ vs) scope).types) z (TypesTold-terms names vs (suc d) (under_term v scope) m (TypesTold-lifted names d scope.types l h))
+    subst (λ k. TypesTold names k (under_terms (v ∷ vs) scope).types) z
+    (TypesTold-terms names vs (suc d) (under_term v scope) m (TypesTold-lifted names d scope.types l h))

@@ -31,11 +31,13 @@ TermSubstitutionTranslated =
 abbrev pub SequentSubstitutionTranslated : Type 0
 SequentSubstitutionTranslated =
     (symbols : SymbolMap) (pairs : TypePairs) (terms : TermPairs) → AreClosed terms → (scope : Scope) (s : Sequent) → IsSequent s → HasInstances symbols s
-    → put_all (map (images symbols pairs terms scope).types (type_variables_of s) ++ map (images symbols pairs terms scope).terms (free_variables_of s)) (rest_tree symbols s)
+    → put_all (map (images symbols pairs terms scope).types (type_variables_of s) ++ map (images symbols pairs terms scope).terms (free_variables_of s))
+    (rest_tree symbols s)
     ≡ statement_tree symbols (map (sub pairs terms) s.hypotheses) (sub pairs terms s.conclusion) scope
 
 -- The tree of a sequent stands for its closed form.
 abbrev pub SequentsEncoded : Type 0
 SequentsEncoded =
-    (d : List Declaration) (symbols : SymbolMap) (s : Sequent) → IsSequent s → SequentWithin s → HasInstances symbols s → AllByRecursion (TermMeant d symbols) (terms_of s)
+    (d : List Declaration) (symbols : SymbolMap) (s : Sequent) → IsSequent s → SequentWithin s → HasInstances symbols s
+    → AllByRecursion (TermMeant d symbols) (terms_of s)
     → Enc d (closed_form s) (sequent_tree symbols s)

@@ -50,7 +50,8 @@ all-still wanted (x ∷ xs) k h = all-still (wanted_after wanted x) xs k (wanted
 pub needs-wanted : (wanted : List Key) (x : Item) (earlier : List Item) → is_wanted wanted x ≡ true → (k : Key) → IsIn (needs x.content) k
     → IsIn (all_wanted wanted (x ∷ earlier)) k
 needs-wanted wanted x earlier h k i =
-    all-still (wanted_after wanted x) earlier k (subst (λ b. IsIn (cond b (wanted ++ needs x.content) wanted) k) (sym h) (IsIn-right wanted (needs x.content) k i))
+    all-still (wanted_after wanted x) earlier k
+    (subst (λ b. IsIn (cond b (wanted ++ needs x.content) wanted) k) (sym h) (IsIn-right wanted (needs x.content) k i))
 
 -- The law of wanted items: what gives a key that a wanted item needs is wanted in the end
 pub needed-is_wanted : (wanted : List Key) (x y : Item) (earlier : List Item) → is_wanted wanted x ≡ true → IsIn (needs x.content) (gives y)
@@ -64,7 +65,8 @@ NumberedFrom i (x ∷ xs) = (x.symbol ≡ i) × NumberedFrom (suc i) xs
 
 pub at-least : (i : ℕ) (xs : List Item) → NumberedFrom i xs → AllByRecursion (λ (x : Item). i ≤ x.symbol) xs
 at-least i [] h = tt
-at-least i (x ∷ xs) h = (omega (arith, h.0), All-weaker (λ (y : Item). suc i ≤ y.symbol) (λ (y : Item). i ≤ y.symbol) (λ y k. omega (arith, k)) xs (at-least (suc i) xs h.1))
+at-least i (x ∷ xs) h =
+    (omega (arith, h.0), All-weaker (λ (y : Item). suc i ≤ y.symbol) (λ (y : Item). i ≤ y.symbol) (λ y k. omega (arith, k)) xs (at-least (suc i) xs h.1))
 
 numbered-last : (i : ℕ) (xs : List Item) (x : Item) → NumberedFrom i xs → x.symbol ≡ i + length xs → NumberedFrom i (xs ++ x ∷ [])
 numbered-last i [] x h e = (e ∙ (let z : i + 0 ≡ i = omega arith in z), tt {0})
@@ -94,10 +96,13 @@ module _ (roots : List Key) where
   choose_other b x y e = ap (λ c. cond c x y) e
 
   -- the flag of an item with others before it
-  pub keep-at : (before xs : List Item) (x : Item) → AllByRecursion (λ (z : Item). z.symbol < x.symbol) before → keep_of roots (before ++ x ∷ xs) x.symbol ≡ is_wanted (wanted_from roots xs) x
-  keep-at [] xs x h = choose (x.symbol == x.symbol) (is_wanted (wanted_from roots xs) x) (keep_of roots xs x.symbol) ((unsigned_Decides x.symbol x.symbol).1 refl)
+  pub keep-at : (before xs : List Item) (x : Item) → AllByRecursion (λ (z : Item). z.symbol < x.symbol) before → keep_of roots (before ++ x ∷ xs) x.symbol
+      ≡ is_wanted (wanted_from roots xs) x
+  keep-at [] xs x h = choose (x.symbol == x.symbol) (is_wanted (wanted_from roots xs) x) (keep_of roots xs x.symbol)
+      ((unsigned_Decides x.symbol x.symbol).1 refl)
   keep-at (z ∷ zs) xs x h =
-      choose_other (x.symbol == z.symbol) (is_wanted (wanted_from roots (zs ++ x ∷ xs)) z) (keep_of roots (zs ++ x ∷ xs) x.symbol) (ne_eqb x.symbol z.symbol (λ e. omega (arith, h.0, e)))
+      choose_other (x.symbol == z.symbol) (is_wanted (wanted_from roots (zs ++ x ∷ xs)) z) (keep_of roots (zs ++ x ∷ xs) x.symbol)
+      (ne_eqb x.symbol z.symbol (λ e. omega (arith, h.0, e)))
       ∙ keep-at zs xs x h.1
 
   -- what is wanted of those before is kept
@@ -106,23 +111,27 @@ module _ (roots : List Key) where
   keep-wanted i [] rest y n k w = absurd k
   keep-wanted i (z ∷ zs) rest y n (inl e) w =
       ap (λ (u : Item). keep_of roots (z ∷ zs ++ rest) u.symbol) e
-      ∙ choose (z.symbol == z.symbol) (is_wanted (wanted_from roots (zs ++ rest)) z) (keep_of roots (zs ++ rest) z.symbol) ((unsigned_Decides z.symbol z.symbol).1 refl)
+      ∙ choose (z.symbol == z.symbol) (is_wanted (wanted_from roots (zs ++ rest)) z) (keep_of roots (zs ++ rest) z.symbol)
+      ((unsigned_Decides z.symbol z.symbol).1 refl)
       ∙ wanted-in (wanted_from roots (zs ++ rest)) (gives z) (wanted_from-still zs rest (gives z) (subst (λ u. IsIn (wanted_from roots rest) (gives u)) e w))
   keep-wanted i (z ∷ zs) rest y n (inr k) w =
       let later : suc i ≤ y.symbol = All-at (λ (u : Item). suc i ≤ u.symbol) zs y (at-least (suc i) zs n.1) k in
-      choose_other (y.symbol == z.symbol) (is_wanted (wanted_from roots (zs ++ rest)) z) (keep_of roots (zs ++ rest) y.symbol) (ne_eqb y.symbol z.symbol (λ e. omega (arith, later, n.0, e)))
+      choose_other (y.symbol == z.symbol) (is_wanted (wanted_from roots (zs ++ rest)) z) (keep_of roots (zs ++ rest) y.symbol)
+      (ne_eqb y.symbol z.symbol (λ e. omega (arith, later, n.0, e)))
       ∙ keep-wanted (suc i) zs rest y n.1 k w
 
   pub made-numbered : (before xs : List Item) → NumberedFrom 0 before → AreMadeInOrder before xs → AreNumbered (keep_of roots (before ++ xs)) before xs
   made-numbered before [] n h = tt
   made-numbered before (x ∷ xs) n h =
       let place : x.symbol ≡ 0 + length before = h.0 ∙ (let z : length before ≡ 0 + length before = omega arith in z) in
-      let low : AllByRecursion (λ (z : Item). z.symbol < x.symbol) before = subst (λ k. AllByRecursion (λ (z : Item). z.symbol < k) before) (sym place) (below 0 before n) in (
+      let low : AllByRecursion (λ (z : Item). z.symbol < x.symbol) before =
+      subst (λ k. AllByRecursion (λ (z : Item). z.symbol < k) before) (sym place) (below 0 before n) in (
         h.0,
         h.1,
         h.2,
         λ kept y i k. keep-wanted 0 before (x ∷ xs) y n i
             (subst (λ b. IsIn (cond b (wanted_from roots xs ++ needs x.content) (wanted_from roots xs)) (gives y)) (sym (sym (keep-at before xs x low) ∙ kept))
             (IsIn-right (wanted_from roots xs) (needs x.content) (gives y) k)),
-        subst (λ l. AreNumbered (keep_of roots l) (before ++ x ∷ []) xs) (append_assoc before (x ∷ []) xs) (made-numbered (before ++ x ∷ []) xs (numbered-last 0 before x n place) h.3),
+        subst (λ l. AreNumbered (keep_of roots l) (before ++ x ∷ []) xs) (append_assoc before (x ∷ []) xs)
+            (made-numbered (before ++ x ∷ []) xs (numbered-last 0 before x n place) h.3),
       )

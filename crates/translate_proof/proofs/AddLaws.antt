@@ -17,20 +17,23 @@ module _ {A : Type 0} (f : A → Tree) where
   pub adds-begin : (First : List Tree → Type 0) (xs : List A) → AddsUp First First xs xs
   adds-begin First xs = record { each = λ made h. (made, h, refl) }
 
-  pub adds-next : (First Now Later : List Tree → Type 0) (xs rest left : List A) (x : A) → rest ≡ x ∷ left → ((made : List Tree) → Now made → Later (made ++ f x ∷ [])) → AddsUp First Now xs rest → AddsUp First Later xs left
+  pub adds-next : (First Now Later : List Tree → Type 0) (xs rest left : List A) (x : A) → rest ≡ x ∷ left
+      → ((made : List Tree) → Now made → Later (made ++ f x ∷ [])) → AddsUp First Now xs rest → AddsUp First Later xs left
   adds-next First Now Later xs rest left x e step h = record {
     each = λ made t.
         let w = h.each made t in
         (w.0 ++ f x ∷ [], step w.0 w.1, append_assoc w.0 (f x ∷ []) (map f left) ∙ ap (λ l. w.0 ++ map f l) (sym e) ∙ w.2);
   }
 
-  pub adds-end : (First Now : List Tree → Type 0) (xs rest : List A) → rest ≡ [] → AddsUp First Now xs rest → (made : List Tree) → First made → Now (made ++ map f xs)
+  pub adds-end : (First Now : List Tree → Type 0) (xs rest : List A) → rest ≡ [] → AddsUp First Now xs rest → (made : List Tree) → First made
+      → Now (made ++ map f xs)
   adds-end First Now xs rest e h made t =
       let w = h.each made t in
       subst Now (sym (append-nil w.0) ∙ ap (λ l. w.0 ++ map f l) (sym e) ∙ w.2) w.1
 
 -- what holds of each variable holds of each of the rest
-pub All-drop : (P : ATerm → Type 0) (trees : Trees) (i : ℕ) (vs : List Variable) → AllByRecursion P (variables_of trees vs) → AllByRecursion P (variables_of trees (drop i vs))
+pub All-drop : (P : ATerm → Type 0) (trees : Trees) (i : ℕ) (vs : List Variable) → AllByRecursion P (variables_of trees vs)
+    → AllByRecursion P (variables_of trees (drop i vs))
 All-drop P trees zero vs h = h
 All-drop P trees (suc i) [] h = tt
 All-drop P trees (suc i) (v ∷ vs) h = All-drop P trees i vs h.1

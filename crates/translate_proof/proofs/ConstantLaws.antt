@@ -52,25 +52,31 @@ module _ (trees : Trees) (distinct : type.IsDistinct trees.types) (v : AVariable
       → lookup (variable_eq own) (constants_put (pairs_view trees ps)) ≡ option_map (λ n. constant n own.1) (lookup (same_variable v) (by_variable ps))
   lookup-constants_put [] h = refl
   lookup-constants_put (p ∷ ps) h =
-      ap (λ b. cond b (Some (constant p.0 (type_at trees p.1.ty.0))) (lookup (variable_eq own) (constants_put (pairs_view trees ps)))) (sym (same-seen trees.types distinct v p.1 known h.0))
+      ap (λ b. cond b (Some (constant p.0 (type_at trees p.1.ty.0))) (lookup (variable_eq own) (constants_put (pairs_view trees ps))))
+      (sym (same-seen trees.types distinct v p.1 known h.0))
       ∙ go (same_variable v p.1) (own-type p.1 h.0) (lookup-constants_put ps h.1)
     where
-      go : (b : Bool) → (b ≡ true → type_at trees p.1.ty.0 ≡ own.1) → lookup (variable_eq own) (constants_put (pairs_view trees ps)) ≡ option_map (λ n. constant n own.1) (lookup (same_variable v) (by_variable ps))
-          → cond b (Some (constant p.0 (type_at trees p.1.ty.0))) (lookup (variable_eq own) (constants_put (pairs_view trees ps))) ≡ option_map (λ n. constant n own.1) (cond b (Some p.0) (lookup (same_variable v) (by_variable ps)))
+      go : (b : Bool) → (b ≡ true → type_at trees p.1.ty.0 ≡ own.1) → lookup (variable_eq own) (constants_put (pairs_view trees ps))
+          ≡ option_map (λ n. constant n own.1) (lookup (same_variable v) (by_variable ps))
+          → cond b (Some (constant p.0 (type_at trees p.1.ty.0))) (lookup (variable_eq own) (constants_put (pairs_view trees ps)))
+          ≡ option_map (λ n. constant n own.1) (cond b (Some p.0) (lookup (same_variable v) (by_variable ps)))
       go true same on = ap (λ a. Some (constant p.0 a)) (same refl)
       go false same on = on
 
   -- the module tells the constant that is found
-  pub TellsConstants-found : (given : Given) (ps : List (Name × AVariable)) (n : Name) → AreConstantPairsKnown trees ps → TellsConstants given (pairs_view trees ps) → lookup (same_variable v) (by_variable ps) ≡ Some n
+  pub TellsConstants-found : (given : Given) (ps : List (Name × AVariable)) (n : Name) → AreConstantPairsKnown trees ps
+      → TellsConstants given (pairs_view trees ps) → lookup (same_variable v) (by_variable ps) ≡ Some n
       → TellsConstant given.declarations given.symbols n own.1
   TellsConstants-found given [] n h told e = absurd (cc)
   TellsConstants-found given (p ∷ ps) n h told e = go (same_variable v p.1) (own-type p.1 h.0) (TellsConstants-found given ps n h.1 told.1) e
     where
-      go : (b : Bool) → (b ≡ true → type_at trees p.1.ty.0 ≡ own.1) → (lookup (same_variable v) (by_variable ps) ≡ Some n → TellsConstant given.declarations given.symbols n own.1)
+      go : (b : Bool) → (b ≡ true → type_at trees p.1.ty.0 ≡ own.1)
+          → (lookup (same_variable v) (by_variable ps) ≡ Some n → TellsConstant given.declarations given.symbols n own.1)
           → cond b (Some p.0) (lookup (same_variable v) (by_variable ps)) ≡ Some n → TellsConstant given.declarations given.symbols n own.1
       go true same on f =
           let name : p.0 ≡ n = cc in
-          subst (λ m. TellsConstant given.declarations given.symbols m own.1) name (subst (TellsConstant given.declarations given.symbols p.0) (same refl) told.0)
+          subst (λ m. TellsConstant given.declarations given.symbols m own.1) name
+          (subst (TellsConstant given.declarations given.symbols p.0) (same refl) told.0)
       go false same on f = on f
 
   module _ (given : Given) (ps : List (Name × AVariable)) (pairs_known : AreConstantPairsKnown trees ps) where
@@ -78,27 +84,32 @@ module _ (trees : Trees) (distinct : type.IsDistinct trees.types) (v : AVariable
     image-is = ap (λ a. term_tree given.symbols given.scope (term_image (constants_put (pairs_view trees ps)) (v.name, a))) (substitute-nothing own.1)
 
     -- where a constant is put for it, that stands for it
-    pub scope_with-found : (n : Name) → lookup (same_variable v) (by_variable ps) ≡ Some n → (scope_with given trees ps).terms own ≡ constant_tree given.symbols given.scope.types n own.1
+    pub scope_with-found : (n : Name) → lookup (same_variable v) (by_variable ps) ≡ Some n → (scope_with given trees ps).terms own
+        ≡ constant_tree given.symbols given.scope.types n own.1
     scope_with-found n e =
         image-is
-        ∙ ap (λ o. term_tree given.symbols given.scope (unwrap_or o (free v.name own.1))) (lookup-constants_put ps pairs_known ∙ ap (option_map (λ m. constant m own.1)) e)
+        ∙ ap (λ o. term_tree given.symbols given.scope (unwrap_or o (free v.name own.1)))
+        (lookup-constants_put ps pairs_known ∙ ap (option_map (λ m. constant m own.1)) e)
 
     -- or else what stands for it where none are put
     pub scope_with-absent : lookup (same_variable v) (by_variable ps) ≡ None → (scope_with given trees ps).terms own ≡ given.scope.terms own
     scope_with-absent e =
         image-is
-        ∙ ap (λ o. term_tree given.symbols given.scope (unwrap_or o (free v.name own.1))) (lookup-constants_put ps pairs_known ∙ ap (option_map (λ m. constant m own.1)) e)
+        ∙ ap (λ o. term_tree given.symbols given.scope (unwrap_or o (free v.name own.1)))
+        (lookup-constants_put ps pairs_known ∙ ap (option_map (λ m. constant m own.1)) e)
 
 -- a constant in an environment is one in the scope that it stands for
 module _ (given : Given) (m : Module) (terms : Trees) (env : Environment) (h : Represents given m terms env) where
-  pub constant-stands : (n : Name) (a : HolType) → constant_tree given.symbols (told_types (types_in m.table env.scope.types)) n a ≡ constant_tree given.symbols given.scope.types n a
+  pub constant-stands : (n : Name) (a : HolType) → constant_tree given.symbols (told_types (types_in m.table env.scope.types)) n a
+      ≡ constant_tree given.symbols given.scope.types n a
   constant-stands n a = ap (λ w. constant_tree given.symbols w n a) (ap (λ es. told_types (types_in m.table es)) h.same_types ∙ fun_ext h.types.each)
 
   pub declared-constant : (n : Name) (a : HolType) → TellsConstant given.declarations given.symbols n a → TellsConstant (declarations_of m) given.symbols n a
   declared-constant n a t = subst (λ d. TellsConstant d given.symbols n a) (sym h.declared) t
 
 -- the hypotheses that define constants are equations
-pub definition_list-equations : (pairs : ConstantPairs) (one : Sequent) → IsSequent one → IsTrue (is_definition_list pairs one) → AllByRecursion IsEquationFormula one.hypotheses
+pub definition_list-equations : (pairs : ConstantPairs) (one : Sequent) → IsSequent one → IsTrue (is_definition_list pairs one)
+    → AllByRecursion IsEquationFormula one.hypotheses
 definition_list-equations pairs one is good =
     let each = every-hypothesis pairs one is good in
     All-each IsEquationFormula one.hypotheses (λ h i.
@@ -107,14 +118,16 @@ definition_list-equations pairs one is good =
     record { ty = e.0.0.1; left = free e.0.0.0 e.0.0.1; right = e.0.1; is = hypothesis-is h e.0 typed e.1.0; typed = typed })
 
 -- an equation that is taken apart
-module _ (trees : Trees) (id left right : TermId) (h : IsEquationFormula (term_at trees id.0)) (e : IsEquation (term_at trees id.0) (term_at trees left.0) (term_at trees right.0)) where
+module _ (trees : Trees) (id left right : TermId) (h : IsEquationFormula (term_at trees id.0))
+    (e : IsEquation (term_at trees id.0) (term_at trees left.0) (term_at trees right.0)) where
   both : SidesOf e.0 (term_at trees left.0) (term_at trees right.0)
   both = equation-sides e.0 (term_at trees left.0) (term_at trees right.0) (term_at trees id.0) e.1 h.typed
 
   pub left_side-IsTerm : IsTerm (term_at trees left.0)
   left_side-IsTerm = subst IsSome (sym both.left) refl
 
-  pub equated-IsEquatedFormula : (ty : TypeId) → id.0 < length trees.terms → right.0 < id.0 → ty.0 < length trees.types → HasType (term_at trees left.0) (type_at trees ty.0) → IsEquatedFormula trees (term_at trees id.0) (record { ty = ty; left = left; right = right })
+  pub equated-IsEquatedFormula : (ty : TypeId) → id.0 < length trees.terms → right.0 < id.0 → ty.0 < length trees.types
+      → HasType (term_at trees left.0) (type_at trees ty.0) → IsEquatedFormula trees (term_at trees id.0) (record { ty = ty; left = left; right = right })
   equated-IsEquatedFormula ty known less ty_known typed =
       let same : e.0 ≡ type_at trees ty.0 = same_Some _ _ (sym both.left ∙ typed) in
       record {
@@ -134,4 +147,8 @@ module _ (trees : Trees) (h : Term) (e : Equated) (is : IsEquatedFormula trees h
     formula_type-told = (subst (TellsTerm given.declarations given.symbols) is.is told).0.0.ty.1.0
 
     pub formula_right-told : IsTold given (term_at trees e.right.0)
-    formula_right-told = record { told = (subst (TellsTerm given.declarations given.symbols) is.is told).1; closed = typed-closed (term_at trees e.right.0) (type_at trees e.ty.0) is.typed }
+    formula_right-told = record {
+      told = (subst (TellsTerm given.declarations given.symbols) is.is told).1;
+      closed =
+          typed-closed (term_at trees e.right.0) (type_at trees e.ty.0) is.typed;
+    }

@@ -22,12 +22,15 @@ module _ {K V X Y : Type 0} (same : K → K → Bool) (eq : X → X → Bool) (d
   twice false x y o = refl
 
   -- after a pair is put in, its key has its value, and the others have what they had
-  pub lookup-insert_entry : (k : K) (v : V) (x : X) (es : List (K × V)) → AllByRecursion (λ e. same k e.0 ≡ eq (seen k) (seen e.0)) es → lookup (eq x) (viewed (insert_entry same es k v)) ≡ cond (eq x (seen k)) (Some (made v)) (lookup (eq x) (viewed es))
+  pub lookup-insert_entry : (k : K) (v : V) (x : X) (es : List (K × V)) → AllByRecursion (λ e. same k e.0 ≡ eq (seen k) (seen e.0)) es
+      → lookup (eq x) (viewed (insert_entry same es k v)) ≡ cond (eq x (seen k)) (Some (made v)) (lookup (eq x) (viewed es))
   lookup-insert_entry k v x [] h = refl
   lookup-insert_entry k v x (e ∷ es) h = go (same k e.0) h.0 (lookup-insert_entry k v x es h.1)
     where
-      go : (b : Bool) → b ≡ eq (seen k) (seen e.0) → lookup (eq x) (viewed (insert_entry same es k v)) ≡ cond (eq x (seen k)) (Some (made v)) (lookup (eq x) (viewed es))
-          → lookup (eq x) (viewed (cond b ((e.0, v) ∷ es) (e ∷ insert_entry same es k v))) ≡ cond (eq x (seen k)) (Some (made v)) (cond (eq x (seen e.0)) (Some (made e.1)) (lookup (eq x) (viewed es)))
+      go : (b : Bool) → b ≡ eq (seen k) (seen e.0) → lookup (eq x) (viewed (insert_entry same es k v))
+          ≡ cond (eq x (seen k)) (Some (made v)) (lookup (eq x) (viewed es))
+          → lookup (eq x) (viewed (cond b ((e.0, v) ∷ es) (e ∷ insert_entry same es k v)))
+          ≡ cond (eq x (seen k)) (Some (made v)) (cond (eq x (seen e.0)) (Some (made e.1)) (lookup (eq x) (viewed es)))
       go true is on =
           let one : seen k ≡ seen e.0 = (decides (seen k) (seen e.0)).0 (sym is) in
           twice (eq x (seen e.0)) (made v) (made e.1) (lookup (eq x) (viewed es))

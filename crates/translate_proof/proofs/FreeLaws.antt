@@ -36,12 +36,16 @@ module _ (k : Kept) (id one : ℕ) (names : TypeNames) (h : IsSecondLaw Five k i
 
     -- its proof, by what its arguments are
     pub second_free-made : (symbols : SymbolMap) (scope : Scope) (j : ℕ)
-        → applied (Sym sym_symbol) (type_tree symbols scope.types (type_at k.trees e.ty.0) ∷ term_tree symbols scope (term_at k.trees e.right.0) ∷ term_tree symbols scope (term_at k.trees e.left.0)
-        ∷ App (part_tree symbols (filled symbols scope.types) sub_rep_abs_symbol (whole_type k one) (j, sequent_at k.made one)) (term_tree symbols scope (term_at k.trees x.0)) ∷ [])
+        → applied (Sym sym_symbol)
+        (type_tree symbols scope.types (type_at k.trees e.ty.0) ∷ term_tree symbols scope (term_at k.trees e.right.0) ∷ term_tree symbols scope
+        (term_at k.trees e.left.0)
+        ∷ App (part_tree symbols (filled symbols scope.types) sub_rep_abs_symbol (whole_type k one) (j, sequent_at k.made one))
+        (term_tree symbols scope (term_at k.trees x.0)) ∷ [])
         ≡ second_law_free_tree symbols scope names (whole_type k one) (j, sequent_at k.made one)
     second_free-made symbols scope j =
         let equation = second-equation k id one names h in
         let a = equated-type k id e is ∙ ap equated_type equation in
         let r = equated-right k id e is ∙ ap right_side equation in
         λ i. applied (Sym sym_symbol) (type_tree symbols scope.types (a i) ∷ term_tree symbols scope (r i) ∷ term_tree symbols scope (free-left i)
-        ∷ App (part_tree symbols (filled symbols scope.types) sub_rep_abs_symbol (whole_type k one) (j, sequent_at k.made one)) (term_tree symbols scope (free-variable i)) ∷ [])
+        ∷ App (part_tree symbols (filled symbols scope.types) sub_rep_abs_symbol (whole_type k one) (j, sequent_at k.made one))
+        (term_tree symbols scope (free-variable i)) ∷ [])

@@ -28,13 +28,16 @@ module _ (k : Kept) (id one : ℕ) (names : TypeNames) where
   pub first-defining : {version : Version} → IsFirstLaw version k id one names → IsDefiningStep k one
   first-defining h = record { names = names; ty = h.ty; predicate = h.predicate; defines = h.defines }
 
-  pub first-equation : {version : Version} → IsFirstLaw version k id one names → (sequent_at k.made id).conclusion ≡ (first_law_of version names (whole_type k one)).conclusion
-  first-equation {version = version} h = ap (λ (s : Sequent). s.conclusion) h.is ∙ ap (λ c. (first_law_of version names c).conclusion) (same-type h.ty h.predicate h.defines)
+  pub first-equation : {version : Version} → IsFirstLaw version k id one names → (sequent_at k.made id).conclusion
+      ≡ (first_law_of version names (whole_type k one)).conclusion
+  first-equation {version = version} h = ap (λ (s : Sequent). s.conclusion) h.is ∙ ap (λ c. (first_law_of version names c).conclusion)
+      (same-type h.ty h.predicate h.defines)
 
   pub second-defining : {version : Version} → IsSecondLaw version k id one names → IsDefiningStep k one
   second-defining h = record { names = names; ty = h.ty; predicate = h.predicate; defines = h.defines }
 
-  pub second-equation : {version : Version} → IsSecondLaw version k id one names → (sequent_at k.made id).conclusion ≡ (second_law_of version names (whole_type k one) (predicate (sequent_at k.made one).conclusion)).conclusion
+  pub second-equation : {version : Version} → IsSecondLaw version k id one names → (sequent_at k.made id).conclusion
+      ≡ (second_law_of version names (whole_type k one) (predicate (sequent_at k.made one).conclusion)).conclusion
   second-equation {version = version} h =
       ap (λ (s : Sequent). s.conclusion) h.is
       ∙ (λ i. (second_law_of version names (same-type h.ty h.predicate h.defines i) (same-predicate h.ty h.predicate h.defines i)).conclusion)

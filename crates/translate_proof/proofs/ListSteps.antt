@@ -14,7 +14,8 @@ drop-item xs i x e h = drop_more xs i x h ∙ ap (λ y. y ∷ drop (i + 1) xs) (
 -- a list is its front and its last item
 pub front-last : {X : Type 0} (xs : List X) (d : X) → 1 ≤ length xs → take (length xs - 1) xs ++ get_or xs (length xs - 1) d ∷ [] ≡ xs
 front-last xs d h =
-    ap (λ l. take (length xs - 1) xs ++ l) (sym (drop_more xs (length xs - 1) d (omega arith) ∙ ap (λ l. get_or xs (length xs - 1) d ∷ l) (drop_all (length xs - 1 + 1) xs (omega arith))))
+    ap (λ l. take (length xs - 1) xs ++ l)
+    (sym (drop_more xs (length xs - 1) d (omega arith) ∙ ap (λ l. get_or xs (length xs - 1) d ∷ l) (drop_all (length xs - 1 + 1) xs (omega arith))))
     ∙ take-append-drop (length xs - 1) xs
 
 pub front-item : {X : Type 0} (xs : List X) (x : X) → x ≡ get_or xs (length xs - 1) x → 1 ≤ length xs → take (length xs - 1) xs ++ x ∷ [] ≡ xs
@@ -38,7 +39,8 @@ drop-each P zero xs h = h
 drop-each P (suc i) [] h = tt
 drop-each P (suc i) (x ∷ xs) h = drop-each P i xs h.1
 
-pub terms-drop : (P : Term → Type 0) (trees : Trees) (i : ℕ) (ids : List TermId) → AllByRecursion P (terms_at trees ids) → AllByRecursion P (terms_at trees (drop i ids))
+pub terms-drop : (P : Term → Type 0) (trees : Trees) (i : ℕ) (ids : List TermId) → AllByRecursion P (terms_at trees ids)
+    → AllByRecursion P (terms_at trees (drop i ids))
 terms-drop P trees zero ids h = h
 terms-drop P trees (suc i) [] h = tt
 terms-drop P trees (suc i) (id ∷ ids) h = terms-drop P trees i ids h.1

@@ -10,7 +10,8 @@ use Rattle.sequent.specs.declared.params.Params.{Params}
 use Rattle.translate_proof.specs.Parameters.{AreParams}
 
 -- the parameters of a sequent over the trees of a proof are those of the step that says it
-pub params-AreParams : {E : Type 0} (k : Kept) (id : ℕ) (trees : Trees) (s : Sequent) (r : Result Params E) → trees ≡ k.trees → s ≡ sequent_at k.made id → IfOk r (λ p. p.type_vars ≡ type_variables_of s)
+pub params-AreParams : {E : Type 0} (k : Kept) (id : ℕ) (trees : Trees) (s : Sequent) (r : Result Params E) → trees ≡ k.trees → s ≡ sequent_at k.made id
+    → IfOk r (λ p. p.type_vars ≡ type_variables_of s)
     → IfOk r (λ p. variables_of trees p.free_vars ≡ free_variables_of s) → IfOk r (λ p. HaveTypes trees p.free_vars) → IfOk r (AreParams k id)
 params-AreParams k id trees s (Ok p) t e a b h = record {
   type_vars = a ∙ ap type_variables_of e;

@@ -45,7 +45,8 @@ module _ (trees : Trees) (id : ℕ) (p t : Term) (is : term_at trees id ≡ app 
   application-view (view.App f x) h other = other f x refl
   application-view (view.Lam t b) h other = absurd (let e = Some-term_in trees.terms id _ h in cc)
 
-pub argument-seen : (trees : Trees) (id : ℕ) (f x : TermId) (v : TermView) → v ≡ view.App f x → Holds trees id (tree_of_view trees v) → term_at trees x.0 ≡ witness (term_at trees id)
+pub argument-seen : (trees : Trees) (id : ℕ) (f x : TermId) (v : TermView) → v ≡ view.App f x → Holds trees id (tree_of_view trees v) → term_at trees x.0
+    ≡ witness (term_at trees id)
 argument-seen trees id f x v e h = sym (ap witness (Some-term_in trees.terms id _ (subst (λ v. Holds trees id (tree_of_view trees v)) e h)))
 
 pub argument-below : (trees : Trees) (id : ℕ) (f x : TermId) (v : TermView) → v ≡ view.App f x → ViewBelow trees id v → x.0 < id
@@ -58,7 +59,8 @@ argument-told given f x t e h =
     record { told = (subst (TellsTerm given.declarations given.symbols) e h.told).1; closed = omega (arith, closed) }
 
 -- What a step says is that a predicate holds in a term
-module _ (k : Kept) (id : ℕ) (l : id < step_count k) (p : IsProof k.made) (s : NumberSequent) (is : numbers.sequent_at k.trees s ≡ sequent_at k.made id) (known : numbers.IsKnown k.trees s) (d : IsDefiningStep k id) where
+module _ (k : Kept) (id : ℕ) (l : id < step_count k) (p : IsProof k.made) (s : NumberSequent) (is : numbers.sequent_at k.trees s ≡ sequent_at k.made id)
+    (known : numbers.IsKnown k.trees s) (d : IsDefiningStep k id) where
   conclusion-holds : term_at k.trees s.concl.0 ≡ app d.predicate d.defines.witness
   conclusion-holds = conclusion-same k id s is ∙ d.defines.holds
 
@@ -76,7 +78,8 @@ module _ (k : Kept) (id : ℕ) (l : id < step_count k) (p : IsProof k.made) (s :
         subst IsTerm same (subst IsSome (sym d.defines.typed) refl)
 
     -- these are the numbers of its parts
-    pub holding-is : ViewBelow k.trees s.concl.0 v → (ty : TypeId) → ty.0 < length k.trees.types → HasType (term_at k.trees x.0) (type_at k.trees ty.0) → IsHolding k id (record { ty = ty; predicate = f; witness = x })
+    pub holding-is : ViewBelow k.trees s.concl.0 v → (ty : TypeId) → ty.0 < length k.trees.types → HasType (term_at k.trees x.0) (type_at k.trees ty.0)
+        → IsHolding k id (record { ty = ty; predicate = f; witness = x })
     holding-is below ty a t =
         let lower : (f.0 < s.concl.0) × (x.0 < s.concl.0) = subst (ViewBelow k.trees s.concl.0) e below in
         let whole = sym (conclusion-same k id s is) ∙ parts in
@@ -115,7 +118,8 @@ module _ (k : Kept) (id : ℕ) (h : Holding) (is : IsHolding k id h) where
       witness-told = record { told = both-told.1; closed = omega (arith, both-closed) }
 
 -- An equation of two functions
-module _ (k : Kept) (id : ℕ) (e : Equated) (h : IsEquated k id e) (a b : HolType) (t u : Term) (is : (sequent_at k.made id).conclusion ≡ equation (function a b) t u) where
+module _ (k : Kept) (id : ℕ) (e : Equated) (h : IsEquated k id e) (a b : HolType) (t u : Term)
+    (is : (sequent_at k.made id).conclusion ≡ equation (function a b) t u) where
   functions-type : type_at k.trees e.ty.0 ≡ function a b
   functions-type = equated-type k id e h ∙ ap equated_type is
 
@@ -174,15 +178,21 @@ module _ (k : Kept) (id : ℕ) (f : Functions) (is : AreFunctions k id f) where
     functions-right = equated-right k id f.sides is.sides ∙ ap right_side e
 
 -- The proof of a law, by what its arguments are
-pub law-made : (symbols : SymbolMap) (scope : Scope) (from a to b : HolType) (left right t u : Term) (s : ℕ) (c : HolType) (one : Premise) (domain : Tree) → from ≡ a → to ≡ b → left ≡ Term.lam a t → right ≡ Term.lam a u → domain ≡ type_tree symbols scope.types from
-    → applied (Sym fun_ext_symbol) (type_tree symbols scope.types from ∷ type_tree symbols scope.types to ∷ term_tree symbols scope left ∷ term_tree symbols scope right
+pub law-made : (symbols : SymbolMap) (scope : Scope) (from a to b : HolType) (left right t u : Term) (s : ℕ) (c : HolType) (one : Premise) (domain : Tree)
+    → from ≡ a → to ≡ b → left ≡ Term.lam a t → right ≡ Term.lam a u → domain ≡ type_tree symbols scope.types from
+    → applied (Sym fun_ext_symbol)
+    (type_tree symbols scope.types from ∷ type_tree symbols scope.types to ∷ term_tree symbols scope left ∷ term_tree symbols scope right
     ∷ Lam (term_of domain) (App (part_tree symbols (lifted scope) s c one) (Var 0)) ∷ [])
     ≡ law_tree symbols scope a b t u s c one
 law-made symbols scope from a to b left right t u s c one domain p q l r d = λ i.
-    applied (Sym fun_ext_symbol) (type_tree symbols scope.types (p i) ∷ type_tree symbols scope.types (q i) ∷ term_tree symbols scope (l i) ∷ term_tree symbols scope (r i)
+    applied (Sym fun_ext_symbol)
+    (type_tree symbols scope.types (p i) ∷ type_tree symbols scope.types (q i) ∷ term_tree symbols scope (l i) ∷ term_tree symbols scope (r i)
     ∷ Lam (term_of ((d ∙ ap (type_tree symbols scope.types) p) i)) (App (part_tree symbols (lifted scope) s c one) (Var 0)) ∷ [])
 
 -- What a part stands for, by what its arguments are
-pub part-made : (symbols : SymbolMap) (scope : Scope) (s : ℕ) (a c : HolType) (f x : Term) (one : Premise) → a ≡ c → f ≡ predicate one.1.conclusion → x ≡ witness one.1.conclusion
-    → applied (Sym s) (type_tree symbols scope.types a ∷ term_tree symbols scope f ∷ term_tree symbols scope x ∷ theorem_tree scope one.0 one.1 ∷ []) ≡ part_tree symbols scope s c one
-part-made symbols scope s a c f x one p q r = λ i. applied (Sym s) (type_tree symbols scope.types (p i) ∷ term_tree symbols scope (q i) ∷ term_tree symbols scope (r i) ∷ theorem_tree scope one.0 one.1 ∷ [])
+pub part-made : (symbols : SymbolMap) (scope : Scope) (s : ℕ) (a c : HolType) (f x : Term) (one : Premise) → a ≡ c → f ≡ predicate one.1.conclusion → x
+    ≡ witness one.1.conclusion
+    → applied (Sym s) (type_tree symbols scope.types a ∷ term_tree symbols scope f ∷ term_tree symbols scope x ∷ theorem_tree scope one.0 one.1 ∷ [])
+    ≡ part_tree symbols scope s c one
+part-made symbols scope s a c f x one p q r = λ i. applied (Sym s)
+    (type_tree symbols scope.types (p i) ∷ term_tree symbols scope (q i) ∷ term_tree symbols scope (r i) ∷ theorem_tree scope one.0 one.1 ∷ [])

@@ -15,13 +15,15 @@ pub TypesAlone-refl : (e : Environment) → TypesAlone e e
 TypesAlone-refl e = record { terms = refl; proofs = refl; scope_terms = refl; same = λ h. h }
 
 pub TypesAlone-trans : {a b c : Environment} → TypesAlone a b → TypesAlone b c → TypesAlone a c
-TypesAlone-trans h k = record { terms = k.terms ∙ h.terms; proofs = k.proofs ∙ h.proofs; scope_terms = k.scope_terms ∙ h.scope_terms; same = λ e. k.same (h.same e) }
+TypesAlone-trans h k = record
+    { terms = k.terms ∙ h.terms; proofs = k.proofs ∙ h.proofs; scope_terms = k.scope_terms ∙ h.scope_terms; same = λ e. k.same (h.same e) }
 
 pub TermsAlone-refl : (e : Environment) → TermsAlone e e
 TermsAlone-refl e = record { types = refl; proofs = refl; scope_types = refl; same = λ h. h }
 
 pub TermsAlone-trans : {a b c : Environment} → TermsAlone a b → TermsAlone b c → TermsAlone a c
-TermsAlone-trans h k = record { types = k.types ∙ h.types; proofs = k.proofs ∙ h.proofs; scope_types = k.scope_types ∙ h.scope_types; same = λ e. k.same (h.same e) }
+TermsAlone-trans h k = record
+    { types = k.types ∙ h.types; proofs = k.proofs ∙ h.proofs; scope_types = k.scope_types ∙ h.scope_types; same = λ e. k.same (h.same e) }
 
 pub ProofsAlone-refl : (e : Environment) → ProofsAlone e e
 ProofsAlone-refl e = record { types = refl; terms = refl; scope = refl }
@@ -32,20 +34,28 @@ ProofsAlone-trans h k = record { types = k.types ∙ h.types; terms = k.terms �
 module _ {A E : Type 0} (same : A → A → Bool) (Tell : List Tree → E → (A → Tree) → Type 0) where
   -- what pairs tell while the binders from the outermost of so many on are let stand for one after another, of which these are left
   pub record Places (old now : List Tree) (before after : E) (xs rest : List A) (depth place : ℕ) : Type 0 where
-    pub each : (scope : A → Tree) → Tell old before scope → (so_far : A → Tree) × Tell now after so_far × (placed same place rest so_far ≡ placed same depth xs scope)
+    pub each : (scope : A → Tree) → Tell old before scope → (so_far : A → Tree) × Tell now after so_far
+        × (placed same place rest so_far ≡ placed same depth xs scope)
 
   pub places-begin : (trees : List Tree) (es : E) (xs : List A) (depth : ℕ) → Places trees trees es es xs xs depth depth
   places-begin trees es xs depth = record { each = λ scope h. (scope, h, refl) }
 
-  pub places-next : (old now new : List Tree) (before after next : E) (xs rest left : List A) (x : A) (depth place here : ℕ) → rest ≡ x ∷ left → here ≡ place - 1
-      → ((scope : A → Tree) → Tell now after scope → Tell new next (λ y. cond (same y x) (Var here) (scope y))) → Places old now before after xs rest depth place → Places old new before next xs left depth here
+  pub places-next : (old now new : List Tree) (before after next : E) (xs rest left : List A) (x : A) (depth place here : ℕ) → rest ≡ x ∷ left → here
+      ≡ place - 1
+      → ((scope : A → Tree) → Tell now after scope → Tell new next (λ y. cond (same y x) (Var here) (scope y)))
+      → Places old now before after xs rest depth place → Places old new before next xs left depth here
   places-next old now new before after next xs rest left x depth place here e p step h = record {
     each = λ scope t.
-        let w = h.each scope t in
-        ((λ y. cond (same y x) (Var here) (w.0 y)), step w.0 w.1, ap (λ k. placed same k left (λ y. cond (same y x) (Var k) (w.0 y))) p ∙ ap (λ l. placed same place l w.0) (sym e) ∙ w.2);
+        let w = h.each scope t in (
+          (λ y. cond (same y x) (Var here) (w.0 y)),
+          step w.0 w.1,
+          ap (λ k. placed same k left (λ y. cond (same y x) (Var k) (w.0 y))) p
+              ∙ ap (λ l. placed same place l w.0) (sym e) ∙ w.2,
+        );
   }
 
-  pub places-end : (old now : List Tree) (before after : E) (xs rest : List A) (depth place : ℕ) → rest ≡ [] → Places old now before after xs rest depth place → (scope : A → Tree) → Tell old before scope → Tell now after (placed same depth xs scope)
+  pub places-end : (old now : List Tree) (before after : E) (xs rest : List A) (depth place : ℕ) → rest ≡ [] → Places old now before after xs rest depth place
+      → (scope : A → Tree) → Tell old before scope → Tell now after (placed same depth xs scope)
   places-end old now before after xs rest depth place e h scope t =
       let w = h.each scope t in
       subst (Tell now after) (ap (λ l. placed same place l w.0) (sym e) ∙ w.2) w.1

@@ -43,24 +43,28 @@ rises ids r i j l m = go (nat_le j i) refl
     go false e = let less : i < j = grind (arith, e) in omega (arith, r.each i j less m)
 
 position-at : (p : ℕ → Bool) (xs : List ℕ) (i : ℕ) → position_or_len p xs ≡ i → i < length xs → position p xs ≡ Some i
-position-at p xs i e l = ap (λ n. cond (nat_lt n (length xs)) (Some n) None) e ∙ ap (λ b. cond b (Some i) None) (let h : nat_lt i (length xs) ≡ true = grind (arith, l) in h)
+position-at p xs i e l = ap (λ n. cond (nat_lt n (length xs)) (Some n) None) e ∙ ap (λ b. cond b (Some i) None)
+    (let h : nat_lt i (length xs) ≡ true = grind (arith, l) in h)
 
 position-past : (p : ℕ → Bool) (xs : List ℕ) → position_or_len p xs ≡ length xs → position p xs ≡ None
-position-past p xs e = ap (λ n. cond (nat_lt n (length xs)) (Some n) None) e ∙ ap (λ b. cond b (Some (length xs)) None) (let h : nat_lt (length xs) (length xs) ≡ false = grind arith in h)
+position-past p xs e = ap (λ n. cond (nat_lt n (length xs)) (Some n) None) e ∙ ap (λ b. cond b (Some (length xs)) None)
+    (let h : nat_lt (length xs) (length xs) ≡ false = grind arith in h)
 
 -- what a search finds
 pub search-found : (ids : List ℕ) (x i : ℕ) → IsRising ids → IsBinarySearchResult (λ y. nat_cmp y x) ids (Ok i) → Some i ≡ position (nat_eq x) ids
 search-found ids x i r h =
     let w = searched ids x (Ok i) h (rises ids r) in
     sym (position-at (nat_eq x) ids i
-    (first-place (nat_eq x) ids i w.0 (equals x (get_or ids i 0) (sym w.1)) (λ k l. differs x (get_or ids k 0) (λ e. absurd (let less = r.each k i l w.0 in omega (arith, less, e, w.1))))) w.0)
+    (first-place (nat_eq x) ids i w.0 (equals x (get_or ids i 0) (sym w.1))
+    (λ k l. differs x (get_or ids k 0) (λ e. absurd (let less = r.each k i l w.0 in omega (arith, less, e, w.1))))) w.0)
 
 pub search-missed : (ids : List ℕ) (x i : ℕ) → IsRising ids → IsBinarySearchResult (λ y. nat_cmp y x) ids (Err i) → None ≡ position (nat_eq x) ids
 search-missed ids x i r h =
     let w = searched ids x (Err i) h (rises ids r) in
     sym (position-past (nat_eq x) ids (no-place (nat_eq x) ids (λ k l. differs x (get_or ids k 0) (λ e. go k l e w (nat_lt k i) refl))))
   where
-    go : (k : ℕ) → k < length ids → x ≡ get_or ids k 0 → (i ≤ length ids) × ((k : ℕ) → k < i → get_or ids k 0 < x) × ((k : ℕ) → i ≤ k → k < length ids → x < get_or ids k 0) → (b : Bool) → nat_lt k i ≡ b → ⊥
+    go : (k : ℕ) → k < length ids → x ≡ get_or ids k 0 → (i ≤ length ids) × ((k : ℕ) → k < i → get_or ids k 0 < x)
+        × ((k : ℕ) → i ≤ k → k < length ids → x < get_or ids k 0) → (b : Bool) → nat_lt k i ≡ b → ⊥
     go k l e w true q = let less = w.1 k (let m : k < i = grind (arith, q) in m) in omega (arith, less, e)
     go k l e w false q = let more = w.2 k (let m : i ≤ k = grind (arith, q) in m) l in omega (arith, more, e)
 
@@ -68,7 +72,8 @@ search-missed ids x i r h =
 pub place-is_in : (p : ℕ → Bool) (xs : List ℕ) (i : ℕ) → Some i ≡ position p xs → list_any p xs ≡ true
 place-is_in p xs i e = go xs (by (nat_lt (position_or_len p xs) (length xs)) refl (sym e))
   where
-    by : (b : Bool) → nat_lt (position_or_len p xs) (length xs) ≡ b → cond (nat_lt (position_or_len p xs) (length xs)) (Some (position_or_len p xs)) None ≡ Some i → position_or_len p xs < length xs
+    by : (b : Bool) → nat_lt (position_or_len p xs) (length xs) ≡ b → cond (nat_lt (position_or_len p xs) (length xs)) (Some (position_or_len p xs)) None
+        ≡ Some i → position_or_len p xs < length xs
     by true q f = grind (arith, q)
     by false q f = absurd (let g : None ≡ Some i = sym (ap (λ b. cond b (Some (position_or_len p xs)) None) q) ∙ f in cc)
 
@@ -85,7 +90,8 @@ place-is_in p xs i e = go xs (by (nat_lt (position_or_len p xs) (length xs)) ref
 pub place-not_in : (p : ℕ → Bool) (xs : List ℕ) → None ≡ position p xs → list_any p xs ≡ false
 place-not_in p xs e = go xs (by (nat_lt (position_or_len p xs) (length xs)) refl (sym e))
   where
-    by : (b : Bool) → nat_lt (position_or_len p xs) (length xs) ≡ b → cond (nat_lt (position_or_len p xs) (length xs)) (Some (position_or_len p xs)) None ≡ None → length xs ≤ position_or_len p xs
+    by : (b : Bool) → nat_lt (position_or_len p xs) (length xs) ≡ b → cond (nat_lt (position_or_len p xs) (length xs)) (Some (position_or_len p xs)) None ≡ None
+        → length xs ≤ position_or_len p xs
     by true q f = absurd (let g : Some (position_or_len p xs) ≡ None = sym (ap (λ b. cond b (Some (position_or_len p xs)) None) q) ∙ f in cc)
     by false q f = grind (arith, q)
 
@@ -102,14 +108,16 @@ place-not_in p xs e = go xs (by (nat_lt (position_or_len p xs) (length xs)) refl
 pub place-position_or_len : (p : ℕ → Bool) (xs : List ℕ) (i : ℕ) → Some i ≡ position p xs → i ≡ position_or_len p xs
 place-position_or_len p xs i e = by (nat_lt (position_or_len p xs) (length xs)) refl e
   where
-    by : (b : Bool) → nat_lt (position_or_len p xs) (length xs) ≡ b → Some i ≡ cond (nat_lt (position_or_len p xs) (length xs)) (Some (position_or_len p xs)) None → i ≡ position_or_len p xs
+    by : (b : Bool) → nat_lt (position_or_len p xs) (length xs) ≡ b → Some i
+        ≡ cond (nat_lt (position_or_len p xs) (length xs)) (Some (position_or_len p xs)) None → i ≡ position_or_len p xs
     by true q f = let g : Some i ≡ Some (position_or_len p xs) = f ∙ ap (λ b. cond b (Some (position_or_len p xs)) None) q in cc
     by false q f = absurd (let g : Some i ≡ None = f ∙ ap (λ b. cond b (Some (position_or_len p xs)) None) q in cc)
 
 pub place-none : (p : ℕ → Bool) (xs : List ℕ) → None ≡ position p xs → length xs ≡ position_or_len p xs
 place-none p xs e = go xs (by (nat_lt (position_or_len p xs) (length xs)) refl (sym e))
   where
-    by : (b : Bool) → nat_lt (position_or_len p xs) (length xs) ≡ b → cond (nat_lt (position_or_len p xs) (length xs)) (Some (position_or_len p xs)) None ≡ None → length xs ≤ position_or_len p xs
+    by : (b : Bool) → nat_lt (position_or_len p xs) (length xs) ≡ b → cond (nat_lt (position_or_len p xs) (length xs)) (Some (position_or_len p xs)) None ≡ None
+        → length xs ≤ position_or_len p xs
     by true q f = absurd (let g : Some (position_or_len p xs) ≡ None = sym (ap (λ b. cond b (Some (position_or_len p xs)) None) q) ∙ f in cc)
     by false q f = grind (arith, q)
 
@@ -119,7 +127,8 @@ place-none p xs e = go xs (by (nat_lt (position_or_len p xs) (length xs)) refl (
       where
         each : (b : Bool) → p x ≡ b → position_or_len p xs ≤ length xs → position_or_len p (x ∷ xs) ≤ suc (length xs)
         each true q l = let n : position_or_len p (x ∷ xs) ≡ 0 = ap (λ b. cond (not b) (1 + position_or_len p xs) 0) q in omega (arith, n)
-        each false q l = let n : position_or_len p (x ∷ xs) ≡ 1 + position_or_len p xs = ap (λ b. cond (not b) (1 + position_or_len p xs) 0) q in omega (arith, n, l)
+        each false q l = let n : position_or_len p (x ∷ xs) ≡ 1 + position_or_len p xs =
+            ap (λ b. cond (not b) (1 + position_or_len p xs) 0) q in omega (arith, n, l)
 
     go : (xs : List ℕ) → length xs ≤ position_or_len p xs → length xs ≡ position_or_len p xs
     go xs l = omega (arith, l, most xs)

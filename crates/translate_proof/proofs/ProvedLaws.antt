@@ -22,5 +22,6 @@ module _ (terms : Trees) (one : IsDistinct terms.terms) (p : Proved) (x : Tree) 
   pub proof_with-own : p.id.0 < length terms.terms → same_id id p.id ≡ true → x ≡ proof_with terms (Some p) x proofs (term_at terms id.0)
   proof_with-own own is = ap (λ b. if b then x else proofs (term_at terms id.0)) (sym is ∙ same-formula terms one id p.id known own)
 
-  pub proof_with-other : p.id.0 < length terms.terms → same_id id p.id ≡ false → proofs (term_at terms id.0) ≡ proof_with terms (Some p) x proofs (term_at terms id.0)
+  pub proof_with-other : p.id.0 < length terms.terms → same_id id p.id ≡ false → proofs (term_at terms id.0)
+      ≡ proof_with terms (Some p) x proofs (term_at terms id.0)
   proof_with-other own is = ap (λ b. if b then x else proofs (term_at terms id.0)) (sym is ∙ same-formula terms one id p.id known own)

@@ -32,18 +32,23 @@ use Rattle.translate_proof.specs.StepSequents.{step-IsSequent}
 use Rattle.translate_proof.specs.Told.{TellsSequent, TellsStep}
 
 -- the free variables of a told term have told types
-free_types-told : (declarations : List Declaration) (symbols : SymbolMap) (t : Term) → TellsTerm declarations symbols t → AllByRecursion (λ (v : Variable). TellsType declarations symbols v.1) (free_places t)
+free_types-told : (declarations : List Declaration) (symbols : SymbolMap) (t : Term) → TellsTerm declarations symbols t
+    → AllByRecursion (λ (v : Variable). TellsType declarations symbols v.1) (free_places t)
 free_types-told d symbols (term.Term.free n t) h = (h, tt {0})
 free_types-told d symbols (term.Term.bound k) h = tt
 free_types-told d symbols (term.Term.constant n t) h = tt
-free_types-told d symbols (term.Term.app f x) h = All-append _ (free_places f) (free_places x) (free_types-told d symbols f h.0) (free_types-told d symbols x h.1)
+free_types-told d symbols (term.Term.app f x) h = All-append _ (free_places f) (free_places x) (free_types-told d symbols f h.0)
+    (free_types-told d symbols x h.1)
 free_types-told d symbols (term.Term.lam t b) h = free_types-told d symbols b h.1
 
-all_free_types-told : (declarations : List Declaration) (symbols : SymbolMap) (ts : List Term) → AllByRecursion (TellsTerm declarations symbols) ts → AllByRecursion (λ (v : Variable). TellsType declarations symbols v.1) (flat_map free_places ts)
+all_free_types-told : (declarations : List Declaration) (symbols : SymbolMap) (ts : List Term) → AllByRecursion (TellsTerm declarations symbols) ts
+    → AllByRecursion (λ (v : Variable). TellsType declarations symbols v.1) (flat_map free_places ts)
 all_free_types-told d symbols [] h = tt
-all_free_types-told d symbols (t ∷ ts) h = All-append _ (free_places t) (flat_map free_places ts) (free_types-told d symbols t h.0) (all_free_types-told d symbols ts h.1)
+all_free_types-told d symbols (t ∷ ts) h = All-append _ (free_places t) (flat_map free_places ts) (free_types-told d symbols t h.0)
+    (all_free_types-told d symbols ts h.1)
 
-pub variables-told : (declarations : List Declaration) (symbols : SymbolMap) (s : Sequent) → TellsSequent declarations symbols s → AllByRecursion (λ (v : Variable). TellsType declarations symbols v.1) (free_variables_of s)
+pub variables-told : (declarations : List Declaration) (symbols : SymbolMap) (s : Sequent) → TellsSequent declarations symbols s
+    → AllByRecursion (λ (v : Variable). TellsType declarations symbols v.1) (free_variables_of s)
 variables-told d symbols s h =
     All-each _ (free_variables_of s) (λ v i. All-at _ (flat_map free_places (terms_of s)) v
     (all_free_types-told d symbols (terms_of s) (All-append (TellsTerm d symbols) s.hypotheses (s.conclusion ∷ []) h.hypotheses (h.conclusion, tt {0})))
@@ -62,7 +67,8 @@ pub if-some : {X : Type 0} (P : X → Type 0) (o : Option X) (x : X) → o ≡ S
 if-some P o x e h = subst (λ o. IfSome o P) e h
 
 -- the equation that a step's conclusion is
-module _ (k : Kept) (id : ℕ) (l : id < step_count k) (p : IsProof k.made) (s : NumberSequent) (is : numbers.sequent_at k.trees s ≡ sequent_at k.made id) (known : numbers.IsKnown k.trees s) where
+module _ (k : Kept) (id : ℕ) (l : id < step_count k) (p : IsProof k.made) (s : NumberSequent) (is : numbers.sequent_at k.trees s ≡ sequent_at k.made id)
+    (known : numbers.IsKnown k.trees s) where
   conclusion-is : term_at k.trees s.concl.0 ≡ (sequent_at k.made id).conclusion
   conclusion-is = ap (λ (t : Sequent). t.conclusion) is
 
@@ -82,7 +88,8 @@ module _ (k : Kept) (id : ℕ) (l : id < step_count k) (p : IsProof k.made) (s :
     pub left-IsTerm : IsTerm (term_at k.trees left.0)
     left-IsTerm = subst IsSome (sym both.left) refl
 
-    pub equated-is : (ty : TypeId) → left.0 < s.concl.0 → right.0 < s.concl.0 → ty.0 < length k.trees.types → HasType (term_at k.trees left.0) (type_at k.trees ty.0) → IsEquated k id (record { ty = ty; left = left; right = right })
+    pub equated-is : (ty : TypeId) → left.0 < s.concl.0 → right.0 < s.concl.0 → ty.0 < length k.trees.types
+        → HasType (term_at k.trees left.0) (type_at k.trees ty.0) → IsEquated k id (record { ty = ty; left = left; right = right })
     equated-is ty a b c h =
         let same : e.0 ≡ type_at k.trees ty.0 = same_Some _ _ (sym both.left ∙ h) in
         record {

@@ -18,7 +18,8 @@ use Rattle.translate_proof.specs.Rescoped.{with_scope}
 use Rattle.translate_proof.specs.Placing.{TermsAlone, ProofsAlone}
 use Rattle.translate_proof.proofs.TellLaws.{TellTerms-set, TellProofs-set}
 
-pub Represents-set_term : (given : Given) (m : Module) (trees : Trees) (env next : Environment) (v : AVariable) (id : LpId) (x : Tree) → v.ty.0 < length trees.types → Holds m.table id.0 x → next.terms ≡ insert_entry same_variable env.terms v id
+pub Represents-set_term : (given : Given) (m : Module) (trees : Trees) (env next : Environment) (v : AVariable) (id : LpId) (x : Tree)
+    → v.ty.0 < length trees.types → Holds m.table id.0 x → next.terms ≡ insert_entry same_variable env.terms v id
     → TermsAlone env next → Represents given m trees env → Represents (with_scope given (set_term (variable_view trees v) x given.scope)) m trees next
 Represents-set_term given m trees env next v id x k is e a h = record {
   held = h.held;
@@ -28,12 +29,14 @@ Represents-set_term given m trees env next v id x k is e a h = record {
   same_types = a.scope_types ∙ h.same_types ∙ sym a.types;
   same_terms = a.same h.same_terms;
   types = subst (λ t. TellTypes m.table t given.scope.types) (sym a.types) h.types;
-  terms_told = subst (λ es. TellTerms trees.types m.table es (filled_terms given.symbols given.scope.types) (set_term (variable_view trees v) x given.scope).terms) (sym e)
+  terms_told = subst
+      (λ es. TellTerms trees.types m.table es (filled_terms given.symbols given.scope.types) (set_term (variable_view trees v) x given.scope).terms) (sym e)
       (TellTerms-set trees.types h.one_type m.table v id x env.terms (filled_terms given.symbols given.scope.types) given.scope.terms k is h.terms_told);
   proofs = subst (λ t. TellProofs trees m.table t unproved given.scope.proofs) (sym a.proofs) h.proofs;
 }
 
-pub Represents-set_proof : (given : Given) (m : Module) (trees : Trees) (env next : Environment) (p : TermId) (id : LpId) (x : Tree) → p.0 < length trees.terms → Holds m.table id.0 x → next.proofs ≡ insert_entry same_id env.proofs p id
+pub Represents-set_proof : (given : Given) (m : Module) (trees : Trees) (env next : Environment) (p : TermId) (id : LpId) (x : Tree) → p.0 < length trees.terms
+    → Holds m.table id.0 x → next.proofs ≡ insert_entry same_id env.proofs p id
     → ProofsAlone env next → Represents given m trees env → Represents (with_scope given (set_proof (term_at trees p.0) x given.scope)) m trees next
 Represents-set_proof given m trees env next p id x k is e a h = record {
   held = h.held;

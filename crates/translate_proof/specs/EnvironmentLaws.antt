@@ -52,7 +52,8 @@ TellProofs-Keeps k terms es other scope h = record {
 }
 
 -- so it stands for the same
-pub Represents-Grows : {m n : Module} → Grows m n → (given : Given) (terms : Trees) (env : Environment) → Represents given m terms env → Represents given n terms env
+pub Represents-Grows : {m n : Module} → Grows m n → (given : Given) (terms : Trees) (env : Environment) → Represents given m terms env
+    → Represents given n terms env
 Represents-Grows {m = m} {n = n} g given terms env h = record {
   held = IsHeld-Grows m n g h.held;
   declared = declarations_of-Grows m n g h.held ∙ h.declared;

@@ -36,15 +36,16 @@ pub record ProofsAlone (old new : Environment) : Type 0 where
   pub scope : new.scope ≡ old.scope
 
 -- the binders outside `inside` more stand for these parameters in the scope that is given
-pub record IsPlaced (given : Given) (m : Module) (trees : Trees) (names : List Name) (variables : List AVariable) (hyps : List TermId) (inside : ℕ) : Type 0 where
-  pub held : IsHeld m
-  pub declared : declarations_of m ≡ given.declarations
-  pub one_type : type.IsDistinct trees.types
-  pub one_term : IsDistinct trees.terms
-  pub variables_known : HaveTypes trees variables
-  pub hyps_known : AreKnown trees hyps
-  pub types : (n : Name) → placed name_eq (inside + length hyps + length variables + length names) names (λ m. bools) n ≡ given.scope.types n
-  pub terms : (v : Variable)
-      → placed variable_eq (inside + length hyps + length variables) (variables_of trees variables) (filled_terms given.symbols given.scope.types) v
-      ≡ given.scope.terms v
-  pub proofs : (h : Term) → placed term_eq (inside + length hyps) (terms_at trees hyps) unproved h ≡ given.scope.proofs h
+pub record IsPlaced (given : Given) (m : Module) (trees : Trees) (names : List Name) (variables : List AVariable) (hyps : List TermId) (inside : ℕ) : Type 0
+  where
+    pub held : IsHeld m
+    pub declared : declarations_of m ≡ given.declarations
+    pub one_type : type.IsDistinct trees.types
+    pub one_term : IsDistinct trees.terms
+    pub variables_known : HaveTypes trees variables
+    pub hyps_known : AreKnown trees hyps
+    pub types : (n : Name) → placed name_eq (inside + length hyps + length variables + length names) names (λ m. bools) n ≡ given.scope.types n
+    pub terms : (v : Variable)
+        → placed variable_eq (inside + length hyps + length variables) (variables_of trees variables) (filled_terms given.symbols given.scope.types) v
+        ≡ given.scope.terms v
+    pub proofs : (h : Term) → placed term_eq (inside + length hyps) (terms_at trees hyps) unproved h ≡ given.scope.proofs h

@@ -24,11 +24,13 @@ roots_in p exports = roots_of unnamed p.made exports
 -- the roots are the keys of the exports
 pub roots-steps : (p : Kept) (ids : List ℕ) → step_keys p ids ≡ roots_of unnamed p.made ids
 roots-steps p [] = refl
-roots-steps p (id ∷ ids) = (λ i. number_key (sym (number-is (said_by (made_items p.made)) id (0, record { hypotheses = []; conclusion = bound 0 })) i) ∷ roots-steps p ids i)
+roots-steps p (id ∷ ids) =
+    (λ i. number_key (sym (number-is (said_by (made_items p.made)) id (0, record { hypotheses = []; conclusion = bound 0 })) i) ∷ roots-steps p ids i)
 
 -- where nothing is to be visited, what is reached is what is marked
 pub reached-marked : (p : Kept) (w : Walk) → w.tasks ≡ [] → (x : Item) → is_reached p.trees w x ≡ flag w.marks.items x.symbol
-reached-marked p w e x = ap (λ l. flag w.marks.items x.symbol || is_wanted (Rattle.translate_reach.specs.Walks.keys_in p.trees l) x) e ∙ or-false (flag w.marks.items x.symbol)
+reached-marked p w e x = ap (λ l. flag w.marks.items x.symbol || is_wanted (Rattle.translate_reach.specs.Walks.keys_in p.trees l) x) e ∙ or-false
+    (flag w.marks.items x.symbol)
 
 drop-all : {A : Type 0} (xs : List A) → drop (length xs) xs ≡ []
 drop-all [] = refl
@@ -39,7 +41,8 @@ slice-there [] i l = absurd (omega arith)
 slice-there (x ∷ xs) zero l = (x, refl)
 slice-there (x ∷ xs) (suc i) l = slice-there xs i (omega arith)
 
-map-at : {A B C : Type 0} (f : A → C) (g : B → C) (xs : List A) (ys : List B) (i : ℕ) (d : A) (y : B) → map f xs ≡ map g ys → slice_get ys i ≡ Some y → f (slice_index_or xs i d) ≡ g y
+map-at : {A B C : Type 0} (f : A → C) (g : B → C) (xs : List A) (ys : List B) (i : ℕ) (d : A) (y : B) → map f xs ≡ map g ys → slice_get ys i ≡ Some y
+    → f (slice_index_or xs i d) ≡ g y
 map-at f g [] [] i d y e s = absurd (cc)
 map-at f g (x ∷ xs) (z ∷ zs) zero d y e s = let same : z ≡ y = cc in let a : f x ≡ g z = cc in a ∙ ap g same
 map-at f g (x ∷ xs) (z ∷ zs) (suc i) d y e s = let rest : map f xs ≡ map g zs = cc in map-at f g xs zs i d y rest s
@@ -51,7 +54,8 @@ module _ (p : Kept) (order : IsInOrder p) (exports : List ℕ) where
   items = made_items p.made
 
   -- before any item was looked at
-  pub looked-first : (first w : Walk) (flags : List Bool) → ((i : ℕ) → flag first.marks.items i ≡ false) → first.tasks ≡ [] → IsWalkOf p w → WantsOf p (step_keys p exports) first w → w.tasks ≡ [] → length flags ≡ length (made_items p.made)
+  pub looked-first : (first w : Walk) (flags : List Bool) → ((i : ℕ) → flag first.marks.items i ≡ false) → first.tasks ≡ [] → IsWalkOf p w
+      → WantsOf p (step_keys p exports) first w → w.tasks ≡ [] → length flags ≡ length (made_items p.made)
       → ((i : ℕ) → flag flags i ≡ false) → IsLooked p exports w flags (length (made_items p.made))
   looked-first first w flags none empty walk wants tasks count unset = record {
     walk = walk;
@@ -81,7 +85,8 @@ module _ (p : Kept) (order : IsInOrder p) (exports : List ℕ) where
           tasks = tasks;
           wanted = λ y k.
               sym (reached-marked p v tasks y) ∙ wants y k
-              ∙ (λ n. (reached-marked p w h.tasks y ∙ h.wanted y k ∙ ap (λ m. is_wanted (wanted_from roots (drop m items)) y) e) n || is_wanted (cond (flag w.marks.items i) keys []) y)
+              ∙ (λ n. (reached-marked p w h.tasks y ∙ h.wanted y k ∙ ap (λ m. is_wanted (wanted_from roots (drop m items)) y) e) n || is_wanted
+              (cond (flag w.marks.items i) keys []) y)
               ∙ after (flag w.marks.items i) (wanted_from roots (drop (suc i) items)) y
               ∙ (λ n. is_wanted (cond (this n) (wanted_from roots (drop (suc i) items) ++ sym (is x at.1) n) (wanted_from roots (drop (suc i) items))) y)
               ∙ ap (λ ks. is_wanted ks y) (sym (wanted-place items order roots i x at.1));
@@ -97,7 +102,8 @@ module _ (p : Kept) (order : IsInOrder p) (exports : List ℕ) where
         is_or_more : (i k : ℕ) → i ≤ k → (k ≡ i) ⊎ (suc i ≤ k)
         is_or_more i k l = grind arith
 
-        known : (k : ℕ) → (k ≡ i) ⊎ (suc i ≤ k) → (x : Item) → flag w.marks.items i ≡ is_wanted (wanted_from (roots_in p exports) (drop (suc i) items)) x → slice_get items i ≡ Some x
+        known : (k : ℕ) → (k ≡ i) ⊎ (suc i ≤ k) → (x : Item) → flag w.marks.items i ≡ is_wanted (wanted_from (roots_in p exports) (drop (suc i) items)) x
+            → slice_get items i ≡ Some x
             → flag (slice_set flags i (flag w.marks.items i)) k ≡ keep_of (roots_in p exports) items k
         known k (inl same) x this at =
             let bound = h.within in let n = h.count in
@@ -114,7 +120,8 @@ module _ (p : Kept) (order : IsInOrder p) (exports : List ℕ) where
   }
 
 -- what is needed of an item is what it needs
-pub needs-at : (p : Kept) (list : Items) → AreItems p list → (i : ℕ) (d : Need) (x : Item) → slice_get (made_items p.made) i ≡ Some x → needs x.content ≡ need_keys p (slice_index_or list.needs.items i d)
+pub needs-at : (p : Kept) (list : Items) → AreItems p list → (i : ℕ) (d : Need) (x : Item) → slice_get (made_items p.made) i ≡ Some x → needs x.content
+    ≡ need_keys p (slice_index_or list.needs.items i d)
 needs-at p list h i d x e = sym (map-at (need_keys p) needs_item list.needs.items (made_items p.made) i d x h.needs e)
 
 pub needs-length : (p : Kept) (list : Items) → AreItems p list → length list.needs.items ≡ length (made_items p.made)

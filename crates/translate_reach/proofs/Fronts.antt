@@ -43,7 +43,8 @@ step-said : (named : Content → List ℕ) (i : ℕ) (before : List Item) (x : S
 step-said named i before x =
     let y = needed (sequents_at before x.premises) x in
     ap (λ o. cons_option {X = ℕ × Sequent} (option_map (λ (s : Sequent). (i, s)) o) [])
-    (says-step (has_row y.kind) y.kind (map (λ k. (premise_at before k).0) y.premises) (sequents_at before y.premises) y.parameters y.sequent ∙ ap Some (needed-sequent (sequents_at before x.premises) x))
+    (says-step (has_row y.kind) y.kind (map (λ k. (premise_at before k).0) y.premises) (sequents_at before y.premises) y.parameters y.sequent
+    ∙ ap Some (needed-sequent (sequents_at before x.premises) x))
 
 module _ (named : Naming) where
   pub items_after-append : (before : List Item) (xs ys : List Made) → items_after named before (xs ++ ys) ≡ items_after named (items_after named before xs) ys
@@ -63,20 +64,25 @@ module _ (named : Naming) where
   items_of-front front rest = let r = items_after-rest (items_of named front) rest in (r.0, items_after-append [] front rest ∙ r.1)
 
   -- the sequents that items say are those of the steps
-  said-after : (before : List Item) (xs : List Made) → map (λ (p : ℕ × Sequent). p.1) (said_by (items_after named before xs)) ≡ map (λ (p : ℕ × Sequent). p.1) (said_by before) ++ sequents_of xs
+  said-after : (before : List Item) (xs : List Made) → map (λ (p : ℕ × Sequent). p.1) (said_by (items_after named before xs))
+      ≡ map (λ (p : ℕ × Sequent). p.1) (said_by before) ++ sequents_of xs
   said-after before [] = sym (append-nil (map (λ (p : ℕ × Sequent). p.1) (said_by before)))
   said-after before (Made.symbol x ∷ xs) =
       let new = numbered (named (length (said_by before)) (Made.symbol x)) (length before) (contents_of x) in
       said-after (before ++ new) xs
-      ∙ ap (λ l. map (λ (p : ℕ × Sequent). p.1) l ++ sequents_of xs) (filter_map-append said_of before new ∙ ap (λ l. said_by before ++ l) (symbol-said (named (length (said_by before)) (Made.symbol x)) (length before) x) ∙ append-nil (said_by before))
+      ∙ ap (λ l. map (λ (p : ℕ × Sequent). p.1) l ++ sequents_of xs)
+      (filter_map-append said_of before new ∙ ap (λ l. said_by before ++ l)
+      (symbol-said (named (length (said_by before)) (Made.symbol x)) (length before) x) ∙ append-nil (said_by before))
   said-after before (Made.type_definition names c f i ∷ xs) =
       let new = numbered (named (length (said_by before)) (Made.type_definition names c f i)) (length before) (type_contents names c f (premise_at before i)) in
-      said-after (before ++ new) xs ∙ ap (λ l. map (λ (p : ℕ × Sequent). p.1) l ++ sequents_of xs) (filter_map-append said_of before new ∙ append-nil (said_by before))
+      said-after (before ++ new) xs ∙ ap (λ l. map (λ (p : ℕ × Sequent). p.1) l ++ sequents_of xs)
+      (filter_map-append said_of before new ∙ append-nil (said_by before))
   said-after before (Made.step x ∷ xs) =
       let new = numbered (named (length (said_by before)) (Made.step x)) (length before) (step_content before x ∷ []) in
       said-after (before ++ new) xs
       ∙ ap (λ l. l ++ sequents_of xs)
-      (ap (map (λ (p : ℕ × Sequent). p.1)) (filter_map-append said_of before new ∙ ap (λ l. said_by before ++ l) (step-said (named (length (said_by before)) (Made.step x)) (length before) before x))
+      (ap (map (λ (p : ℕ × Sequent). p.1)) (filter_map-append said_of before new
+      ∙ ap (λ l. said_by before ++ l) (step-said (named (length (said_by before)) (Made.step x)) (length before) before x))
       ∙ map-append (λ (p : ℕ × Sequent). p.1) (said_by before) ((length before, x.sequent) ∷ []))
       ∙ append_assoc (map (λ (p : ℕ × Sequent). p.1) (said_by before)) (x.sequent ∷ []) (sequents_of xs)
 
@@ -88,7 +94,8 @@ module _ (named : Naming) where
     said-count : length (said_by (items_of named front)) ≡ length (sequents_of front)
     said-count = sym (length-map (said_by (items_of named front)) (λ (p : ℕ × Sequent). p.1)) ∙ ap length (said-sequents front)
 
-    pub number-front : (k : ℕ) → k < length (sequents_of front) → (premise_at (items_of named front) k).0 ≡ slice_index_or (numbers_of (items_of named (front ++ rest))) k 0
+    pub number-front : (k : ℕ) → k < length (sequents_of front) → (premise_at (items_of named front) k).0
+        ≡ slice_index_or (numbers_of (items_of named (front ++ rest))) k 0
     number-front k l =
         let r = items_of-front front rest in
         let before = said_by (items_of named front) in
@@ -96,7 +103,9 @@ module _ (named : Naming) where
         at-map (λ (p : ℕ × Sequent). p.0) before k (0, no_sequent)
         ∙ sym (at-front (map (λ (p : ℕ × Sequent). p.0) before) (map (λ (p : ℕ × Sequent). p.0) (said_by r.0)) k 0 (omega (arith, l, count)))
         ∙ ap (λ l. slice_index_or l k 0)
-        (sym (ap (λ l. map (λ (p : ℕ × Sequent). p.0) (said_by l)) r.1 ∙ ap (map (λ (p : ℕ × Sequent). p.0)) (filter_map-append said_of (items_of named front) r.0) ∙ map-append (λ (p : ℕ × Sequent). p.0) before (said_by r.0)))
+        (sym (ap (λ l. map (λ (p : ℕ × Sequent). p.0) (said_by l)) r.1
+        ∙ ap (map (λ (p : ℕ × Sequent). p.0)) (filter_map-append said_of (items_of named front) r.0)
+        ∙ map-append (λ (p : ℕ × Sequent). p.0) before (said_by r.0)))
 
     sequent-front : (k : ℕ) → k < length (sequents_of front) → (premise_at (items_of named front) k).1 ≡ sequent_at (front ++ rest) k
     sequent-front k l =
@@ -107,7 +116,8 @@ module _ (named : Naming) where
     abbrev AreEarlier : List ℕ → Type 0
     AreEarlier ks = AllByRecursion (λ k. k < length (sequents_of front)) ks
 
-    numbers-front : (ks : List ℕ) → AreEarlier ks → map (λ k. (premise_at (items_of named front) k).0) ks ≡ map (λ k. slice_index_or (numbers_of (items_of named (front ++ rest))) k 0) ks
+    numbers-front : (ks : List ℕ) → AreEarlier ks → map (λ k. (premise_at (items_of named front) k).0) ks
+        ≡ map (λ k. slice_index_or (numbers_of (items_of named (front ++ rest))) k 0) ks
     numbers-front [] h = refl
     numbers-front (k ∷ ks) h = ap₂ (λ j js. j ∷ js) (number-front k h.0) (numbers-front ks h.1)
 
@@ -137,7 +147,8 @@ step-earlier front rest x proof =
     premises-earlier (sequents_of front) x.premises h.premises h.earlier
 
 -- and so is a type definition
-pub definition-earlier : (front rest : List Made) (names : TypeNames) (c : HolType) (f : Term) (i : ℕ) → IsProof (front ++ Made.type_definition names c f i ∷ rest) → i < length (sequents_of front)
+pub definition-earlier : (front rest : List Made) (names : TypeNames) (c : HolType) (f : Term) (i : ℕ)
+    → IsProof (front ++ Made.type_definition names c f i ∷ rest) → i < length (sequents_of front)
 definition-earlier front rest names c f i proof =
     let made = Made.type_definition names c f i in
     let h = each-at IsMade [] front rest made (each-after IsMade (front ++ made ∷ rest) proof) in
@@ -158,7 +169,8 @@ needed-earlier n ss x h = go (proves_nothing x.kind ss)
 pub step_content-front : (named : Naming) (front rest : List Made) (x : Step) → IsProof (front ++ Made.step x ∷ rest)
     → (let made = front ++ Made.step x ∷ rest in
     let y = needed (map (sequent_at made) x.premises) x in
-    step_content (items_of named front) x ≡ content_by (has_row y.kind) y.kind (map (λ k. slice_index_or (numbers_of (items_of named made)) k 0) y.premises) (map (sequent_at made) y.premises) y.parameters y.sequent)
+    step_content (items_of named front) x ≡ content_by (has_row y.kind) y.kind (map (λ k. slice_index_or (numbers_of (items_of named made)) k 0) y.premises)
+    (map (sequent_at made) y.premises) y.parameters y.sequent)
 step_content-front named front rest x proof =
     let more = Made.step x ∷ rest in
     let made = front ++ more in
@@ -167,4 +179,5 @@ step_content-front named front rest x proof =
     let y = needed (map (sequent_at made) x.premises) x in
     let lower = needed-earlier (length (sequents_of front)) (map (sequent_at made) x.premises) x earlier in
     ap (λ ss. shown_content before (needed ss x)) (sequents-front named front more x.premises earlier)
-    ∙ ap₂ (λ js ss. content_by (has_row y.kind) y.kind js ss y.parameters y.sequent) (numbers-front named front more y.premises lower) (sequents-front named front more y.premises lower)
+    ∙ ap₂ (λ js ss. content_by (has_row y.kind) y.kind js ss y.parameters y.sequent) (numbers-front named front more y.premises lower)
+    (sequents-front named front more y.premises lower)

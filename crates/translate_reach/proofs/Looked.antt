@@ -14,7 +14,8 @@ use Rattle.translate_laws.specs.WantedItems.{NumberedFrom, AreMadeInOrder, keep-
 use Rattle.image_laws.specs.ExportsKept.{numbered-from}
 
 -- an item has the number of those before it, and is new
-pub order-at : (before xs ys : List Item) (x : Item) → AreMadeInOrder before (xs ++ x ∷ ys) → (x.symbol ≡ length (before ++ xs)) × IsNew (before ++ xs) x.content
+pub order-at : (before xs ys : List Item) (x : Item) → AreMadeInOrder before (xs ++ x ∷ ys) → (x.symbol ≡ length (before ++ xs))
+    × IsNew (before ++ xs) x.content
 order-at before [] ys x h = let e = sym (append-nil before) in (h.0 ∙ ap length e, subst (λ l. IsNew l x.content) e h.1)
 order-at before (z ∷ zs) ys x h =
     let r = order-at (before ++ z ∷ []) zs ys x h.3 in let e = append_assoc before (z ∷ []) zs in (r.0 ∙ ap length e, subst (λ l. IsNew l x.content) e r.1)
@@ -30,8 +31,10 @@ pub record IsPlace (items : List Item) (i : ℕ) (x : Item) : Type 0 where
 
 pub place : (items : List Item) (i : ℕ) (x : Item) → slice_get items i ≡ Some x → IsPlace items i x
 place [] i x e = absurd (cc)
-place (y ∷ ys) zero x e = let f : y ≡ x = cc in record { before = []; after = ys; whole = ap (λ z. z ∷ ys) f; long = refl; from = ap (λ z. z ∷ ys) f; behind = refl }
-place (y ∷ ys) (suc i) x e = let r = place ys i x e in record { before = y ∷ r.before; after = r.after; whole = ap (λ l. y ∷ l) r.whole; long = ap suc r.long; from = r.from; behind = r.behind }
+place (y ∷ ys) zero x e = let f : y ≡ x = cc in record
+    { before = []; after = ys; whole = ap (λ z. z ∷ ys) f; long = refl; from = ap (λ z. z ∷ ys) f; behind = refl }
+place (y ∷ ys) (suc i) x e = let r = place ys i x e in record
+    { before = y ∷ r.before; after = r.after; whole = ap (λ l. y ∷ l) r.whole; long = ap suc r.long; from = r.from; behind = r.behind }
 
 numbered-at : (i : ℕ) (items : List Item) (x : Item) → NumberedFrom i items → IsIn items x → (k : ℕ) × (x.symbol ≡ i + k) × (slice_get items k ≡ Some x)
 numbered-at i [] x n h = absurd h
@@ -41,7 +44,8 @@ numbered-at i (y ∷ ys) x n (inr h) = let r = numbered-at (suc i) ys x n.1 h in
 module _ (items : List Item) (order : AreMadeInOrder [] items) where
   -- an item is at the place of its number
   pub at-symbol : (x : Item) → IsIn items x → slice_get items x.symbol ≡ Some x
-  at-symbol x h = let r = numbered-at 0 items x (numbered-from [] items order) h in ap (slice_get items) (r.1 ∙ (let z : 0 + r.0 ≡ r.0 = omega arith in z)) ∙ r.2
+  at-symbol x h = let r = numbered-at 0 items x (numbered-from [] items order) h in ap (slice_get items) (r.1 ∙ (let z : 0 + r.0 ≡ r.0 = omega arith in z))
+      ∙ r.2
 
   pub symbol-at : (i : ℕ) (x : Item) → slice_get items i ≡ Some x → x.symbol ≡ i
   symbol-at i x e = let p = place items i x e in (order-at [] p.before p.after x (subst (AreMadeInOrder []) p.whole order)).0 ∙ p.long
@@ -58,7 +62,9 @@ module _ (items : List Item) (order : AreMadeInOrder [] items) where
         let front : NumberedFrom 0 (p.before ++ x ∷ p.after) = subst (NumberedFrom 0) p.whole (numbered-from [] items order) in
         let low = below 0 p.before (first p.before (x ∷ p.after) 0 front) in
         ap (keep_of roots items) (sym number) ∙ ap (λ l. keep_of roots l x.symbol) p.whole
-        ∙ keep-at roots p.before p.after x (subst (λ k. AllByRecursion (λ (z : Item). z.symbol < k) p.before) ((let z : 0 + length p.before ≡ length p.before = omega arith in z) ∙ p.long ∙ sym number) low)
+        ∙ keep-at roots p.before p.after x
+        (subst (λ k. AllByRecursion (λ (z : Item). z.symbol < k) p.before)
+        ((let z : 0 + length p.before ≡ length p.before = omega arith in z) ∙ p.long ∙ sym number) low)
         ∙ ap (λ l. is_wanted (wanted_from roots l) x) (sym p.behind)
       where
         first : (xs ys : List Item) (j : ℕ) → NumberedFrom j (xs ++ ys) → NumberedFrom j xs
@@ -66,7 +72,8 @@ module _ (items : List Item) (order : AreMadeInOrder [] items) where
         first (z ∷ zs) ys j h = (h.0, first zs ys (suc j) h.1)
 
     -- what is wanted, once it was looked at
-    pub wanted-place : (i : ℕ) (x : Item) → slice_get items i ≡ Some x → wanted_from roots (drop i items) ≡ wanted_after (wanted_from roots (drop (suc i) items)) x
+    pub wanted-place : (i : ℕ) (x : Item) → slice_get items i ≡ Some x → wanted_from roots (drop i items)
+        ≡ wanted_after (wanted_from roots (drop (suc i) items)) x
     wanted-place i x e = let p = place items i x e in ap (wanted_from roots) p.from ∙ ap (λ l. wanted_after (wanted_from roots l) x) (sym p.behind)
 
     -- past the last there is none
@@ -83,4 +90,5 @@ module _ (items : List Item) (order : AreMadeInOrder [] items) where
         past : (xs : List Item) (j i : ℕ) → NumberedFrom j xs → j + length xs ≤ i → keep_of roots xs i ≡ false
         past [] j i n l = refl
         past (z ∷ zs) j i n l =
-            ap (λ b. cond b (is_wanted (wanted_from roots zs) z) (keep_of roots zs i)) (other i z.symbol (λ e. let f = n.0 in omega (arith, l, e, f))) ∙ past zs (suc j) i n.1 (omega (arith, l))
+            ap (λ b. cond b (is_wanted (wanted_from roots zs) z) (keep_of roots zs i)) (other i z.symbol (λ e. let f = n.0 in omega (arith, l, e, f)))
+            ∙ past zs (suc j) i n.1 (omega (arith, l))

@@ -47,17 +47,20 @@ flag-now : (flags : List Bool) (j : ℕ) → j < length flags → flag (slice_se
 flag-now flags j l = flag-marked flags j j l ∙ or_right (flag flags j) (j == j) ((unsigned_Decides j j).1 refl)
 
 -- what is found for a key is marked
-pub found-below : (items : List Item) (index : Index) (flags : List Bool) → IsIndex items index → length flags ≡ length items → (q : Key) → IsBelow (length flags) (found index q)
+pub found-below : (items : List Item) (index : Index) (flags : List Bool) → IsIndex items index → length flags ≡ length items → (q : Key)
+    → IsBelow (length flags) (found index q)
 found-below items index flags h e q = go (found index q) refl
   where
     go : (o : Option ℕ) → found index q ≡ o → IsBelow (length flags) o
     go None f = tt
     go (Some i) f = let l = h.within q i f in omega (arith, l, e)
 
-pub flag-key : (items : List Item) (index : Index) (flags : List Bool) → IsIndex items index → length flags ≡ length items → (q : Key) → IsNamedKey q → (x : Item) → IsIn items x
+pub flag-key : (items : List Item) (index : Index) (flags : List Bool) → IsIndex items index → length flags ≡ length items → (q : Key) → IsNamedKey q
+    → (x : Item) → IsIn items x
     → flag (marked flags (found index q)) x.symbol ≡ (flag flags x.symbol || is_wanted (q ∷ []) x)
 flag-key items index flags h e q named x i =
-    flag-marked_at flags (found index q) x.symbol (found-below items index flags h e q) ∙ ap (λ b. flag flags x.symbol || b) (sym (h.each x i q named) ∙ sym (or-false (key_eq (gives x) q)))
+    flag-marked_at flags (found index q) x.symbol (found-below items index flags h e q)
+    ∙ ap (λ b. flag flags x.symbol || b) (sym (h.each x i q named) ∙ sym (or-false (key_eq (gives x) q)))
 
 pub flag-none : (flags : List Bool) (x : Item) → flag flags x.symbol ≡ (flag flags x.symbol || is_wanted [] x)
 flag-none flags x = sym (or-false (flag flags x.symbol))
@@ -85,8 +88,14 @@ module _ (trees : Trees) where
   arguments-known n (id ∷ ids) h l = (let b = h.0 in omega (arith, b, l), arguments-known n ids h.1 l)
 
 module _ (trees : Trees) (items : List Item) (w v : Walk) where
-  turned : (t : Task) (own : List Key) (parts : List Task) → IsWalk trees items (with_task t w) → Comes trees items t w v own parts → work trees parts < task_size trees t → Turned trees items t w v
-  turned t own parts h c l = record { walk = comes-IsWalk trees items t w v own parts h c; wants = comes-Wants trees items t w v own parts h c; less = comes-less trees items t w v own parts h c l }
+  turned : (t : Task) (own : List Key) (parts : List Task) → IsWalk trees items (with_task t w) → Comes trees items t w v own parts
+      → work trees parts < task_size trees t → Turned trees items t w v
+  turned t own parts h c l = record {
+    walk = comes-IsWalk trees items t w v own parts h c;
+    wants = comes-Wants trees items t w v own parts h c;
+    less =
+        comes-less trees items t w v own parts h c l;
+  }
 
   size-positive : (t : Task) → 0 < task_size trees t
   size-positive (task.Type id) = of_type (tree_at trees.types id.0)
@@ -105,7 +114,8 @@ module _ (trees : Trees) (items : List Item) (w v : Walk) where
 
   -- what was come to before
   pub passed-Turned : (t : Task) → IsWalk trees items (with_task t w) → is_seen w t ≡ true → Turned trees items t w w
-  passed-Turned t h s = let l = size-positive t in record { walk = passed-IsWalk trees items t w h s; wants = passed-Wants trees items t w h s; less = omega (arith, l) }
+  passed-Turned t h s = let l = size-positive t in record
+      { walk = passed-IsWalk trees items t w h s; wants = passed-Wants trees items t w h s; less = omega (arith, l) }
 
   -- what is the same of each walk that comes to a type, and to a term
   pub record TypeNoted (id : TypeId) : Type 0 where
@@ -125,14 +135,16 @@ module _ (trees : Trees) (items : List Item) (w v : Walk) where
   pub marks-none : v.marks.items ≡ w.marks.items → Marks []
   marks-none e = record { each = λ x i. ap (λ l. flag l x.symbol) e ∙ flag-none w.marks.items x; count = ap length e }
 
-  pub marks-key : (index : Index) → IsIndex items index → length w.marks.items ≡ length items → (q : Key) → IsNamedKey q → v.marks.items ≡ marked w.marks.items (found index q) → Marks (q ∷ [])
+  pub marks-key : (index : Index) → IsIndex items index → length w.marks.items ≡ length items → (q : Key) → IsNamedKey q → v.marks.items
+      ≡ marked w.marks.items (found index q) → Marks (q ∷ [])
   marks-key index h l q named e = record {
     each = λ x i. ap (λ l. flag l x.symbol) e ∙ flag-key items index w.marks.items h l q named x i;
     count = ap length e ∙ length-marked w.marks.items (found index q);
   }
 
   module _ (id : TypeId) (n : TypeNoted id) (own : List Key) (m : Marks own) where
-    type-Turned : (parts : List Task) → task_keys trees (task.Type id) ≡ own ++ keys_in trees parts → AllByRecursion (IsTaskKnown trees) parts → AllByRecursion (λ u. rank trees u < id.0) parts
+    type-Turned : (parts : List Task) → task_keys trees (task.Type id) ≡ own ++ keys_in trees parts → AllByRecursion (IsTaskKnown trees) parts
+        → AllByRecursion (λ u. rank trees u < id.0) parts
         → v.tasks ≡ parts ++ w.tasks → work trees parts < task_size trees (task.Type id) → Turned trees items (task.Type id) w v
     type-Turned parts keys known lower tasks less =
         turned (task.Type id) own parts n.walk (record {
@@ -164,7 +176,8 @@ module _ (trees : Trees) (items : List Item) (w v : Walk) where
         still (task.Term j) s = ap (λ l. flag l j.0) n.terms ∙ s
 
   module _ (id : TermId) (n : TermNoted id) (own : List Key) (m : Marks own) where
-    term-Turned : (parts : List Task) → task_keys trees (task.Term id) ≡ own ++ keys_in trees parts → AllByRecursion (IsTaskKnown trees) parts → AllByRecursion (λ u. rank trees u < length trees.types + id.0) parts
+    term-Turned : (parts : List Task) → task_keys trees (task.Term id) ≡ own ++ keys_in trees parts → AllByRecursion (IsTaskKnown trees) parts
+        → AllByRecursion (λ u. rank trees u < length trees.types + id.0) parts
         → v.tasks ≡ parts ++ w.tasks → work trees parts < task_size trees (task.Term id) → Turned trees items (task.Term id) w v
     term-Turned parts keys known lower tasks less =
         turned (task.Term id) own parts n.walk (record {
@@ -196,7 +209,8 @@ module _ (trees : Trees) (items : List Item) (w v : Walk) where
         still (task.Type j) s = ap (λ l. flag l j.0) n.types ∙ s
 
   -- a type
-  pub variable-Turned : (id : TypeId) → TypeNoted id → (name : Name) → type.Holds trees.types id.0 (a_type.HolType.variable name) → v.marks.items ≡ w.marks.items → v.tasks ≡ w.tasks
+  pub variable-Turned : (id : TypeId) → TypeNoted id → (name : Name) → type.Holds trees.types id.0 (a_type.HolType.variable name) → v.marks.items
+      ≡ w.marks.items → v.tasks ≡ w.tasks
       → Turned trees items (task.Type id) w v
   variable-Turned id n name is marks tasks =
       let t : tree_at trees.types id.0 ≡ a_type.HolType.variable name = Holds-tree_at trees.types id.0 (a_type.HolType.variable name) is in
@@ -205,7 +219,8 @@ module _ (trees : Trees) (items : List Item) (w v : Walk) where
 
   pub operator-Turned : (index : Index) → IsIndex items index → (id : TypeId) → TypeNoted id → (name : Name) (args : List TypeId)
       → type.Holds trees.types id.0 (a_type.HolType.operator name (types_of (types_at trees.types args))) → AreBelow id.0 args
-      → v.marks.items ≡ marked w.marks.items (found index (operator_key name (length args))) → v.tasks ≡ with_types args w.tasks → Turned trees items (task.Type id) w v
+      → v.marks.items ≡ marked w.marks.items (found index (operator_key name (length args))) → v.tasks ≡ with_types args w.tasks
+      → Turned trees items (task.Type id) w v
   operator-Turned index h id n name args is lower marks tasks =
       let whole = a_type.HolType.operator name (types_of (types_at trees.types args)) in
       let t : tree_at trees.types id.0 ≡ whole = Holds-tree_at trees.types id.0 whole is in
@@ -213,7 +228,8 @@ module _ (trees : Trees) (items : List Item) (w v : Walk) where
       let parts = types_size-work trees args in
       let keys = ap type_keys t ∙ ap₂ (λ k ks. operator_key name k ∷ ks) (count-arguments trees args) (types_keys-tasks trees args) in
       let known = n.walk.tasks.0 in
-      type-Turned id n (operator_key name (length args) ∷ []) (marks-key index h n.walk.marks (operator_key name (length args)) (tt {0}) marks) (map task.Type args) keys
+      type-Turned id n (operator_key name (length args) ∷ []) (marks-key index h n.walk.marks (operator_key name (length args)) (tt {0}) marks)
+      (map task.Type args) keys
       (arguments-known trees id.0 args lower known) (arguments-lower trees id.0 args lower) tasks (omega (arith, size, parts))
 
   -- a term
@@ -221,28 +237,34 @@ module _ (trees : Trees) (items : List Item) (w v : Walk) where
     term-is : (t : a_term.Term) → Holds trees id.0 t → term_at trees id.0 ≡ t
     term-is t is = Some-term_in trees.terms id.0 t is
 
-    pub bound-Turned : (k : ℕ) → Holds trees id.0 (a_term.Term.bound k) → v.marks.items ≡ w.marks.items → v.tasks ≡ w.tasks → Turned trees items (task.Term id) w v
+    pub bound-Turned : (k : ℕ) → Holds trees id.0 (a_term.Term.bound k) → v.marks.items ≡ w.marks.items → v.tasks ≡ w.tasks
+        → Turned trees items (task.Term id) w v
     bound-Turned k is marks tasks =
         let t = term-is (a_term.Term.bound k) is in
         let size = ap term_size t in
         term-Turned id n [] (marks-none marks) [] (ap term_keys t) (tt {0}) (tt {0}) tasks (omega (arith, size))
 
-    pub free-Turned : (name : Name) (ty : TypeId) → Holds trees id.0 (a_term.Term.free name (type_at trees ty.0)) → ty.0 < length trees.types → v.marks.items ≡ w.marks.items
+    pub free-Turned : (name : Name) (ty : TypeId) → Holds trees id.0 (a_term.Term.free name (type_at trees ty.0)) → ty.0 < length trees.types → v.marks.items
+        ≡ w.marks.items
         → v.tasks ≡ task.Type ty ∷ w.tasks → Turned trees items (task.Term id) w v
     free-Turned name ty is known marks tasks =
         let t = term-is (a_term.Term.free name (type_at trees ty.0)) is in
         let size = ap term_size t in
-        term-Turned id n [] (marks-none marks) (task.Type ty ∷ []) (ap term_keys t ∙ sym (append-nil (type_keys (type_at trees ty.0)))) (known, tt {0}) (omega (arith, known), tt {0}) tasks (omega (arith, size))
+        term-Turned id n [] (marks-none marks) (task.Type ty ∷ []) (ap term_keys t ∙ sym (append-nil (type_keys (type_at trees ty.0)))) (known, tt {0})
+        (omega (arith, known), tt {0}) tasks (omega (arith, size))
 
-    pub constant-Turned : (index : Index) → IsIndex items index → (name : Name) (ty : TypeId) → Holds trees id.0 (a_term.Term.constant name (type_at trees ty.0)) → ty.0 < length trees.types
+    pub constant-Turned : (index : Index) → IsIndex items index → (name : Name) (ty : TypeId)
+        → Holds trees id.0 (a_term.Term.constant name (type_at trees ty.0)) → ty.0 < length trees.types
         → v.marks.items ≡ marked w.marks.items (found index (constant_key name)) → v.tasks ≡ task.Type ty ∷ w.tasks → Turned trees items (task.Term id) w v
     constant-Turned index h name ty is known marks tasks =
         let t = term-is (a_term.Term.constant name (type_at trees ty.0)) is in
         let size = ap term_size t in
         term-Turned id n (constant_key name ∷ []) (marks-key index h n.walk.marks (constant_key name) (tt {0}) marks) (task.Type ty ∷ [])
-        (ap term_keys t ∙ ap (λ l. constant_key name ∷ l) (sym (append-nil (type_keys (type_at trees ty.0))))) (known, tt {0}) (omega (arith, known), tt {0}) tasks (omega (arith, size))
+        (ap term_keys t ∙ ap (λ l. constant_key name ∷ l) (sym (append-nil (type_keys (type_at trees ty.0))))) (known, tt {0}) (omega (arith, known), tt {0})
+        tasks (omega (arith, size))
 
-    pub application-Turned : (f x : TermId) → Holds trees id.0 (a_term.Term.app (term_at trees f.0) (term_at trees x.0)) → f.0 < id.0 → x.0 < id.0 → v.marks.items ≡ w.marks.items
+    pub application-Turned : (f x : TermId) → Holds trees id.0 (a_term.Term.app (term_at trees f.0) (term_at trees x.0)) → f.0 < id.0 → x.0 < id.0
+        → v.marks.items ≡ w.marks.items
         → v.tasks ≡ task.Term f ∷ task.Term x ∷ w.tasks → Turned trees items (task.Term id) w v
     application-Turned f x is lf lx marks tasks =
         let t = term-is (a_term.Term.app (term_at trees f.0) (term_at trees x.0)) is in
@@ -252,7 +274,8 @@ module _ (trees : Trees) (items : List Item) (w v : Walk) where
         (ap term_keys t ∙ ap (λ l. term_keys (term_at trees f.0) ++ l) (sym (append-nil (term_keys (term_at trees x.0)))))
         (omega (arith, known, lf), (omega (arith, known, lx), tt {0})) (omega (arith, lf), (omega (arith, lx), tt {0})) tasks (omega (arith, size))
 
-    pub abstraction-Turned : (ty : TypeId) (b : TermId) → Holds trees id.0 (a_term.Term.lam (type_at trees ty.0) (term_at trees b.0)) → ty.0 < length trees.types → b.0 < id.0 → v.marks.items ≡ w.marks.items
+    pub abstraction-Turned : (ty : TypeId) (b : TermId) → Holds trees id.0 (a_term.Term.lam (type_at trees ty.0) (term_at trees b.0))
+        → ty.0 < length trees.types → b.0 < id.0 → v.marks.items ≡ w.marks.items
         → v.tasks ≡ task.Type ty ∷ task.Term b ∷ w.tasks → Turned trees items (task.Term id) w v
     abstraction-Turned ty b is lt lb marks tasks =
         let t = term-is (a_term.Term.lam (type_at trees ty.0) (term_at trees b.0)) is in

@@ -36,7 +36,8 @@ abbrev pub ListsConstant : Name → Need → Items → Items → Type 0
 ListsConstant n what old new = (p : Kept) (list : List Item) (x : Item) → AddsConstant p list n what x → AreListed p list old → AreListed p (list ++ x ∷ []) new
 
 abbrev pub ListsOperator : Name → ℕ → Need → Items → Items → Type 0
-ListsOperator n k what old new = (p : Kept) (list : List Item) (x : Item) → AddsOperator p list n k what x → AreListed p list old → AreListed p (list ++ x ∷ []) new
+ListsOperator n k what old new = (p : Kept) (list : List Item) (x : Item) → AddsOperator p list n k what x → AreListed p list old → AreListed p (list ++ x ∷ [])
+    new
 
 -- contents as items without names
 abbrev items_from : ℕ → List Content → List Item
@@ -65,13 +66,15 @@ module _ (p : Kept) (order : IsInOrder p) (front rest : List Made) (y : Made) (w
       let o = in-order in
       let items = made_items front in
       order-at [] (items ++ xs) (ys ++ o.0) z
-      (subst (AreMadeInOrder []) (ap (λ l. (items ++ l) ++ o.0) e ∙ ap (λ l. l ++ o.0) (sym (append_assoc items xs (z ∷ ys))) ∙ append_assoc (items ++ xs) (z ∷ ys) o.0) o.1)
+      (subst (AreMadeInOrder []) (ap (λ l. (items ++ l) ++ o.0) e ∙ ap (λ l. l ++ o.0) (sym (append_assoc items xs (z ∷ ys)))
+      ∙ append_assoc (items ++ xs) (z ∷ ys) o.0) o.1)
 
   from-items : (new : Items) → AreListed p (made_items front ++ news) new → AreListed p (made_items (front ++ y ∷ [])) new
   from-items new h = subst (λ l. AreListed p l new) (sym after-made) h
 
 -- the first of new items is new on those before them
-at-first : (items new : List Item) (ys : List Item) (y : Item) → ((xs zs : List Item) (z : Item) → new ≡ xs ++ z ∷ zs → (z.symbol ≡ length (items ++ xs)) × IsNew (items ++ xs) z.content) → new ≡ y ∷ ys
+at-first : (items new : List Item) (ys : List Item) (y : Item)
+    → ((xs zs : List Item) (z : Item) → new ≡ xs ++ z ∷ zs → (z.symbol ≡ length (items ++ xs)) × IsNew (items ++ xs) z.content) → new ≡ y ∷ ys
     → (y.symbol ≡ length items) × IsNew items y.content
 at-first items new ys y f e =
     let r = f [] ys y e in let n = append-nil items in (r.0 ∙ ap length n, subst (λ l. IsNew l y.content) n r.1)
@@ -83,7 +86,8 @@ module _ (p : Kept) (order : IsInOrder p) (front rest : List Made) (old : Items)
   abbrev Listed : Items → Made → Type 0
   Listed new y = AreListed p (made_items (front ++ y ∷ [])) new
 
-  pub input_constant-Listed : (y : Made) → IsFront y → (n : Name) → y ≡ Made.symbol (Symbol.input_constant n) → (new : Items) → ListsConstant n need.Nothing old new → AreListed p (made_items (front ++ y ∷ [])) new
+  pub input_constant-Listed : (y : Made) → IsFront y → (n : Name) → y ≡ Made.symbol (Symbol.input_constant n) → (new : Items)
+      → ListsConstant n need.Nothing old new → AreListed p (made_items (front ++ y ∷ [])) new
   input_constant-Listed y whole n is new adds = subst (Listed new) (sym is) (one (subst IsFront is whole))
     where
       one : IsFront (Made.symbol (Symbol.input_constant n)) → Listed new (Made.symbol (Symbol.input_constant n))
@@ -95,7 +99,8 @@ module _ (p : Kept) (order : IsInOrder p) (front rest : List Made) (old : Items)
           from-items p order front rest made w new
           (adds p items z (record { number = new_name.0; key = refl; silent = refl; new = new_name.1.1; needs = refl; known = tt {0} }) h)
 
-  pub input_operator-Listed : (y : Made) → IsFront y → (n : Name) (k : ℕ) → y ≡ Made.symbol (Symbol.input_operator n k) → (new : Items) → ListsOperator n k need.Nothing old new → AreListed p (made_items (front ++ y ∷ [])) new
+  pub input_operator-Listed : (y : Made) → IsFront y → (n : Name) (k : ℕ) → y ≡ Made.symbol (Symbol.input_operator n k) → (new : Items)
+      → ListsOperator n k need.Nothing old new → AreListed p (made_items (front ++ y ∷ [])) new
   input_operator-Listed y whole n k is new adds = subst (Listed new) (sym is) (one (subst IsFront is whole))
     where
       one : IsFront (Made.symbol (Symbol.input_operator n k)) → Listed new (Made.symbol (Symbol.input_operator n k))
@@ -107,18 +112,21 @@ module _ (p : Kept) (order : IsInOrder p) (front rest : List Made) (old : Items)
           from-items p order front rest made w new
           (adds p items z (record { number = new_name.0; key = refl; silent = refl; new = new_name.1.1; needs = refl; known = tt {0} }) h)
 
-  pub defined_constant-Listed : (y : Made) → IsFront y → (n : Name) (t : TermId) → y ≡ Made.symbol (Symbol.defined (Definition.constant n (term_at p.trees t.0))) → t.0 < length p.trees.terms
+  pub defined_constant-Listed : (y : Made) → IsFront y → (n : Name) (t : TermId) → y
+      ≡ Made.symbol (Symbol.defined (Definition.constant n (term_at p.trees t.0))) → t.0 < length p.trees.terms
       → (new : Items) → ListsConstant n (need.Term t) old new → AreListed p (made_items (front ++ y ∷ [])) new
   defined_constant-Listed y whole n t is known new adds = subst (Listed new) (sym is) (one (subst IsFront is whole))
     where
-      one : IsFront (Made.symbol (Symbol.defined (Definition.constant n (term_at p.trees t.0)))) → Listed new (Made.symbol (Symbol.defined (Definition.constant n (term_at p.trees t.0))))
+      one : IsFront (Made.symbol (Symbol.defined (Definition.constant n (term_at p.trees t.0))))
+          → Listed new (Made.symbol (Symbol.defined (Definition.constant n (term_at p.trees t.0))))
       one w =
           let items = made_items front in
           let u = term_at p.trees t.0 in
           let made = Made.symbol (Symbol.defined (Definition.constant n u)) in
           let z = item_at (length items) (Content.defined_constant n (type_or u) u) in
           let new_name = at-first items _ [] z (new-at p order front rest made w) refl in
-          from-items p order front rest made w new (adds p items z (record { number = new_name.0; key = refl; silent = refl; new = new_name.1.1; needs = refl; known = known }) h)
+          from-items p order front rest made w new
+          (adds p items z (record { number = new_name.0; key = refl; silent = refl; new = new_name.1.1; needs = refl; known = known }) h)
 
   -- the operator and the constants of a type definition
   module _ (names : TypeNames) (c : HolType) (f : Term) (i : ℕ) where
@@ -151,15 +159,18 @@ module _ (p : Kept) (order : IsInOrder p) (front rest : List Made) (old : Items)
           let l = earlier in
           omega (arith, l, same, count)
 
-      part-keys : (a : TypeId) (b : HolType) → tree_at p.trees.types a.0 ≡ b → number_key (premise_at (made_items front) i).0 ∷ type_keys b ≡ need_keys p (need.Part i a)
+      part-keys : (a : TypeId) (b : HolType) → tree_at p.trees.types a.0 ≡ b → number_key (premise_at (made_items front) i).0 ∷ type_keys b
+          ≡ need_keys p (need.Part i a)
       part-keys a b e = ap₂ (λ j ks. number_key j ∷ ks) premise-number (ap type_keys (sym e))
 
       part-known : (a : TypeId) → a.0 < length p.trees.types → IsNeedKnown p (need.Part i a)
       part-known a l = (premise-known, l)
 
       pub definition-Listed : (whole abs rep : TypeId) → whole.0 < length p.trees.types → abs.0 < length p.trees.types → rep.0 < length p.trees.types
-          → tree_at p.trees.types whole.0 ≡ c → tree_at p.trees.types abs.0 ≡ abstraction_type names c → tree_at p.trees.types rep.0 ≡ representation_type names c
-          → (one two new : Items) → ListsOperator names.operator (length names.variables) (need.Part i whole) old one → ListsConstant names.abstraction (need.Part i abs) one two
+          → tree_at p.trees.types whole.0 ≡ c → tree_at p.trees.types abs.0 ≡ abstraction_type names c → tree_at p.trees.types rep.0
+          ≡ representation_type names c
+          → (one two new : Items) → ListsOperator names.operator (length names.variables) (need.Part i whole) old one
+          → ListsConstant names.abstraction (need.Part i abs) one two
           → ListsConstant names.representation (need.Part i rep) two new → AreListed p (made_items (front ++ Made.type_definition names c f i ∷ [])) new
       definition-Listed whole abs rep kw ka kr tw ta tr one two new adds1 adds2 adds3 =
           let items = made_items front in
@@ -167,8 +178,18 @@ module _ (p : Kept) (order : IsInOrder p) (front rest : List Made) (old : Items)
           let n1 = at-first items _ (second ∷ third ∷ []) first at refl in
           let n2 = at (first ∷ []) (third ∷ []) second refl in
           let n3 = at (first ∷ second ∷ []) [] third refl in
-          let h1 = adds1 p items first (record { number = n1.0; key = refl; silent = refl; new = n1.1.1; needs = part-keys whole c tw; known = part-known whole kw }) h in
-          let h2 = adds2 p (items ++ first ∷ []) second (record { number = n2.0; key = refl; silent = refl; new = n2.1.1; needs = part-keys abs (abstraction_type names c) ta; known = part-known abs ka }) h1 in
+          let h1 = adds1 p items first
+          (record { number = n1.0; key = refl; silent = refl; new = n1.1.1; needs = part-keys whole c tw; known = part-known whole kw }) h in
+          let h2 = adds2 p (items ++ first ∷ []) second
+          (record {
+            number = n2.0;
+            key = refl;
+            silent = refl;
+            new = n2.1.1;
+            needs = part-keys abs (abstraction_type names c) ta;
+            known =
+                part-known abs ka;
+          }) h1 in
           let e : (items ++ first ∷ []) ++ second ∷ [] ≡ items ++ first ∷ second ∷ [] = append_assoc items (first ∷ []) (second ∷ []) in
           let h3 = adds3 p (items ++ first ∷ second ∷ []) third
           (record { number = n3.0; key = refl; silent = refl; new = n3.1.1; needs = part-keys rep (representation_type names c) tr; known = part-known rep kr })

@@ -28,7 +28,8 @@ length-alike (x ∷ xs) [] h = absurd h
 said-alike : (xs ys : List Item) → AreAlike xs ys → said_by xs ≡ said_by ys
 said-alike [] [] h = refl
 said-alike (x ∷ xs) (y ∷ ys) h =
-    ap₂ (λ i c. cons_option (option_map (λ (s : Sequent). (i, s)) (says c)) (said_by xs)) h.0 h.1 ∙ ap (λ l. cons_option (option_map (λ (s : Sequent). (y.symbol, s)) (says y.content)) l) (said-alike xs ys h.2)
+    ap₂ (λ i c. cons_option (option_map (λ (s : Sequent). (i, s)) (says c)) (said_by xs)) h.0 h.1
+    ∙ ap (λ l. cons_option (option_map (λ (s : Sequent). (y.symbol, s)) (says y.content)) l) (said-alike xs ys h.2)
 said-alike [] (y ∷ ys) h = absurd h
 said-alike (x ∷ xs) [] h = absurd h
 
@@ -52,7 +53,8 @@ abbrev said_at : List (ℕ × Sequent) → ℕ → ℕ × Sequent
 said_at said k = slice_index_or said k (0, record { hypotheses = []; conclusion = bound 0 })
 
 abbrev shown_from : List (ℕ × Sequent) → Step → Content
-shown_from said y = content_by (has_row y.kind) y.kind (map (λ k. (said_at said k).0) y.premises) (map (λ k. (said_at said k).1) y.premises) y.parameters y.sequent
+shown_from said y = content_by (has_row y.kind) y.kind (map (λ k. (said_at said k).0) y.premises) (map (λ k. (said_at said k).1) y.premises) y.parameters
+    y.sequent
 
 abbrev contents_from : List (ℕ × Sequent) → Made → List Content
 contents_from said (Made.symbol x) = contents_of x
@@ -73,7 +75,8 @@ after-alike m n xs ys (x ∷ made) h =
     let f = m (length (said_by xs)) x in
     let g = n (length (said_by ys)) x in
     after-alike m n (xs ++ numbered f (length xs) (contents xs x)) (ys ++ numbered g (length ys) (contents ys x)) made
-    (append-alike xs ys (numbered f (length xs) (contents xs x)) (numbered g (length ys) (contents ys x)) h (numbered-alike f g (length xs) (length ys) (contents xs x) (contents ys x) (length-alike xs ys h) (contents-alike xs ys x h)))
+    (append-alike xs ys (numbered f (length xs) (contents xs x)) (numbered g (length ys) (contents ys x)) h
+    (numbered-alike f g (length xs) (length ys) (contents xs x) (contents ys x) (length-alike xs ys h) (contents-alike xs ys x h)))
 
 wanted-alike : (roots : List Key) (xs ys : List Item) → AreAlike xs ys → wanted_from roots xs ≡ wanted_from roots ys
 wanted-alike roots [] [] h = refl

@@ -51,7 +51,8 @@ flag-marked flags j i l = go (i == j) (unsigned_Decides i j)
   where
     go : (b : Bool) → Decides b (i ≡ j) → slice_index_or (slice_set flags j true) i false ≡ (slice_index_or flags i false || b)
     go true d =
-        ap (λ k. slice_index_or (slice_set flags j true) k false) (d.0 refl) ∙ get_or-set_same flags j true false l ∙ sym (or_right (slice_index_or flags i false) true refl)
+        ap (λ k. slice_index_or (slice_set flags j true) k false) (d.0 refl) ∙ get_or-set_same flags j true false l
+        ∙ sym (or_right (slice_index_or flags i false) true refl)
     go false d = get_or-set_other flags j i true false (λ e. let f : false ≡ true = d.1 e in absurd (cc)) ∙ sym (or-false (slice_index_or flags i false))
 
 pub length-marked : (flags : List Bool) (o : Option ℕ) → length (marked flags o) ≡ length flags
@@ -69,22 +70,28 @@ flag-marked_at flags (Some j) i h = flag-marked flags j i h
 -- the keys of tasks
 keys_in-append : (trees : Trees) (ts us : List Task) → keys_in trees (ts ++ us) ≡ keys_in trees ts ++ keys_in trees us
 keys_in-append trees [] us = refl
-keys_in-append trees (t ∷ ts) us = ap (λ l. task_keys trees t ++ l) (keys_in-append trees ts us) ∙ sym (append_assoc (task_keys trees t) (keys_in trees ts) (keys_in trees us))
+keys_in-append trees (t ∷ ts) us = ap (λ l. task_keys trees t ++ l) (keys_in-append trees ts us) ∙ sym
+    (append_assoc (task_keys trees t) (keys_in trees ts) (keys_in trees us))
 
 pub wanted-append : (ks ls : List Key) (x : Item) → is_wanted (ks ++ ls) x ≡ (is_wanted ks x || is_wanted ls x)
 wanted-append ks ls x = list_any-append (key_eq (gives x)) ks ls
 
-wanted-tasks : (trees : Trees) (ts us : List Task) (x : Item) → is_wanted (keys_in trees (ts ++ us)) x ≡ (is_wanted (keys_in trees ts) x || is_wanted (keys_in trees us) x)
+wanted-tasks : (trees : Trees) (ts us : List Task) (x : Item) → is_wanted (keys_in trees (ts ++ us)) x
+    ≡ (is_wanted (keys_in trees ts) x || is_wanted (keys_in trees us) x)
 wanted-tasks trees ts us x = ap (λ ks. is_wanted ks x) (keys_in-append trees ts us) ∙ wanted-append (keys_in trees ts) (keys_in trees us) x
 
-wanted-in : (trees : Trees) (tasks : List Task) (u : Task) (x : Item) → IsIn tasks u → is_wanted (task_keys trees u) x ≡ true → is_wanted (keys_in trees tasks) x ≡ true
+wanted-in : (trees : Trees) (tasks : List Task) (u : Task) (x : Item) → IsIn tasks u → is_wanted (task_keys trees u) x ≡ true
+    → is_wanted (keys_in trees tasks) x ≡ true
 wanted-in trees [] u x h e = absurd h
-wanted-in trees (t ∷ ts) u x (inl same) e = wanted-append (task_keys trees t) (keys_in trees ts) x ∙ or_left (is_wanted (task_keys trees t) x) (is_wanted (keys_in trees ts) x) (subst (λ v. is_wanted (task_keys trees v) x ≡ true) same e)
+wanted-in trees (t ∷ ts) u x (inl same) e = wanted-append (task_keys trees t) (keys_in trees ts) x ∙ or_left (is_wanted (task_keys trees t) x)
+    (is_wanted (keys_in trees ts) x) (subst (λ v. is_wanted (task_keys trees v) x ≡ true) same e)
 wanted-in trees (t ∷ ts) u x (inr h) e =
-    wanted-append (task_keys trees t) (keys_in trees ts) x ∙ or_right (is_wanted (task_keys trees t) x) (is_wanted (keys_in trees ts) x) (wanted-in trees ts u x h e)
+    wanted-append (task_keys trees t) (keys_in trees ts) x
+    ∙ or_right (is_wanted (task_keys trees t) x) (is_wanted (keys_in trees ts) x) (wanted-in trees ts u x h e)
 
 -- what some tasks need, one of them needs
-wanted-by : (trees : Trees) (tasks : List Task) (x : Item) → is_wanted (keys_in trees tasks) x ≡ true → (u : Task) × IsIn tasks u × (is_wanted (task_keys trees u) x ≡ true)
+wanted-by : (trees : Trees) (tasks : List Task) (x : Item) → is_wanted (keys_in trees tasks) x ≡ true → (u : Task) × IsIn tasks u
+    × (is_wanted (task_keys trees u) x ≡ true)
 wanted-by trees [] x e = absurd (cc)
 wanted-by trees (t ∷ ts) x e =
     elim (or_cases (is_wanted (task_keys trees t) x) (is_wanted (keys_in trees ts) x) (sym (wanted-append (task_keys trees t) (keys_in trees ts) x) ∙ e)) [
@@ -105,11 +112,13 @@ module _ (trees : Trees) (items : List Item) where
 
   -- what the walk came to reaches what it needs
   module _ (w : Walk) (opened : (t : Task) → is_seen w t ≡ true → IsOpened trees items w t) where
-    covered : (n : ℕ) (t : Task) → rank trees t < n → is_seen w t ≡ true → (x : Item) → IsIn items x → is_wanted (task_keys trees t) x ≡ true → is_reached trees w x ≡ true
+    covered : (n : ℕ) (t : Task) → rank trees t < n → is_seen w t ≡ true → (x : Item) → IsIn items x → is_wanted (task_keys trees t) x ≡ true
+        → is_reached trees w x ≡ true
     covered zero t l s x i e = absurd (omega (arith, l))
     covered (suc n) t l s x i e =
         let o = opened t s in
-        elim (or_cases (is_wanted o.own x) (is_wanted (keys_in trees o.parts) x) (sym (ap (λ ks. is_wanted ks x) o.keys ∙ wanted-append o.own (keys_in trees o.parts) x) ∙ e)) [
+        elim (or_cases (is_wanted o.own x) (is_wanted (keys_in trees o.parts) x)
+        (sym (ap (λ ks. is_wanted ks x) o.keys ∙ wanted-append o.own (keys_in trees o.parts) x) ∙ e)) [
           | inl f ↦ or_left (flag w.marks.items x.symbol) (is_wanted (keys_in trees w.tasks) x) (o.marked x i f)
           | inr f ↦
               let r = wanted-by trees o.parts x f in
@@ -267,7 +276,8 @@ module _ (trees : Trees) (items : List Item) where
   -- one after another
   pub Wants-trans : (ks ls : List Key) (a b c : Walk) → Wants trees items ks a b → Wants trees items ls b c → Wants trees items (ks ++ ls) a c
   Wants-trans ks ls a b c h k x i =
-      k x i ∙ ap (λ y. y || is_wanted ls x) (h x i) ∙ or-assoc (is_reached trees a x) (is_wanted ks x) (is_wanted ls x) ∙ ap (λ y. is_reached trees a x || y) (sym (wanted-append ks ls x))
+      k x i ∙ ap (λ y. y || is_wanted ls x) (h x i) ∙ or-assoc (is_reached trees a x) (is_wanted ks x) (is_wanted ls x)
+      ∙ ap (λ y. is_reached trees a x || y) (sym (wanted-append ks ls x))
 
   pub Wants-refl : (a : Walk) → Wants trees items [] a a
   Wants-refl a x i = sym (or-false (is_reached trees a x))

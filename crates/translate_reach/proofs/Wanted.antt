@@ -56,7 +56,8 @@ number-is (s ∷ ss) zero d = refl
 number-is (s ∷ ss) (suc k) d = number-is ss k d
 
 -- whether an item gives the number of one that says something
-number-key : (x z : Item) (s : Sequent) → says z.content ≡ Some s → (x.symbol ≡ z.symbol → x ≡ z) → key_eq (gives x) (number_key z.symbol) ≡ (x.symbol == z.symbol)
+number-key : (x z : Item) (s : Sequent) → says z.content ≡ Some s → (x.symbol ≡ z.symbol → x ≡ z) → key_eq (gives x) (number_key z.symbol)
+    ≡ (x.symbol == z.symbol)
 number-key x z s said one = go (x.symbol == z.symbol) (unsigned_Decides x.symbol z.symbol)
   where
     silent : (i : ℕ) (c : Content) → (i ≡ z.symbol → ⊥) → key_eq (gives_of i c) (number_key z.symbol) ≡ false
@@ -71,12 +72,14 @@ number-key x z s said one = go (x.symbol == z.symbol) (unsigned_Decides x.symbol
 
     go : (b : Bool) → Decides b (x.symbol ≡ z.symbol) → key_eq (gives x) (number_key z.symbol) ≡ b
     go true d =
-        ap (λ (y : Item). key_eq (gives y) (number_key z.symbol)) (one (d.0 refl)) ∙ ap (λ k. key_eq k (number_key z.symbol)) (says-gives_of z.symbol z.content s said) ∙ (unsigned_Decides z.symbol z.symbol).1 refl
+        ap (λ (y : Item). key_eq (gives y) (number_key z.symbol)) (one (d.0 refl))
+        ∙ ap (λ k. key_eq k (number_key z.symbol)) (says-gives_of z.symbol z.content s said) ∙ (unsigned_Decides z.symbol z.symbol).1 refl
     go false d = silent x.symbol x.content (λ e. let f : false ≡ true = d.1 e in absurd (cc))
 
 module _ (p : Kept) (order : IsInOrder p) where
   pub step-key : (k : ℕ) → k < step_count p → (x : Item) → IsIn (made_items p.made) x
-      → (key_eq (gives x) (number_key (number_in (numbers_of (made_items p.made)) k)) ≡ (x.symbol == number_in (numbers_of (made_items p.made)) k)) × (number_in (numbers_of (made_items p.made)) k < length (made_items p.made))
+      → (key_eq (gives x) (number_key (number_in (numbers_of (made_items p.made)) k)) ≡ (x.symbol == number_in (numbers_of (made_items p.made)) k))
+      × (number_in (numbers_of (made_items p.made)) k < length (made_items p.made))
   step-key k l x i =
       let items = made_items p.made in
       let none : ℕ × Sequent = (0, record { hypotheses = []; conclusion = bound 0 }) in
@@ -101,15 +104,18 @@ module _ (p : Kept) (order : IsInOrder p) where
       subst (λ j. j < length items) (z.2 ∙ number-is (said_by items) k none) (slice_get_within items z.0.symbol z.0 (at-symbol items order z.0 z.1))
 
   -- a step is marked
-  pub step-Gains : (w v : Walk) → IsWalkOf p w → (k : ℕ) → k < step_count p → v.marks.items ≡ marked w.marks.items (Some (number_in (numbers_of (made_items p.made)) k)) → v.types.items ≡ w.types.items
-      → v.terms.items ≡ w.terms.items → v.tasks ≡ w.tasks → Gains p.trees (made_items p.made) w v (number_key (number_in (numbers_of (made_items p.made)) k) ∷ []) []
+  pub step-Gains : (w v : Walk) → IsWalkOf p w → (k : ℕ) → k < step_count p → v.marks.items
+      ≡ marked w.marks.items (Some (number_in (numbers_of (made_items p.made)) k)) → v.types.items ≡ w.types.items
+      → v.terms.items ≡ w.terms.items → v.tasks ≡ w.tasks
+      → Gains p.trees (made_items p.made) w v (number_key (number_in (numbers_of (made_items p.made)) k) ∷ []) []
   step-Gains w v h k l marks types terms tasks =
       let items = made_items p.made in
       let j = number_in (numbers_of items) k in
       record {
         known = tt {0};
         marks = λ x i. let s = step-key k l x i in let n = h.marks in let b = s.1 in
-            ap (λ f. flag f x.symbol) marks ∙ flag-marked_at w.marks.items (Some j) x.symbol (omega (arith, b, n)) ∙ ap (λ c. flag w.marks.items x.symbol || c) (sym s.0 ∙ sym (or-false (key_eq (gives x) (number_key j))));
+            ap (λ f. flag f x.symbol) marks ∙ flag-marked_at w.marks.items (Some j) x.symbol (omega (arith, b, n))
+            ∙ ap (λ c. flag w.marks.items x.symbol || c) (sym s.0 ∙ sym (or-false (key_eq (gives x) (number_key j))));
         marks_count = ap length marks ∙ length-marked w.marks.items (Some j);
         types = types;
         terms = terms;
@@ -126,13 +132,22 @@ record IsStepThere (made : List Made) (id : ℕ) : Type 0 where
 
 step-split : (made : List Made) (id : ℕ) → id < length (steps_of made) → IsStepThere made id
 step-split [] id l = absurd (omega arith)
-step-split (Made.symbol x ∷ made) id l = let r = step-split made id l in record { front = Made.symbol x ∷ r.front; rest = r.rest; one = r.one; whole = ap (λ m. Made.symbol x ∷ m) r.whole; place = r.place }
+step-split (Made.symbol x ∷ made) id l = let r = step-split made id l in record
+    { front = Made.symbol x ∷ r.front; rest = r.rest; one = r.one; whole = ap (λ m. Made.symbol x ∷ m) r.whole; place = r.place }
 step-split (Made.type_definition names c f i ∷ made) id l =
     let r = step-split made id l in
-    record { front = Made.type_definition names c f i ∷ r.front; rest = r.rest; one = r.one; whole = ap (λ m. Made.type_definition names c f i ∷ m) r.whole; place = r.place }
+    record {
+      front = Made.type_definition names c f i ∷ r.front;
+      rest = r.rest;
+      one = r.one;
+      whole =
+          ap (λ m. Made.type_definition names c f i ∷ m) r.whole;
+      place = r.place;
+    }
 step-split (Made.step x ∷ made) zero l = record { front = []; rest = made; one = x; whole = refl; place = refl }
 step-split (Made.step x ∷ made) (suc id) l =
-    let r = step-split made id (omega arith) in record { front = Made.step x ∷ r.front; rest = r.rest; one = r.one; whole = ap (λ m. Made.step x ∷ m) r.whole; place = ap suc r.place }
+    let r = step-split made id (omega arith) in record
+    { front = Made.step x ∷ r.front; rest = r.rest; one = r.one; whole = ap (λ m. Made.step x ∷ m) r.whole; place = ap suc r.place }
 
 All-below : (m n : ℕ) (ks : List ℕ) → m < n + 1 → AllByRecursion (λ k. k < m) ks → AllByRecursion (λ k. k < n) ks
 All-below m n [] l h = tt
@@ -141,11 +156,14 @@ All-below m n (k ∷ ks) l h = (let a = h.0 in omega (arith, a, l), All-below m 
 pub premises-AreSteps : (p : Kept) → IsProof p.made → (id : ℕ) → id < step_count p → AreSteps p (step_at p.made id).premises
 premises-AreSteps p proof id l =
     let r = step-split p.made id l in
-    let is : step_at p.made id ≡ r.one = ap (step_at p.made) (sym r.place) ∙ ap (λ m. step_at m (length (steps_of r.front))) r.whole ∙ step-there r.front r.rest r.one in
+    let is : step_at p.made id ≡ r.one = ap (step_at p.made) (sym r.place) ∙ ap (λ m. step_at m (length (steps_of r.front))) r.whole ∙ step-there r.front r.rest
+    r.one in
     let earlier = step-earlier r.front r.rest r.one (subst IsProof r.whole proof) in
     let said = length-map (steps_of r.front) (λ (x : Step). x.sequent) in
-    let count = ap (λ m. length (steps_of m)) r.whole ∙ ap length (steps_of-append r.front (Made.step r.one ∷ r.rest)) ∙ length-append (steps_of r.front) (r.one ∷ steps_of r.rest) in
-    subst (λ (x : Step). AreSteps p x.premises) (sym is) (All-below (length (sequents_of r.front)) (step_count p) r.one.premises (omega (arith, said, count)) earlier)
+    let count = ap (λ m. length (steps_of m)) r.whole ∙ ap length (steps_of-append r.front (Made.step r.one ∷ r.rest))
+    ∙ length-append (steps_of r.front) (r.one ∷ steps_of r.rest) in
+    subst (λ (x : Step). AreSteps p x.premises) (sym is)
+    (All-below (length (sequents_of r.front)) (step_count p) r.one.premises (omega (arith, said, count)) earlier)
 
 -- what a step needs
 module _ (ns : List ℕ) (made : List Made) (id : ℕ) where
@@ -163,20 +181,25 @@ module _ (ns : List ℕ) (made : List Made) (id : ℕ) where
   pub needs-unproved : has_row (step_at made id).kind ≡ false → needs (content_at ns made id) ≡ sequent_keys (step_at made id).sequent
   needs-unproved e =
       let y = needed_at made id in
-      needs-by false y.kind (map (number_in ns) y.premises) (map (sequent_at made) y.premises) y.parameters y.sequent (needed-row ss x ∙ e) ∙ ap sequent_keys (needed-sequent ss x)
+      needs-by false y.kind (map (number_in ns) y.premises) (map (sequent_at made) y.premises) y.parameters y.sequent (needed-row ss x ∙ e)
+      ∙ ap sequent_keys (needed-sequent ss x)
 
   -- what the proof of a step needs
   pub proof-idle : proves_nothing (step_at made id).kind (map (sequent_at made) (step_at made id).premises) ≡ true
-      → map number_key (map (number_in ns) (needed_at made id).premises) ++ given_keys (needed_at made id).parameters ≡ map number_key (map (number_in ns) (drop 1 (step_at made id).premises))
+      → map number_key (map (number_in ns) (needed_at made id).premises) ++ given_keys (needed_at made id).parameters
+      ≡ map number_key (map (number_in ns) (drop 1 (step_at made id).premises))
   proof-idle e =
-      ap (λ b. let y = cond b (restated x) x in map number_key (map (number_in ns) y.premises) ++ given_keys y.parameters) e ∙ append-nil (map number_key (map (number_in ns) (drop 1 x.premises)))
+      ap (λ b. let y = cond b (restated x) x in map number_key (map (number_in ns) y.premises) ++ given_keys y.parameters) e
+      ∙ append-nil (map number_key (map (number_in ns) (drop 1 x.premises)))
 
   pub proof-all : proves_nothing (step_at made id).kind (map (sequent_at made) (step_at made id).premises) ≡ false
-      → map number_key (map (number_in ns) (needed_at made id).premises) ++ given_keys (needed_at made id).parameters ≡ map number_key (map (number_in ns) (step_at made id).premises) ++ given_keys (step_at made id).parameters
+      → map number_key (map (number_in ns) (needed_at made id).premises) ++ given_keys (needed_at made id).parameters
+      ≡ map number_key (map (number_in ns) (step_at made id).premises) ++ given_keys (step_at made id).parameters
   proof-all e = ap (λ b. let y = cond b (restated x) x in map number_key (map (number_in ns) y.premises) ++ given_keys y.parameters) e
 
   pub needs-proved : has_row (step_at made id).kind ≡ true
-      → needs (content_at ns made id) ≡ sequent_keys (step_at made id).sequent ++ (map number_key (map (number_in ns) (needed_at made id).premises) ++ given_keys (needed_at made id).parameters)
+      → needs (content_at ns made id) ≡ sequent_keys (step_at made id).sequent
+      ++ (map number_key (map (number_in ns) (needed_at made id).premises) ++ given_keys (needed_at made id).parameters)
   needs-proved e =
       let y = needed_at made id in
       needs-by true y.kind (map (number_in ns) y.premises) (map (sequent_at made) y.premises) y.parameters y.sequent (needed-row ss x ∙ e)
@@ -184,16 +207,20 @@ module _ (ns : List ℕ) (made : List Made) (id : ℕ) where
       ∙ ap (λ s. sequent_keys s ++ (map number_key (map (number_in ns) y.premises) ++ given_keys y.parameters)) (needed-sequent ss x)
 
 -- the terms of a sequent
-pub terms-keys : (trees : Trees) (ids : List TermId) (id : TermId) → keys_in trees (map task.Term ids ++ task.Term id ∷ []) ≡ flat_map term_keys (terms_at trees ids) ++ term_keys (term_at trees id.0)
+pub terms-keys : (trees : Trees) (ids : List TermId) (id : TermId) → keys_in trees (map task.Term ids ++ task.Term id ∷ [])
+    ≡ flat_map term_keys (terms_at trees ids) ++ term_keys (term_at trees id.0)
 terms-keys trees [] id = append-nil (term_keys (term_at trees id.0))
-terms-keys trees (i ∷ ids) id = ap (λ l. term_keys (term_at trees i.0) ++ l) (terms-keys trees ids id) ∙ sym (append_assoc (term_keys (term_at trees i.0)) (flat_map term_keys (terms_at trees ids)) (term_keys (term_at trees id.0)))
+terms-keys trees (i ∷ ids) id = ap (λ l. term_keys (term_at trees i.0) ++ l) (terms-keys trees ids id) ∙ sym
+    (append_assoc (term_keys (term_at trees i.0)) (flat_map term_keys (terms_at trees ids)) (term_keys (term_at trees id.0)))
 
-pub terms-known : (trees : Trees) (ids : List TermId) (id : TermId) → AreKnown trees ids → id.0 < length trees.terms → AllByRecursion (IsTaskKnown trees) (map task.Term ids ++ task.Term id ∷ [])
+pub terms-known : (trees : Trees) (ids : List TermId) (id : TermId) → AreKnown trees ids → id.0 < length trees.terms
+    → AllByRecursion (IsTaskKnown trees) (map task.Term ids ++ task.Term id ∷ [])
 terms-known trees [] id h l = (l, tt {0})
 terms-known trees (i ∷ ids) id h l = (h.0, terms-known trees ids id h.1 l)
 
 -- the marks are those that there were
-pub no-marks : (trees : Trees) (items : List Item) (w v : Walk) (more : List Task) → AllByRecursion (IsTaskKnown trees) more → v.marks.items ≡ w.marks.items → v.types.items ≡ w.types.items → v.terms.items ≡ w.terms.items → v.tasks ≡ more ++ w.tasks
+pub no-marks : (trees : Trees) (items : List Item) (w v : Walk) (more : List Task) → AllByRecursion (IsTaskKnown trees) more → v.marks.items ≡ w.marks.items
+    → v.types.items ≡ w.types.items → v.terms.items ≡ w.terms.items → v.tasks ≡ more ++ w.tasks
     → Gains trees items w v [] more
 no-marks trees items w v more known marks types terms tasks = record {
   known = known;
@@ -205,11 +232,14 @@ no-marks trees items w v more known marks types terms tasks = record {
 }
 
 -- where no term has two numbers, a number is among others where its term is among theirs
-pub in-terms : (trees : Trees) → IsDistinct trees.terms → (id : TermId) → id.0 < length trees.terms → (ids : List TermId) → AreKnown trees ids → is_in (λ (i j : TermId). i.0 == j.0) id ids ≡ is_in term_eq (term_at trees id.0) (terms_at trees ids)
+pub in-terms : (trees : Trees) → IsDistinct trees.terms → (id : TermId) → id.0 < length trees.terms → (ids : List TermId) → AreKnown trees ids
+    → is_in (λ (i j : TermId). i.0 == j.0) id ids ≡ is_in term_eq (term_at trees id.0) (terms_at trees ids)
 in-terms trees d id l [] h = refl
-in-terms trees d id l (j ∷ js) h = ap₂ (λ a b. a || b) (one (id.0 == j.0) (unsigned_Decides id.0 j.0) (term_eq-Decides (term_at trees id.0) (term_at trees j.0))) (in-terms trees d id l js h.1)
+in-terms trees d id l (j ∷ js) h = ap₂ (λ a b. a || b)
+    (one (id.0 == j.0) (unsigned_Decides id.0 j.0) (term_eq-Decides (term_at trees id.0) (term_at trees j.0))) (in-terms trees d id l js h.1)
   where
-    one : (b : Bool) → Decides b (id.0 ≡ j.0) → Decides (term_eq (term_at trees id.0) (term_at trees j.0)) (term_at trees id.0 ≡ term_at trees j.0) → b ≡ term_eq (term_at trees id.0) (term_at trees j.0)
+    one : (b : Bool) → Decides b (id.0 ≡ j.0) → Decides (term_eq (term_at trees id.0) (term_at trees j.0)) (term_at trees id.0 ≡ term_at trees j.0) → b
+        ≡ term_eq (term_at trees id.0) (term_at trees j.0)
     one true e t = sym (t.1 (ap (term_at trees) (e.0 refl)))
     one false e t = go (term_eq (term_at trees id.0) (term_at trees j.0)) t.0
       where
@@ -236,7 +266,8 @@ module _ (p : Kept) (items : Items) (h : AreItems p items) where
   number-kept k r l e = let n = steps-length in get_or_read items.steps.items k r (omega (arith, l, n)) e 0 ∙ ap (λ ks. slice_index_or ks k 0) h.steps
 
 -- one more step
-pub step_keys-last : (p : Kept) (ids : List ℕ) (id : ℕ) → step_keys p ids ++ number_key (number_in (numbers_of (made_items p.made)) id) ∷ [] ≡ step_keys p (ids ++ id ∷ [])
+pub step_keys-last : (p : Kept) (ids : List ℕ) (id : ℕ) → step_keys p ids ++ number_key (number_in (numbers_of (made_items p.made)) id) ∷ []
+    ≡ step_keys p (ids ++ id ∷ [])
 step_keys-last p [] id = refl
 step_keys-last p (i ∷ ids) id = ap (λ l. number_key (number_in (numbers_of (made_items p.made)) i) ∷ l) (step_keys-last p ids id)
 
@@ -250,7 +281,8 @@ length-marked_by index flags [] = refl
 length-marked_by index flags (q ∷ qs) = length-marked_by index (marked flags (found index q)) qs ∙ length-marked flags (found index q)
 
 module _ (items : List Item) (index : Index) (h : IsIndex items index) where
-  flag-marked_by : (qs : List Key) → AllByRecursion IsNamedKey qs → (flags : List Bool) → length flags ≡ length items → (x : Item) → IsIn items x → flag (marked_by index flags qs) x.symbol ≡ (flag flags x.symbol || is_wanted qs x)
+  flag-marked_by : (qs : List Key) → AllByRecursion IsNamedKey qs → (flags : List Bool) → length flags ≡ length items → (x : Item) → IsIn items x
+      → flag (marked_by index flags qs) x.symbol ≡ (flag flags x.symbol || is_wanted qs x)
   flag-marked_by [] named flags e x i = sym (or-false (flag flags x.symbol))
   flag-marked_by (q ∷ qs) named flags e x i =
       flag-marked_by qs named.1 (marked flags (found index q)) (length-marked flags (found index q) ∙ e) x i
@@ -259,7 +291,8 @@ module _ (items : List Item) (index : Index) (h : IsIndex items index) where
       ∙ ap (λ b. flag flags x.symbol || b) (sym (wanted-append (q ∷ []) qs x))
 
 -- the items of operators and constants are marked
-pub keys-Gains : (p : Kept) (items : Items) → AreItems p items → (w v : Walk) → IsWalkOf p w → (own : List Key) → AllByRecursion IsNamedKey own → (more : List Task) → AllByRecursion (IsTaskKnown p.trees) more → v.marks.items ≡ marked_by items.index w.marks.items own
+pub keys-Gains : (p : Kept) (items : Items) → AreItems p items → (w v : Walk) → IsWalkOf p w → (own : List Key) → AllByRecursion IsNamedKey own
+    → (more : List Task) → AllByRecursion (IsTaskKnown p.trees) more → v.marks.items ≡ marked_by items.index w.marks.items own
     → v.types.items ≡ w.types.items → v.terms.items ≡ w.terms.items → v.tasks ≡ more ++ w.tasks → Gains p.trees (made_items p.made) w v own more
 keys-Gains p items a w v h own named more known marks types terms tasks = record {
   known = known;
@@ -271,9 +304,12 @@ keys-Gains p items a w v h own named more known marks types terms tasks = record
 }
 
 -- the item of a constant is marked
-pub constant-Gains : (p : Kept) (items : Items) → AreItems p items → (w v : Walk) → IsWalkOf p w → (n : Name) (more : List Task) → AllByRecursion (IsTaskKnown p.trees) more → v.marks.items ≡ marked w.marks.items (found items.index (constant_key n))
-    → v.types.items ≡ w.types.items → v.terms.items ≡ w.terms.items → v.tasks ≡ more ++ w.tasks → Gains p.trees (made_items p.made) w v (constant_key n ∷ []) more
-constant-Gains p items a w v h n more known marks types terms tasks = keys-Gains p items a w v h (constant_key n ∷ []) (tt {0}, tt {0}) more known marks types terms tasks
+pub constant-Gains : (p : Kept) (items : Items) → AreItems p items → (w v : Walk) → IsWalkOf p w → (n : Name) (more : List Task)
+    → AllByRecursion (IsTaskKnown p.trees) more → v.marks.items ≡ marked w.marks.items (found items.index (constant_key n))
+    → v.types.items ≡ w.types.items → v.terms.items ≡ w.terms.items → v.tasks ≡ more ++ w.tasks
+    → Gains p.trees (made_items p.made) w v (constant_key n ∷ []) more
+constant-Gains p items a w v h n more known marks types terms tasks =
+    keys-Gains p items a w v h (constant_key n ∷ []) (tt {0}, tt {0}) more known marks types terms tasks
 
 -- all but the first
 take-all : {A : Type 0} (xs : List A) (n : ℕ) → n ≡ length xs → take n xs ≡ xs

@@ -142,7 +142,8 @@ AreSteps p ids = AllByRecursion (λ id. id < step_count p) ids
 pub record IsLooked (p : Kept) (exports : List ℕ) (w : Walk) (flags : List Bool) (i : ℕ) : Type 0 where
   pub walk : IsWalkOf p w
   pub tasks : w.tasks ≡ []
-  pub wanted : (x : Item) → IsIn (made_items p.made) x → flag w.marks.items x.symbol ≡ is_wanted (wanted_from (roots_of unnamed p.made exports) (drop i (made_items p.made))) x
+  pub wanted : (x : Item) → IsIn (made_items p.made) x → flag w.marks.items x.symbol
+      ≡ is_wanted (wanted_from (roots_of unnamed p.made exports) (drop i (made_items p.made))) x
   pub count : length flags ≡ length (made_items p.made)
   pub each : (j : ℕ) → i ≤ j → flag flags j ≡ keep_of (roots_of unnamed p.made exports) (made_items p.made) j
   pub within : i ≤ length (made_items p.made)

@@ -31,29 +31,42 @@ proofs-length : (symbols : SymbolMap) (hs : List Term) (scope : Scope) → lengt
 proofs-length symbols [] scope = refl
 proofs-length symbols (h ∷ hs) scope = ap suc (proofs-length symbols hs (under_proof h scope))
 
-pub domains-length : (symbols : SymbolMap) (s : Sequent) → length (domains_of symbols s) ≡ length (type_variables_of s) + length (free_variables_of s) + length s.hypotheses
+pub domains-length : (symbols : SymbolMap) (s : Sequent) → length (domains_of symbols s)
+    ≡ length (type_variables_of s) + length (free_variables_of s) + length s.hypotheses
 domains-length symbols s =
     let names = map (λ (n : Name). types) (type_variables_of s) in
     let terms = term_domains symbols (free_variables_of s) (scope_of_types symbols s) in
     let proofs = proof_domains symbols s.hypotheses (scope_of_terms symbols s) in
-    omega (arith, length-append (names ++ terms) proofs, length-append names terms, length-map (type_variables_of s) (λ (n : Name). types), terms-length symbols (free_variables_of s) (scope_of_types symbols s), proofs-length symbols s.hypotheses (scope_of_terms symbols s))
+    omega (
+      arith,
+      length-append (names ++ terms) proofs,
+      length-append names terms,
+      length-map (type_variables_of s) (λ (n : Name). types),
+      terms-length symbols (free_variables_of s) (scope_of_types symbols s),
+      proofs-length symbols s.hypotheses (scope_of_terms symbols s),
+    )
 
 -- what a content tells of a step that has a proof, and of one that has none
-content-by-proof : (d : List Declaration) (tables : SymbolMap) (b : Bool) (kind : StepKind) (js : List ℕ) (ss : List Sequent) (given : Parameters) (s : Sequent) → b ≡ true → TellsContent d tables (content_by b kind js ss given s)
+content-by-proof : (d : List Declaration) (tables : SymbolMap) (b : Bool) (kind : StepKind) (js : List ℕ) (ss : List Sequent) (given : Parameters) (s : Sequent)
+    → b ≡ true → TellsContent d tables (content_by b kind js ss given s)
     → TellsSequent d tables s × AllByRecursion (TellsSequent d tables) ss × TellsGiven d tables given
 content-by-proof d tables true kind js ss given s e h = h
 content-by-proof d tables false kind js ss given s e h = absurd (cc)
 
-content-by-own : (d : List Declaration) (tables : SymbolMap) (b : Bool) (kind : StepKind) (js : List ℕ) (ss : List Sequent) (given : Parameters) (s : Sequent) → TellsContent d tables (content_by b kind js ss given s) → TellsSequent d tables s
+content-by-own : (d : List Declaration) (tables : SymbolMap) (b : Bool) (kind : StepKind) (js : List ℕ) (ss : List Sequent) (given : Parameters) (s : Sequent)
+    → TellsContent d tables (content_by b kind js ss given s) → TellsSequent d tables s
 content-by-own d tables true kind js ss given s h = h.0
 content-by-own d tables false kind js ss given s h = h
 
-declared-by-proof : (tables : SymbolMap) (name : List ℕ) (b : Bool) (kind : StepKind) (js : List ℕ) (ss : List Sequent) (given : Parameters) (s : Sequent) → b ≡ true
-    → declaration_of tables name (content_by b kind js ss given s) ≡ theorem name (domains_of tables s) (conclusion_tree tables s) (proof_tree tables (scope_of tables s) kind js ss given)
+declared-by-proof : (tables : SymbolMap) (name : List ℕ) (b : Bool) (kind : StepKind) (js : List ℕ) (ss : List Sequent) (given : Parameters) (s : Sequent) → b
+    ≡ true
+    → declaration_of tables name (content_by b kind js ss given s)
+    ≡ theorem name (domains_of tables s) (conclusion_tree tables s) (proof_tree tables (scope_of tables s) kind js ss given)
 declared-by-proof tables name true kind js ss given s e = refl
 declared-by-proof tables name false kind js ss given s e = absurd (cc)
 
-declared-by-none : (tables : SymbolMap) (name : List ℕ) (b : Bool) (kind : StepKind) (js : List ℕ) (ss : List Sequent) (given : Parameters) (s : Sequent) → b ≡ false → declaration_of tables name (content_by b kind js ss given s) ≡ symbol name (sequent_tree tables s)
+declared-by-none : (tables : SymbolMap) (name : List ℕ) (b : Bool) (kind : StepKind) (js : List ℕ) (ss : List Sequent) (given : Parameters) (s : Sequent) → b
+    ≡ false → declaration_of tables name (content_by b kind js ss given s) ≡ symbol name (sequent_tree tables s)
 declared-by-none tables name false kind js ss given s e = refl
 declared-by-none tables name true kind js ss given s e = absurd (cc)
 
@@ -70,21 +83,27 @@ module _ (k : Kept) (id : ℕ) (l : id < step_count k) (p : IsProof k.made) (num
 
   pub content-own : TellsContent d tables (content_at numbers k.made id) → TellsSequent d tables (sequent_at k.made id)
   content-own h =
-      subst (TellsSequent d tables) own-sequent (content-by-own d tables (has_row x.kind) x.kind (map (symbol_in numbers) x.premises) (map (sequent_at k.made) x.premises) x.parameters x.sequent h)
+      subst (TellsSequent d tables) own-sequent
+      (content-by-own d tables (has_row x.kind) x.kind (map (symbol_in numbers) x.premises) (map (sequent_at k.made) x.premises) x.parameters x.sequent h)
 
   pub content-proved : has_row (step_at k.made id).kind ≡ true → TellsContent d tables (content_at numbers k.made id) → TellsProof d tables k.made x
   content-proved e h =
-      let told = content-by-proof d tables (has_row x.kind) x.kind (map (symbol_in numbers) x.premises) (map (sequent_at k.made) x.premises) x.parameters x.sequent (own-proved ∙ e) h in
+      let told = content-by-proof d tables (has_row x.kind) x.kind (map (symbol_in numbers) x.premises) (map (sequent_at k.made) x.premises) x.parameters
+      x.sequent (own-proved ∙ e) h in
       record { own = told.0; premises = told.1; given = told.2 }
 
   -- its declaration
   pub declared-proved : (name : List ℕ) → has_row (step_at k.made id).kind ≡ true
-      → theorem name (domains_of tables (sequent_at k.made id)) (conclusion_tree tables (sequent_at k.made id)) (rule_tree tables (scope_of tables (sequent_at k.made id)) numbers k.made x) ≡ declaration_of tables name (content_at numbers k.made id)
+      → theorem name (domains_of tables (sequent_at k.made id)) (conclusion_tree tables (sequent_at k.made id))
+      (rule_tree tables (scope_of tables (sequent_at k.made id)) numbers k.made x) ≡ declaration_of tables name (content_at numbers k.made id)
   declared-proved name e =
-      sym (declared-by-proof tables name (has_row x.kind) x.kind (map (symbol_in numbers) x.premises) (map (sequent_at k.made) x.premises) x.parameters x.sequent (own-proved ∙ e)
+      sym (declared-by-proof tables name (has_row x.kind) x.kind (map (symbol_in numbers) x.premises) (map (sequent_at k.made) x.premises) x.parameters
+      x.sequent (own-proved ∙ e)
       ∙ ap (λ s. theorem name (domains_of tables s) (conclusion_tree tables s) (rule_tree tables (scope_of tables s) numbers k.made x)) own-sequent)
 
-  pub declared-none : (name : List ℕ) → has_row (step_at k.made id).kind ≡ false → symbol name (sequent_tree tables (sequent_at k.made id)) ≡ declaration_of tables name (content_at numbers k.made id)
+  pub declared-none : (name : List ℕ) → has_row (step_at k.made id).kind ≡ false → symbol name (sequent_tree tables (sequent_at k.made id))
+      ≡ declaration_of tables name (content_at numbers k.made id)
   declared-none name e =
-      sym (declared-by-none tables name (has_row x.kind) x.kind (map (symbol_in numbers) x.premises) (map (sequent_at k.made) x.premises) x.parameters x.sequent (own-proved ∙ e)
+      sym (declared-by-none tables name (has_row x.kind) x.kind (map (symbol_in numbers) x.premises) (map (sequent_at k.made) x.premises) x.parameters x.sequent
+      (own-proved ∙ e)
       ∙ ap (λ s. symbol name (sequent_tree tables s)) own-sequent)

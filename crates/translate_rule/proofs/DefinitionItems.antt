@@ -39,12 +39,14 @@ use Rattle.translate_rule.specs.Steps.{symbol_in}
 use Rattle.translate_rule.proofs.NextItems.{content-next}
 
 -- a part is named as its item is, and is a part of the same premise under another number
-part-named : (own : Part) (names : TypeNames) (c : HolType) (f : Term) (j : ℕ) (one : Sequent) → type_definition_name (part_content own names c f j one) ≡ part_name own names
+part-named : (own : Part) (names : TypeNames) (c : HolType) (f : Term) (j : ℕ) (one : Sequent) → type_definition_name (part_content own names c f j one)
+    ≡ part_name own names
 part-named part.Operator names c f j one = refl
 part-named part.Abstraction names c f j one = refl
 part-named part.Representation names c f j one = refl
 
-part-renumbered : (own : Part) (names : TypeNames) (c : HolType) (f : Term) (j : ℕ) (one : Sequent) (number : ℕ → ℕ) → renumbered_content number (part_content own names c f j one) ≡ part_content own names c f (number j) one
+part-renumbered : (own : Part) (names : TypeNames) (c : HolType) (f : Term) (j : ℕ) (one : Sequent) (number : ℕ → ℕ)
+    → renumbered_content number (part_content own names c f j one) ≡ part_content own names c f (number j) one
 part-renumbered part.Operator names c f j one number = refl
 part-renumbered part.Abstraction names c f j one number = refl
 part-renumbered part.Representation names c f j one number = refl
@@ -86,7 +88,8 @@ module _ (r : Run) (earlier : List Made) (d : TypeDefinition) where
   abbrev pub up_to_abstraction : List Item
   up_to_abstraction = definition_up_to run earlier (made_part part.Operator ∷ made_part part.Abstraction ∷ [])
 
-  module _ (sound : IsSoundRun run) (later : List Made) (whole : k.made ≡ earlier ++ definition_made k.trees d.view d.premise ∷ later) (known : IsKnownSymbol k.trees (operator_of_view d.view)) (old : ModuleBuilder)
+  module _ (sound : IsSoundRun run) (later : List Made) (whole : k.made ≡ earlier ++ definition_made k.trees d.view d.premise ∷ later)
+      (known : IsKnownSymbol k.trees (operator_of_view d.view)) (old : ModuleBuilder)
       (h : IsBuilt run earlier old) where
     abbrev y : Made
     y = definition_made k.trees d.view d.premise
@@ -109,7 +112,8 @@ module _ (r : Run) (earlier : List Made) (d : TypeDefinition) where
       definition-known : IsDefinitionKnown k now.numbers.items d
       definition-known =
           let within = law.earlier_premise in
-          let count = ap (λ m. length (steps_of m)) whole ∙ ap length (steps_of-append earlier (y ∷ later)) ∙ length-append (steps_of earlier) (steps_of later) in
+          let count = ap (λ m. length (steps_of m)) whole ∙ ap length (steps_of-append earlier (y ∷ later)) ∙ length-append (steps_of earlier) (steps_of later)
+          in
           let long = ap (λ v. length v.items) same ∙ h.steps in
           record {
             operator = known;
@@ -120,9 +124,11 @@ module _ (r : Run) (earlier : List Made) (d : TypeDefinition) where
 
       -- one of the three
       next-part : (own : Part) (front back : List Content) → type_contents names c f premise ≡ front ++ made_part own ∷ back
-          → IsNextItem run (definition_up_to run earlier front) (definition_up_to run earlier (front ++ made_part own ∷ [])) k now.numbers.items (item.Part own d)
+          → IsNextItem run (definition_up_to run earlier front) (definition_up_to run earlier (front ++ made_part own ∷ [])) k now.numbers.items
+          (item.Part own d)
       next-part own front back among =
-          content-next run earlier later y whole type_definition_name (items-grow run earlier y) front back (made_part own) among k now.numbers.items (item.Part own d)
+          content-next run earlier later y whole type_definition_name (items-grow run earlier y) front back (made_part own) among k now.numbers.items
+          (item.Part own d)
           (λ e. record {
             x = definition_in_module run earlier front (made_part own);
             next = next-definition-kept run earlier later names c f i whole front back (made_part own) among e;
@@ -130,7 +136,8 @@ module _ (r : Run) (earlier : List Made) (d : TypeDefinition) where
             content =
                 part-renumbered own names c f premise.0 premise.1 (module_number run)
                 ∙ ap (λ (p : ℕ × Sequent). part_content own names c f (module_number run p.0) p.1) law.premise
-                ∙ ap (λ j. part_content own names c f j (sequent_at k.made i)) (sym (ap (λ v. symbol_in v.items i) same ∙ h.numbers i law.earlier_premise (law.kept_premise front back (made_part own) among e)));
+                ∙ ap (λ j. part_content own names c f j (sequent_at k.made i))
+                (sym (ap (λ v. symbol_in v.items i) same ∙ h.numbers i law.earlier_premise (law.kept_premise front back (made_part own) among e)));
             known = definition-known;
           })
           (λ e. next-definition-gone run earlier later names c f i whole front back (made_part own) among e)
@@ -152,10 +159,12 @@ module _ (r : Run) (earlier : List Made) (d : TypeDefinition) where
     pub operator-counted : (one : ModuleBuilder) → AddsItem r (item.Part part.Operator d) old one → AreCounted run up_to_operator one
     operator-counted one add = add (items_made run earlier) up_to_operator h.counted (next-operator old refl)
 
-    pub abstraction-counted : (one two : ModuleBuilder) → AddsItem r (item.Part part.Operator d) old one → one.numbers ≡ old.numbers → AddsItem r (item.Part part.Abstraction d) one two → AreCounted run up_to_abstraction two
+    pub abstraction-counted : (one two : ModuleBuilder) → AddsItem r (item.Part part.Operator d) old one → one.numbers ≡ old.numbers
+        → AddsItem r (item.Part part.Abstraction d) one two → AreCounted run up_to_abstraction two
     abstraction-counted one two add same more = more up_to_operator up_to_abstraction (operator-counted one add) (next-abstraction one same)
 
-    pub definition-counted : (one two new : ModuleBuilder) → AddsItem r (item.Part part.Operator d) old one → one.numbers ≡ old.numbers → AddsItem r (item.Part part.Abstraction d) one two → two.numbers ≡ old.numbers → AddsItem r (item.Part part.Representation d) two new
+    pub definition-counted : (one two new : ModuleBuilder) → AddsItem r (item.Part part.Operator d) old one → one.numbers ≡ old.numbers
+        → AddsItem r (item.Part part.Abstraction d) one two → two.numbers ≡ old.numbers → AddsItem r (item.Part part.Representation d) two new
         → AreCounted run (items_made run (earlier ++ y ∷ [])) new
     definition-counted one two new add same more same2 last =
         last up_to_abstraction (items_made run (earlier ++ y ∷ [])) (abstraction-counted one two add same more) (next-representation two same2)

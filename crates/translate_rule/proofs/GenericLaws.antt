@@ -44,10 +44,12 @@ pub record IsUnder (make : Tree → Tree → Tree) (old now : List Tree) (count 
   pub known : made.0 < length now
   pub is : over make left (tree_at now made.0) ≡ over make count (tree_at old inside.0)
 
-pub under-none : (make : Tree → Tree → Tree) (trees : List Tree) (count : ℕ) (inside : LpId) → inside.0 < length trees → IsUnder make trees trees count count inside inside
+pub under-none : (make : Tree → Tree → Tree) (trees : List Tree) (count : ℕ) (inside : LpId) → inside.0 < length trees
+    → IsUnder make trees trees count count inside inside
 under-none make trees count inside h = record { keeps = Keeps-refl trees; known = h; is = refl }
 
-pub under-more : (make : Tree → Tree → Tree) (old now mid new : List Tree) (count left : ℕ) (inside made domain next : LpId) → 0 < left → IsUnder make old now count left inside made → Keeps now mid → Holds mid domain.0 types → Keeps mid new
+pub under-more : (make : Tree → Tree → Tree) (old now mid new : List Tree) (count left : ℕ) (inside made domain next : LpId) → 0 < left
+    → IsUnder make old now count left inside made → Keeps now mid → Holds mid domain.0 types → Keeps mid new
     → next.0 < length new → Holds new next.0 (make (tree_at mid domain.0) (tree_at mid made.0)) → IsUnder make old new count (left - 1) inside next
 under-more make old now mid new count zero inside made domain next l h k is k2 known holds = absurd (omega (arith, l))
 under-more make old now mid new count (suc n) inside made domain next l h k is k2 known holds =
@@ -61,15 +63,20 @@ under-more make old now mid new count (suc n) inside made domain next l h k is k
           ∙ h.is;
     }
 
-under-all : (make : Tree → Tree → Tree) (old now : List Tree) (count left : ℕ) (inside made : LpId) → left ≤ 0 → IsUnder make old now count left inside made → tree_at now made.0 ≡ over make count (tree_at old inside.0)
+under-all : (make : Tree → Tree → Tree) (old now : List Tree) (count left : ℕ) (inside made : LpId) → left ≤ 0 → IsUnder make old now count left inside made
+    → tree_at now made.0 ≡ over make count (tree_at old inside.0)
 under-all make old now count zero inside made l h = h.is
 under-all make old now count (suc n) inside made l h = absurd (omega (arith, l))
 
-pub products-made : (old now : List Tree) (count left : ℕ) (inside made : LpId) → left ≤ 0 → IsUnder Pi old now count left inside made → Holds now made.0 (products (replicate count types) (tree_at old inside.0))
-products-made old now count left inside made l h = tree_at-Holds now made.0 h.known ∙ ap Some (under-all Pi old now count left inside made l h ∙ products-over count (tree_at old inside.0))
+pub products-made : (old now : List Tree) (count left : ℕ) (inside made : LpId) → left ≤ 0 → IsUnder Pi old now count left inside made
+    → Holds now made.0 (products (replicate count types) (tree_at old inside.0))
+products-made old now count left inside made l h =
+    tree_at-Holds now made.0 h.known ∙ ap Some (under-all Pi old now count left inside made l h ∙ products-over count (tree_at old inside.0))
 
-pub abstractions-made : (old now : List Tree) (count left : ℕ) (inside made : LpId) → left ≤ 0 → IsUnder Lam old now count left inside made → Holds now made.0 (abstractions (replicate count types) (tree_at old inside.0))
-abstractions-made old now count left inside made l h = tree_at-Holds now made.0 h.known ∙ ap Some (under-all Lam old now count left inside made l h ∙ abstractions-over count (tree_at old inside.0))
+pub abstractions-made : (old now : List Tree) (count left : ℕ) (inside made : LpId) → left ≤ 0 → IsUnder Lam old now count left inside made
+    → Holds now made.0 (abstractions (replicate count types) (tree_at old inside.0))
+abstractions-made old now count left inside made l h =
+    tree_at-Holds now made.0 h.known ∙ ap Some (under-all Lam old now count left inside made l h ∙ abstractions-over count (tree_at old inside.0))
 
 -- a binder for each of some names
 pub binders-of : (names : List Name) → replicate (length names) types ≡ map (λ (n : Name). types) names
@@ -81,7 +88,8 @@ twice : (b : Bool) (v w : Tree) (o : Option Tree) → cond b (Some v) o ≡ cond
 twice true v w o = refl
 twice false v w o = refl
 
-swapped : (a b : Bool) (v w : Tree) (o : Option Tree) → (a ≡ true → b ≡ true → v ≡ w) → cond a (Some v) (cond b (Some w) o) ≡ cond b (Some w) (cond a (Some v) o)
+swapped : (a b : Bool) (v w : Tree) (o : Option Tree) → (a ≡ true → b ≡ true → v ≡ w) → cond a (Some v) (cond b (Some w) o)
+    ≡ cond b (Some w) (cond a (Some v) o)
 swapped true true v w o h = ap Some (h refl refl)
 swapped true false v w o h = refl
 swapped false b v w o h = refl
@@ -94,12 +102,15 @@ module _ (trees : List Tree) (n m : Name) (id : LpId) where
   abbrev x : Tree
   x = tree_at trees id.0
 
-  lookup-put : (es : List (Name × LpId)) → lookup (name_eq m) (types_in trees (insert_entry name_eq es n id)) ≡ cond (name_eq m n) (Some x) (lookup (name_eq m) (types_in trees es))
+  lookup-put : (es : List (Name × LpId)) → lookup (name_eq m) (types_in trees (insert_entry name_eq es n id))
+      ≡ cond (name_eq m n) (Some x) (lookup (name_eq m) (types_in trees es))
   lookup-put [] = refl
   lookup-put (e ∷ es) = go (name_eq n e.0) refl (lookup-put es)
     where
-      go : (b : Bool) → b ≡ name_eq n e.0 → lookup (name_eq m) (types_in trees (insert_entry name_eq es n id)) ≡ cond (name_eq m n) (Some x) (lookup (name_eq m) (types_in trees es))
-          → lookup (name_eq m) (types_in trees (cond b ((e.0, id) ∷ es) (e ∷ insert_entry name_eq es n id))) ≡ cond (name_eq m n) (Some x) (cond (name_eq m e.0) (Some (tree_at trees e.1.0)) (lookup (name_eq m) (types_in trees es)))
+      go : (b : Bool) → b ≡ name_eq n e.0 → lookup (name_eq m) (types_in trees (insert_entry name_eq es n id))
+          ≡ cond (name_eq m n) (Some x) (lookup (name_eq m) (types_in trees es))
+          → lookup (name_eq m) (types_in trees (cond b ((e.0, id) ∷ es) (e ∷ insert_entry name_eq es n id)))
+          ≡ cond (name_eq m n) (Some x) (cond (name_eq m e.0) (Some (tree_at trees e.1.0)) (lookup (name_eq m) (types_in trees es)))
       go true is on =
           let one : n ≡ e.0 = (name_eq-Decides n e.0).0 (sym is) in
           twice (name_eq m e.0) x (tree_at trees e.1.0) (lookup (name_eq m) (types_in trees es))
@@ -115,7 +126,8 @@ module _ (trees : List Tree) (n m : Name) (id : LpId) where
   types-put : (es : List (Name × LpId)) → told_types (types_in trees (insert_entry name_eq es n id)) m ≡ set_type n x (told_types (types_in trees es)) m
   types-put es = ap (λ o. unwrap_or o bools) (lookup-put es) ∙ cond-unwrap (name_eq m n) x bools (lookup (name_eq m) (types_in trees es))
 
-types-known : (trees : List Tree) (n : Name) (id : LpId) (es : List (Name × LpId)) → id.0 < length trees → AreTypesKnown trees es → AreTypesKnown trees (insert_entry name_eq es n id)
+types-known : (trees : List Tree) (n : Name) (id : LpId) (es : List (Name × LpId)) → id.0 < length trees → AreTypesKnown trees es
+    → AreTypesKnown trees (insert_entry name_eq es n id)
 types-known trees n id [] l h = (l, tt {0})
 types-known trees n id (e ∷ es) l h = go (name_eq n e.0) (types-known trees n id es l h.1)
   where
@@ -123,7 +135,8 @@ types-known trees n id (e ∷ es) l h = go (name_eq n e.0) (types-known trees n 
     go true on = (l, h.1)
     go false on = (h.0, on)
 
-scope-put : (trees : List Tree) (n : Name) (id : LpId) (x : Tree) (es : List (Name × LpId)) (scope : TypeScope) → Holds trees id.0 x → IsTypeScope trees es scope → IsTypeScope trees (insert_entry name_eq es n id) (set_type n x scope)
+scope-put : (trees : List Tree) (n : Name) (id : LpId) (x : Tree) (es : List (Name × LpId)) (scope : TypeScope) → Holds trees id.0 x
+    → IsTypeScope trees es scope → IsTypeScope trees (insert_entry name_eq es n id) (set_type n x scope)
 scope-put trees n id x es scope is h = record {
   known = types-known trees n id es (Holds-within trees id.0 x is) h.known;
   each = λ m. types-put trees n m id es ∙ ap₂ (λ y z. cond (name_eq m n) y z) (Holds-tree_at trees id.0 x is) (h.each m);
@@ -175,7 +188,8 @@ pub record ArePlaced (old now : List Tree) (entries : List (Name × LpId)) (name
   pub so_far : IsTypeScope now entries scope
   pub is : (y : Name) → placed place left scope y ≡ placed (length names) names unfilled y
 
-pub placed-none : (trees : List Tree) (entries : List (Name × LpId)) (names : List Name) → entries ≡ [] → ArePlaced trees trees entries names names (length names)
+pub placed-none : (trees : List Tree) (entries : List (Name × LpId)) (names : List Name) → entries ≡ []
+    → ArePlaced trees trees entries names names (length names)
 placed-none trees entries names e = record {
   keeps = Keeps-refl trees;
   scope = unfilled;
@@ -183,7 +197,8 @@ placed-none trees entries names e = record {
   is = λ y. refl;
 }
 
-pub placed-more : (old now new : List Tree) (entries more : List (Name × LpId)) (names left rest : List Name) (n m : Name) (place next : ℕ) (id : LpId) → left ≡ n ∷ rest → m ≡ n → next ≡ place - 1 → ArePlaced old now entries names left place
+pub placed-more : (old now new : List Tree) (entries more : List (Name × LpId)) (names left rest : List Name) (n m : Name) (place next : ℕ) (id : LpId) → left
+    ≡ n ∷ rest → m ≡ n → next ≡ place - 1 → ArePlaced old now entries names left place
     → Keeps now new → Holds new id.0 (Var next) → more ≡ insert_entry name_eq entries m id → ArePlaced old new more names rest next
 placed-more old now new entries more names left rest n m place next id e same p h k is put = record {
   keeps = Keeps-trans h.keeps k;
@@ -194,7 +209,8 @@ placed-more old now new entries more names left rest n m place next id e same p 
   is = λ y. ap (λ k. placed k rest (set_type n (Var k) h.scope) y) p ∙ ap (λ l. placed place l h.scope y) (sym e) ∙ h.is y;
 }
 
-pub placed-end : (old now : List Tree) (entries : List (Name × LpId)) (names left : List Name) (place : ℕ) → left ≡ [] → ArePlaced old now entries names left place → IsTypeScope now entries (under_types names unfilled)
+pub placed-end : (old now : List Tree) (entries : List (Name × LpId)) (names left : List Name) (place : ℕ) → left ≡ []
+    → ArePlaced old now entries names left place → IsTypeScope now entries (under_types names unfilled)
 placed-end old now entries names left place e h = record {
   known = h.so_far.known;
   each = λ y. h.so_far.each y ∙ ap (λ l. placed place l h.scope y) (sym e) ∙ h.is y ∙ placed-all names y;

@@ -31,12 +31,16 @@ record Law (law : Version → TypeNames → HolType → Term → Sequent) (g : P
   pub is : s ≡ law version names ty predicate
 
 first-of : (g : Parameters) (one s : Sequent) → Rule kinds.FirstLaw (one ∷ []) g s → Law (λ version names c f. first_law_of version names c) g one s
-first-of g one s (rule.first_law {names = names} {c = c} {f = f} d e) = record { version = Six; names = names; ty = c; predicate = f; given = refl; defines = d; is = e }
-first-of g one s (rule.first_law_free {names = names} {c = c} {f = f} d e) = record { version = Five; names = names; ty = c; predicate = f; given = refl; defines = d; is = e }
+first-of g one s (rule.first_law {names = names} {c = c} {f = f} d e) =
+    record { version = Six; names = names; ty = c; predicate = f; given = refl; defines = d; is = e }
+first-of g one s (rule.first_law_free {names = names} {c = c} {f = f} d e) =
+    record { version = Five; names = names; ty = c; predicate = f; given = refl; defines = d; is = e }
 
 second-of : (g : Parameters) (one s : Sequent) → Rule kinds.SecondLaw (one ∷ []) g s → Law second_law_of g one s
-second-of g one s (rule.second_law {names = names} {c = c} {f = f} d e) = record { version = Six; names = names; ty = c; predicate = f; given = refl; defines = d; is = e }
-second-of g one s (rule.second_law_free {names = names} {c = c} {f = f} d e) = record { version = Five; names = names; ty = c; predicate = f; given = refl; defines = d; is = e }
+second-of g one s (rule.second_law {names = names} {c = c} {f = f} d e) =
+    record { version = Six; names = names; ty = c; predicate = f; given = refl; defines = d; is = e }
+second-of g one s (rule.second_law_free {names = names} {c = c} {f = f} d e) =
+    record { version = Five; names = names; ty = c; predicate = f; given = refl; defines = d; is = e }
 
 -- the names and the version of a type operator that a step was given
 abbrev names_in : TypeNames → Parameters → TypeNames
@@ -49,10 +53,12 @@ version_in own g = own
 
 -- a step of such a rule was given a type operator, and is a law of it
 module _ (k : Kept) (id one : ℕ) where
-  pub first-given : Rule kinds.FirstLaw (sequent_at k.made one ∷ []) (step_at k.made id).parameters (sequent_at k.made id) → (version : Version) × IsOperatorStep version k id
+  pub first-given : Rule kinds.FirstLaw (sequent_at k.made one ∷ []) (step_at k.made id).parameters (sequent_at k.made id) → (version : Version)
+      × IsOperatorStep version k id
   first-given r = let h = first-of _ (sequent_at k.made one) (sequent_at k.made id) r in (h.version, record { names = h.names; given = h.given })
 
-  pub second-given : Rule kinds.SecondLaw (sequent_at k.made one ∷ []) (step_at k.made id).parameters (sequent_at k.made id) → (version : Version) × IsOperatorStep version k id
+  pub second-given : Rule kinds.SecondLaw (sequent_at k.made one ∷ []) (step_at k.made id).parameters (sequent_at k.made id) → (version : Version)
+      × IsOperatorStep version k id
   second-given r = let h = second-of _ (sequent_at k.made one) (sequent_at k.made id) r in (h.version, record { names = h.names; given = h.given })
 
   module _ (version : Version) (is : IsOperatorStep version k id) where
@@ -61,14 +67,22 @@ module _ (k : Kept) (id one : ℕ) where
         let h = first-of _ (sequent_at k.made one) (sequent_at k.made id) r in
         let same = h.given ∙ sym is.given in
         let law : IsFirstLaw h.version k id one h.names = record { ty = h.ty; predicate = h.predicate; defines = h.defines; is = h.is } in
-        record { operator = is; law = subst (λ n. IsFirstLaw version k id one n) (ap (names_in is.names) same) (subst (λ v. IsFirstLaw v k id one h.names) (ap (version_in version) same) law) }
+        record {
+          operator = is;
+          law = subst (λ n. IsFirstLaw version k id one n) (ap (names_in is.names) same)
+              (subst (λ v. IsFirstLaw v k id one h.names) (ap (version_in version) same) law);
+        }
 
     pub second-law : Rule kinds.SecondLaw (sequent_at k.made one ∷ []) (step_at k.made id).parameters (sequent_at k.made id) → IsSecondLawStep version k id one
     second-law r =
         let h = second-of _ (sequent_at k.made one) (sequent_at k.made id) r in
         let same = h.given ∙ sym is.given in
         let law : IsSecondLaw h.version k id one h.names = record { ty = h.ty; predicate = h.predicate; defines = h.defines; is = h.is } in
-        record { operator = is; law = subst (λ n. IsSecondLaw version k id one n) (ap (names_in is.names) same) (subst (λ v. IsSecondLaw v k id one h.names) (ap (version_in version) same) law) }
+        record {
+          operator = is;
+          law = subst (λ n. IsSecondLaw version k id one n) (ap (names_in is.names) same)
+              (subst (λ v. IsSecondLaw v k id one h.names) (ap (version_in version) same) law);
+        }
 
 -- what such a step was given, by its numbers
 pub operator-given : (trees : Trees) (p : Given) (names : TypeNames) (version : Version) → parameters_view trees p ≡ Parameters.type_operator names version

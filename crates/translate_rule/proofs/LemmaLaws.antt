@@ -20,16 +20,19 @@ use Rattle.translate_rule.specs.declared.lemmas.TheConstants.{NODES}
 use Rattle.translate_rule.specs.LemmaNodes.{are_ordered, theorem_at}
 
 -- the number at a place has the tree at the place
-pub place-tree : (trees : List Tree) (ids : List LpId) (k : ℕ) (d : LpId) → AreKnown trees ids → k < length ids → ((get_or ids k d).0 < length trees) × (tree_at trees (get_or ids k d).0 ≡ tree_at (trees_at trees ids) k)
+pub place-tree : (trees : List Tree) (ids : List LpId) (k : ℕ) (d : LpId) → AreKnown trees ids → k < length ids → ((get_or ids k d).0 < length trees)
+    × (tree_at trees (get_or ids k d).0 ≡ tree_at (trees_at trees ids) k)
 place-tree trees [] k d h l = absurd (omega (arith, l))
 place-tree trees (id ∷ ids) zero d h l = (h.0, refl)
 place-tree trees (id ∷ ids) (suc k) d h l = place-tree trees ids k d h.1 (omega (arith, l))
 
 -- of two parts
-pub places-known : (trees : List Tree) (ids : List LpId) (j k : ℕ) (d : LpId) → (j < length ids) × (k < length ids) → AreKnown trees ids → ((get_or ids j d).0 < length trees) × ((get_or ids k d).0 < length trees)
+pub places-known : (trees : List Tree) (ids : List LpId) (j k : ℕ) (d : LpId) → (j < length ids) × (k < length ids) → AreKnown trees ids
+    → ((get_or ids j d).0 < length trees) × ((get_or ids k d).0 < length trees)
 places-known trees ids j k d l h = ((place-tree trees ids j d h l.0).0, (place-tree trees ids k d h l.1).0)
 
-pub places-trees : (make : Tree → Tree → Tree) (trees : List Tree) (ids : List LpId) (j k : ℕ) (d : LpId) → (j < length ids) × (k < length ids) → AreKnown trees ids
+pub places-trees : (make : Tree → Tree → Tree) (trees : List Tree) (ids : List LpId) (j k : ℕ) (d : LpId) → (j < length ids) × (k < length ids)
+    → AreKnown trees ids
     → make (tree_at trees (get_or ids j d).0) (tree_at trees (get_or ids k d).0) ≡ make (tree_at (trees_at trees ids) j) (tree_at (trees_at trees ids) k)
 places-trees make trees ids j k d l h = ap₂ make (place-tree trees ids j d h l.0).1 (place-tree trees ids k d h l.1).1
 
@@ -69,28 +72,34 @@ length-more : (ids : List LpId) (id : LpId) → length (ids ++ id ∷ []) ≡ le
 length-more [] id = refl
 length-more (x ∷ ids) id = let e = length-more ids id in omega (arith, e)
 
-pub next-parts : (old now : List Tree) (ids : List LpId) (nodes left rest : List LpNode) (n : LpNode) → left ≡ n ∷ rest → AreAdded old now ids nodes left → PartsBelow (length ids) n
+pub next-parts : (old now : List Tree) (ids : List LpId) (nodes left rest : List LpNode) (n : LpNode) → left ≡ n ∷ rest → AreAdded old now ids nodes left
+    → PartsBelow (length ids) n
 next-parts old now ids nodes left rest n e h =
     let ordered : IsTrue (are_ordered (length ids) (n ∷ rest)) = subst (λ l. IsTrue (are_ordered (length ids) l)) e h.ordered in
     below (length ids) n (both (parts_below (length ids) n) (are_ordered (length ids + 1) rest) ordered).0
 
-pub added-more : (old now new : List Tree) (ids : List LpId) (nodes left rest : List LpNode) (n m : LpNode) (id : LpId) → left ≡ n ∷ rest → AreAdded old now ids nodes left
-    → tree_of_node now m ≡ tree_of_node (trees_at now ids) n → Keeps now new → id.0 < length new → Holds new id.0 (tree_of_node now m) → AreAdded old new (ids ++ id ∷ []) nodes rest
+pub added-more : (old now new : List Tree) (ids : List LpId) (nodes left rest : List LpNode) (n m : LpNode) (id : LpId) → left ≡ n ∷ rest
+    → AreAdded old now ids nodes left
+    → tree_of_node now m ≡ tree_of_node (trees_at now ids) n → Keeps now new → id.0 < length new → Holds new id.0 (tree_of_node now m)
+    → AreAdded old new (ids ++ id ∷ []) nodes rest
 unfolding trees_with
 added-more old now new ids nodes left rest n m id e h is keeps known holds =
     let ordered : IsTrue (are_ordered (length ids) (n ∷ rest)) = subst (λ l. IsTrue (are_ordered (length ids) l)) e h.ordered in
     record {
       keeps = Keeps-trans h.keeps keeps;
       known = AreKnown-more keeps ids id h.known known;
-      ordered = subst (λ k. IsTrue (are_ordered k rest)) (sym (length-more ids id)) (both (parts_below (length ids) n) (are_ordered (length ids + 1) rest) ordered).1;
+      ordered = subst (λ k. IsTrue (are_ordered k rest)) (sym (length-more ids id))
+          (both (parts_below (length ids) n) (are_ordered (length ids + 1) rest) ordered).1;
       trees =
           ap (λ l. trees_with l rest)
-          (trees_at-append new ids (id ∷ []) ∙ ap₂ (λ l t. l ++ t ∷ []) (trees_at-Keeps keeps ids h.known) (Holds-tree_at new id.0 (tree_of_node now m) holds ∙ is))
+          (trees_at-append new ids (id ∷ []) ∙ ap₂ (λ l t. l ++ t ∷ []) (trees_at-Keeps keeps ids h.known)
+          (Holds-tree_at new id.0 (tree_of_node now m) holds ∙ is))
           ∙ sym (ap (trees_with (trees_at now ids)) e)
           ∙ h.trees;
     }
 
-pub added-all : (old now : List Tree) (ids : List LpId) (nodes left : List LpNode) → left ≡ [] → AreAdded old now ids nodes left → trees_at now ids ≡ trees_with [] nodes
+pub added-all : (old now : List Tree) (ids : List LpId) (nodes left : List LpNode) → left ≡ [] → AreAdded old now ids nodes left → trees_at now ids
+    ≡ trees_with [] nodes
 unfolding trees_with
 added-all old now ids nodes left e h = sym (ap (trees_with (trees_at now ids)) e) ∙ h.trees
 
@@ -98,14 +107,17 @@ pub drop-next : (ns : List LpNode) (i : ℕ) (n : LpNode) → i < length ns → 
 drop-next ns i n h = drop_more ns i n h
 
 pub added-none : (trees : List Tree) (nodes : List LpNode) (ids : List LpId) → ids ≡ [] → IsTrue (are_ordered 0 nodes) → AreAdded trees trees ids nodes nodes
-added-none trees nodes ids e h = subst (λ l. AreAdded trees trees l nodes nodes) (sym e) (record { keeps = Keeps-refl trees; known = tt; ordered = h; trees = refl })
+added-none trees nodes ids e h = subst (λ l. AreAdded trees trees l nodes nodes) (sym e)
+    (record { keeps = Keeps-refl trees; known = tt; ordered = h; trees = refl })
 
 -- a node with numbers has the tree of the one with places
-pub numbered-tree : (trees : List Tree) (seen ids : List LpId) (n m : LpNode) → seen ≡ ids → AreKnown trees ids → (AreKnown trees seen → tree_of_node trees m ≡ tree_of_node (trees_at trees seen) n) → tree_of_node trees m ≡ tree_of_node (trees_at trees ids) n
+pub numbered-tree : (trees : List Tree) (seen ids : List LpId) (n m : LpNode) → seen ≡ ids → AreKnown trees ids
+    → (AreKnown trees seen → tree_of_node trees m ≡ tree_of_node (trees_at trees seen) n) → tree_of_node trees m ≡ tree_of_node (trees_at trees ids) n
 numbered-tree trees seen ids n m e h is = is (subst (AreKnown trees) (sym e) h) ∙ ap (λ l. tree_of_node (trees_at trees l) n) e
 
 -- a declared theorem by its places
-pub declared-theorem : (trees : List Tree) (ids : List LpId) (name text : List ℕ) (a b : ℕ) (d : LpId) → AreKnown trees ids → a < length ids → b < length ids → name ≡ text
+pub declared-theorem : (trees : List Tree) (ids : List LpId) (name text : List ℕ) (a b : ℕ) (d : LpId) → AreKnown trees ids → a < length ids → b < length ids
+    → name ≡ text
     → declaration_in trees (record { name = name; form = Thm; ty = get_or ids a d; body = Some (get_or ids b d) }) ≡ theorem_at (trees_at trees ids) text a b
 declared-theorem trees ids name text a b d h l m e =
     let p = (place-tree trees ids a d h l).1 in
@@ -158,21 +170,28 @@ trans-follows = record {
 }
 
 -- at a table that holds the trees of the nodes
-pub sym-follows-at : (trees : List Tree) (ids seen : List LpId) → seen ≡ ids → trees_at trees ids ≡ made_trees → (ds : List Declaration) → ds ≡ [] → MayFollow (signature ++ ds) (theorem_at (trees_at trees seen) (codes "sym") 28 60)
+pub sym-follows-at : (trees : List Tree) (ids seen : List LpId) → seen ≡ ids → trees_at trees ids ≡ made_trees → (ds : List Declaration) → ds ≡ []
+    → MayFollow (signature ++ ds) (theorem_at (trees_at trees seen) (codes "sym") 28 60)
 sym-follows-at trees ids seen e is ds none =
     subst (λ l. MayFollow (signature ++ l) (theorem_at (trees_at trees seen) (codes "sym") 28 60)) (sym none)
     (subst (MayFollow (signature ++ [])) (sym (ap (λ l. theorem_at l (codes "sym") 28 60) (ap (trees_at trees) e ∙ is) ∙ made-sym)) sym-follows)
 
-pub declared-sym : (trees : List Tree) (ids seen : List LpId) → seen ≡ ids → trees_at trees ids ≡ made_trees → (ds es : List Declaration) → ds ≡ [] → es ≡ ds ++ theorem_at (trees_at trees seen) (codes "sym") 28 60 ∷ [] → es ≡ sym_lemma ∷ []
-declared-sym trees ids seen e is ds es none more = more ∙ ap₂ (λ l d. l ++ d ∷ []) none (ap (λ l. theorem_at l (codes "sym") 28 60) (ap (trees_at trees) e ∙ is) ∙ made-sym)
+pub declared-sym : (trees : List Tree) (ids seen : List LpId) → seen ≡ ids → trees_at trees ids ≡ made_trees → (ds es : List Declaration) → ds ≡ [] → es ≡ ds
+    ++ theorem_at (trees_at trees seen) (codes "sym") 28 60 ∷ [] → es ≡ sym_lemma ∷ []
+declared-sym trees ids seen e is ds es none more =
+    more ∙ ap₂ (λ l d. l ++ d ∷ []) none (ap (λ l. theorem_at l (codes "sym") 28 60) (ap (trees_at trees) e ∙ is) ∙ made-sym)
 
-pub trans-follows-at : (trees : List Tree) (ids seen : List LpId) → seen ≡ ids → trees_at trees ids ≡ made_trees → (ds : List Declaration) → ds ≡ sym_lemma ∷ [] → MayFollow (signature ++ ds) (theorem_at (trees_at trees seen) (codes "trans") 77 100)
+pub trans-follows-at : (trees : List Tree) (ids seen : List LpId) → seen ≡ ids → trees_at trees ids ≡ made_trees → (ds : List Declaration) → ds ≡ sym_lemma ∷ []
+    → MayFollow (signature ++ ds) (theorem_at (trees_at trees seen) (codes "trans") 77 100)
 trans-follows-at trees ids seen e is ds one =
     subst (λ l. MayFollow (signature ++ l) (theorem_at (trees_at trees seen) (codes "trans") 77 100)) (sym one)
-    (subst (MayFollow (signature ++ sym_lemma ∷ [])) (sym (ap (λ l. theorem_at l (codes "trans") 77 100) (ap (trees_at trees) e ∙ is) ∙ made-trans)) trans-follows)
+    (subst (MayFollow (signature ++ sym_lemma ∷ [])) (sym (ap (λ l. theorem_at l (codes "trans") 77 100) (ap (trees_at trees) e ∙ is) ∙ made-trans))
+    trans-follows)
 
-pub declared-trans : (trees : List Tree) (ids seen : List LpId) → seen ≡ ids → trees_at trees ids ≡ made_trees → (ds es : List Declaration) → ds ≡ sym_lemma ∷ [] → es ≡ ds ++ theorem_at (trees_at trees seen) (codes "trans") 77 100 ∷ [] → es ≡ lemmas
-declared-trans trees ids seen e is ds es one more = more ∙ ap₂ (λ l d. l ++ d ∷ []) one (ap (λ l. theorem_at l (codes "trans") 77 100) (ap (trees_at trees) e ∙ is) ∙ made-trans)
+pub declared-trans : (trees : List Tree) (ids seen : List LpId) → seen ≡ ids → trees_at trees ids ≡ made_trees → (ds es : List Declaration) → ds
+    ≡ sym_lemma ∷ [] → es ≡ ds ++ theorem_at (trees_at trees seen) (codes "trans") 77 100 ∷ [] → es ≡ lemmas
+declared-trans trees ids seen e is ds es one more =
+    more ∙ ap₂ (λ l d. l ++ d ∷ []) one (ap (λ l. theorem_at l (codes "trans") 77 100) (ap (trees_at trees) e ∙ is) ∙ made-trans)
 
 pub count-at : (trees : List Tree) (ids seen : List LpId) → seen ≡ ids → trees_at trees ids ≡ made_trees → length seen ≡ 101
 count-at trees ids seen e is = ap length e ∙ ids-count trees ids is

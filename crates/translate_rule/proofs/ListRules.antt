@@ -19,18 +19,22 @@ use Rattle.translate_term.specs.Told.{TellsConstant}
 use Rattle.translate_rule.specs.Steps.{TellsGiven}
 
 -- what is told of the constants that it was given
-pub list-told : (d : List Declaration) (tables : SymbolMap) (pairs : ConstantPairs) (g : Parameters) → Parameters.constants pairs ≡ g → TellsGiven d tables g → AllByRecursion (λ p. TellsConstant d tables p.0 p.1.1) pairs
+pub list-told : (d : List Declaration) (tables : SymbolMap) (pairs : ConstantPairs) (g : Parameters) → Parameters.constants pairs ≡ g → TellsGiven d tables g
+    → AllByRecursion (λ p. TellsConstant d tables p.0 p.1.1) pairs
 list-told d tables pairs g e h = subst (TellsGiven d tables) (sym e) h
 
 -- they are a list that the premise defines
-list-of : (pairs : ConstantPairs) (one s : Sequent) → Rule kinds.DefineConstList (one ∷ []) (Parameters.constants pairs) s → IsTrue (is_definition_list pairs one)
+list-of : (pairs : ConstantPairs) (one s : Sequent) → Rule kinds.DefineConstList (one ∷ []) (Parameters.constants pairs) s
+    → IsTrue (is_definition_list pairs one)
 list-of pairs one s (rule.define_const_list d l e) = l
 
-pub list-defined : (pairs : ConstantPairs) (g : Parameters) (one s : Sequent) → Rule kinds.DefineConstList (one ∷ []) g s → Parameters.constants pairs ≡ g → IsTrue (is_definition_list pairs one)
+pub list-defined : (pairs : ConstantPairs) (g : Parameters) (one s : Sequent) → Rule kinds.DefineConstList (one ∷ []) g s → Parameters.constants pairs ≡ g
+    → IsTrue (is_definition_list pairs one)
 list-defined pairs g one s r e = list-of pairs one s (subst (λ g. Rule kinds.DefineConstList (one ∷ []) g s) (sym e) r)
 
 -- such a step was given constants
-pub list-given : (trees : Trees) (p : Given) (g : Parameters) (one s : Sequent) → Rule kinds.DefineConstList (one ∷ []) g s → parameters_view trees p ≡ g → ((x : Vec (Name × AVariable) Global) → p ≡ given.List x → ⊥) → ⊥
+pub list-given : (trees : Trees) (p : Given) (g : Parameters) (one s : Sequent) → Rule kinds.DefineConstList (one ∷ []) g s → parameters_view trees p ≡ g
+    → ((x : Vec (Name × AVariable) Global) → p ≡ given.List x → ⊥) → ⊥
 list-given trees p g one s (rule.define_const_list {pairs = ps} d l e) is other = go p is other
   where
     go : (p : Given) → parameters_view trees p ≡ Parameters.constants ps → ((x : Vec (Name × AVariable) Global) → p ≡ given.List x → ⊥) → ⊥

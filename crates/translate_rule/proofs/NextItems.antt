@@ -48,14 +48,16 @@ module _ (run : Accepted) (earlier later : List Made) (y : Made) (whole : run.ma
       length-append items (numbered named (length items) cs) ∙ ap (λ n. length items + n) (numbered-length named (length items) cs)
 
   -- the item of a content, which adds something or nothing
-  pub content-next : items_made run (earlier ++ y ∷ []) ≡ up_to own → (front back : List Content) (c : Content) → own ≡ front ++ c ∷ back → (k : Kept) (numbers : List ℕ) (one : AnItem)
+  pub content-next : items_made run (earlier ++ y ∷ []) ≡ up_to own → (front back : List Content) (c : Content) → own ≡ front ++ c ∷ back
+      → (k : Kept) (numbers : List ℕ) (one : AnItem)
       → (is_kept run (content_number run earlier front) ≡ true → IsKeptItem run (up_to front) (up_to (front ++ c ∷ [])) k numbers one)
       → (is_kept run (content_number run earlier front) ≡ false → kept_of run (up_to (front ++ c ∷ [])) ≡ kept_of run (up_to front))
       → IsNextItem run (up_to front) (up_to (front ++ c ∷ [])) k numbers one
   content-next all front back c among k numbers one kept gone =
       let here = up-to-length front in
       let stay = items-stay run (earlier ++ y ∷ []) later (whole ∙ sym (append_assoc earlier (y ∷ []) later)) in
-      let count : length (made_items run) ≡ length (items_made run (earlier ++ y ∷ [])) + length stay.0 = ap length stay.1 ∙ length-append (items_made run (earlier ++ y ∷ [])) stay.0 in
+      let count : length (made_items run) ≡ length (items_made run (earlier ++ y ∷ [])) + length stay.0 =
+      ap length stay.1 ∙ length-append (items_made run (earlier ++ y ∷ [])) stay.0 in
       let grown : length (items_made run (earlier ++ y ∷ [])) ≡ content_number run earlier own = ap length all ∙ up-to-length own in
       let some : length own ≡ length front + length (c ∷ back) = ap length among ∙ length-append front (c ∷ back) in
       record {
@@ -66,8 +68,10 @@ module _ (run : Accepted) (earlier later : List Made) (y : Made) (whole : run.ma
       }
 
 -- The one content of a symbol
-pub only-content : (run : Accepted) (earlier later : List Made) (s : Symbol) → run.made ≡ earlier ++ Made.symbol s ∷ later → (c : Content) → contents_of s ≡ c ∷ [] → (k : Kept) (numbers : List ℕ) (one : AnItem) → symbol_name s ≡ item_name run one
-    → c ≡ item_content k numbers one → IsItemKnown k numbers one → IsNextItem run (items_made run earlier) (items_made run (earlier ++ Made.symbol s ∷ [])) k numbers one
+pub only-content : (run : Accepted) (earlier later : List Made) (s : Symbol) → run.made ≡ earlier ++ Made.symbol s ∷ later → (c : Content) → contents_of s
+    ≡ c ∷ [] → (k : Kept) (numbers : List ℕ) (one : AnItem) → symbol_name s ≡ item_name run one
+    → c ≡ item_content k numbers one → IsItemKnown k numbers one
+    → IsNextItem run (items_made run earlier) (items_made run (earlier ++ Made.symbol s ∷ [])) k numbers one
 only-content run earlier later s whole c among k numbers one name content known =
     let items = items_made run earlier in
     let grown = items_made run (earlier ++ Made.symbol s ∷ []) in
@@ -75,15 +79,24 @@ only-content run earlier later s whole c among k numbers one name content known 
     subst (λ l. IsNextItem run l grown k numbers one) (append-nil items)
     (subst (λ l. IsNextItem run (items_up_to run earlier s []) l k numbers one) (sym (all ∙ ap (items_up_to run earlier s) among))
     (content-next run earlier later (Made.symbol s) whole (λ (c : Content). symbol_name s) all [] [] c among k numbers one
-    (λ e. record { x = symbol_in_module run earlier s [] c; next = next-symbol-kept run earlier later s whole [] [] c among e; name = name; content = content; known = known })
+    (λ e. record {
+      x = symbol_in_module run earlier s [] c;
+      next = next-symbol-kept run earlier later s whole [] [] c among e;
+      name = name;
+      content =
+          content;
+      known = known;
+    })
     (λ e. next-symbol-gone run earlier later s whole [] [] c among e)))
 
 -- A step
-content-premises : (b : Bool) (kind : StepKind) (js ks : List ℕ) (ss : List Sequent) (g : Parameters) (s : Sequent) → (b ≡ true → js ≡ ks) → content_by b kind js ss g s ≡ content_by b kind ks ss g s
+content-premises : (b : Bool) (kind : StepKind) (js ks : List ℕ) (ss : List Sequent) (g : Parameters) (s : Sequent) → (b ≡ true → js ≡ ks)
+    → content_by b kind js ss g s ≡ content_by b kind ks ss g s
 content-premises true kind js ks ss g s h = ap (λ l. content_by true kind l ss g s) (h refl)
 content-premises false kind js ks ss g s h = refl
 
-numbers-of : (run : Accepted) (earlier : List Made) (numbers : List ℕ) → HaveNumbers run earlier numbers → (ks : List ℕ) → AllByRecursion (λ k. k < length (steps_of earlier)) ks → AllByRecursion (λ k. is_kept run (step_item run k) ≡ true) ks
+numbers-of : (run : Accepted) (earlier : List Made) (numbers : List ℕ) → HaveNumbers run earlier numbers → (ks : List ℕ)
+    → AllByRecursion (λ k. k < length (steps_of earlier)) ks → AllByRecursion (λ k. is_kept run (step_item run k) ≡ true) ks
     → map (step_symbol run) ks ≡ map (symbol_in numbers) ks
 numbers-of run earlier numbers have [] h l = refl
 numbers-of run earlier numbers have (k ∷ ks) h l = λ i. sym (have k h.0 l.0) i ∷ numbers-of run earlier numbers have ks h.1 l.1 i
@@ -101,20 +114,27 @@ module _ (r : Run) (sound : IsSoundRun (accepted r)) (earlier later : List Made)
   needed-here : needed_at k.made id ≡ used_step run x
   needed-here = ap (λ y. needed (map (sequent_at k.made) y.premises) y) (step-there k.made earlier later x whole)
 
-  content-here : (numbers : List ℕ) → HaveNumbers run earlier numbers → is_kept run (length (items_made run earlier)) ≡ true → module_content run (used_step run x) ≡ content_at numbers k.made id
+  content-here : (numbers : List ℕ) → HaveNumbers run earlier numbers → is_kept run (length (items_made run earlier)) ≡ true
+      → module_content run (used_step run x) ≡ content_at numbers k.made id
   content-here numbers have keep =
       let law = next-premises run sound earlier later x whole in
       let used = used_step run x in
-      content-premises (has_row used.kind) used.kind (map (step_symbol run) used.premises) (map (symbol_in numbers) used.premises) (map (sequent_at run.made) used.premises) used.parameters used.sequent
-      (λ row. numbers-of run earlier numbers have used.premises law.earlier_premises (law.kept_premises keep (sym (needed-row (map (sequent_at run.made) x.premises) x) ∙ row)))
-      ∙ ap (λ y. content_by (has_row y.kind) y.kind (map (symbol_in numbers) y.premises) (map (sequent_at k.made) y.premises) y.parameters y.sequent) (sym needed-here)
+      content-premises (has_row used.kind) used.kind (map (step_symbol run) used.premises) (map (symbol_in numbers) used.premises)
+      (map (sequent_at run.made) used.premises) used.parameters used.sequent
+      (λ row. numbers-of run earlier numbers have used.premises law.earlier_premises
+      (law.kept_premises keep (sym (needed-row (map (sequent_at run.made) x.premises) x) ∙ row)))
+      ∙ ap (λ y. content_by (has_row y.kind) y.kind (map (symbol_in numbers) y.premises) (map (sequent_at k.made) y.premises) y.parameters y.sequent)
+      (sym needed-here)
 
-  pub next-step : (numbers : List ℕ) → length numbers ≡ id → HaveNumbers run earlier numbers → IsNextItem run (items_made run earlier) (items_made run (earlier ++ Made.step x ∷ [])) k numbers (item.Step id)
+  pub next-step : (numbers : List ℕ) → length numbers ≡ id → HaveNumbers run earlier numbers
+      → IsNextItem run (items_made run earlier) (items_made run (earlier ++ Made.step x ∷ [])) k numbers (item.Step id)
   next-step numbers long have =
       let items = items_made run earlier in
       let stay = items-stay run (earlier ++ Made.step x ∷ []) later (whole ∙ sym (append_assoc earlier (Made.step x ∷ []) later)) in
-      let own : length (items_made run (earlier ++ Made.step x ∷ [])) ≡ length items + 1 = ap length (items-grow run earlier (Made.step x)) ∙ length-append items _ in
-      let all : length (made_items run) ≡ length (items_made run (earlier ++ Made.step x ∷ [])) + length stay.0 = ap length stay.1 ∙ length-append (items_made run (earlier ++ Made.step x ∷ [])) stay.0 in
+      let own : length (items_made run (earlier ++ Made.step x ∷ [])) ≡ length items + 1 =
+      ap length (items-grow run earlier (Made.step x)) ∙ length-append items _ in
+      let all : length (made_items run) ≡ length (items_made run (earlier ++ Made.step x ∷ [])) + length stay.0 =
+      ap length stay.1 ∙ length-append (items_made run (earlier ++ Made.step x ∷ [])) stay.0 in
       record {
         within = omega (arith, own, all);
         more = own;
@@ -129,16 +149,20 @@ module _ (r : Run) (sound : IsSoundRun (accepted r)) (earlier later : List Made)
       }
 
   -- the symbol of the next declaration is its own
-  pub next-number : (ds : List Declaration) → ds ≡ declared run (kept_of run (items_made run earlier)) → (n : ℕ) → n ≡ length signature + length ds → is_kept run (step_item run id) ≡ true → n ≡ step_symbol run id
+  pub next-number : (ds : List Declaration) → ds ≡ declared run (kept_of run (items_made run earlier)) → (n : ℕ) → n ≡ length signature + length ds
+      → is_kept run (step_item run id) ≡ true → n ≡ step_symbol run id
   next-number ds declared n is keep =
       let items = items_made run earlier in
       let law = next-premises run sound earlier later x whole in
       let next = next-step-kept run sound earlier later x whole (subst (λ j. is_kept run j ≡ true) law.item keep) in
       let own = (next-made run sound (kept_of run items) next.after (step_in_module run earlier x) next.whole).symbol in
-      let long : length ds ≡ length lemmas + length (kept_of run items) = ap length declared ∙ length-append lemmas (map (declaration (kept_symbols run)) (kept_of run items)) ∙ ap (λ m. length lemmas + m) (length-map (kept_of run items) (declaration (kept_symbols run))) in
+      let long : length ds ≡ length lemmas + length (kept_of run items) =
+      ap length declared ∙ length-append lemmas (map (declaration (kept_symbols run)) (kept_of run items))
+      ∙ ap (λ m. length lemmas + m) (length-map (kept_of run items) (declaration (kept_symbols run))) in
       is ∙ ap (λ m. length signature + m) long ∙ sym own ∙ ap (λ j. module_number run j) (sym law.item)
 
-  pub numbers-more : (numbers more : List ℕ) (n : ℕ) → more ≡ numbers ++ n ∷ [] → length numbers ≡ id → (is_kept run (step_item run id) ≡ true → n ≡ step_symbol run id) → HaveNumbers run earlier numbers → HaveNumbers run (earlier ++ Made.step x ∷ []) more
+  pub numbers-more : (numbers more : List ℕ) (n : ℕ) → more ≡ numbers ++ n ∷ [] → length numbers ≡ id
+      → (is_kept run (step_item run id) ≡ true → n ≡ step_symbol run id) → HaveNumbers run earlier numbers → HaveNumbers run (earlier ++ Made.step x ∷ []) more
   numbers-more numbers more n put long own have j l keep =
       let count = steps-more earlier x in
       ap (λ l. symbol_in l j) put ∙ go (cases_lt j id) (omega (arith, l, count))
@@ -148,4 +172,5 @@ module _ (r : Run) (sound : IsSoundRun (accepted r)) (earlier later : List Made)
       go (inr b) m =
           let same : j ≡ id = omega (arith, b, m) in
           let place : j ≡ length numbers = omega (arith, same, long) in
-          ap (λ p. symbol_in (numbers ++ n ∷ []) p) place ∙ index-seam numbers [] n 0 ∙ own (subst (λ p. is_kept run (step_item run p) ≡ true) same keep) ∙ ap (step_symbol run) (sym same)
+          ap (λ p. symbol_in (numbers ++ n ∷ []) p) place ∙ index-seam numbers [] n 0 ∙ own (subst (λ p. is_kept run (step_item run p) ≡ true) same keep)
+          ∙ ap (step_symbol run) (sym same)

@@ -40,12 +40,16 @@ pub variables-count : (trees : Trees) (vs : List AVariable) → length (variable
 variables-count trees [] = refl
 variables-count trees (v ∷ vs) = ap suc (variables-count trees vs)
 
-module _ (k : Kept) (id : ℕ) (d : List Declaration) (symbols : SymbolMap) (m : Module) (held : IsHeld m) (declared : declarations_of m ≡ d) (names : List Name) (variables : List AVariable) (params : AreParams k id names variables) (hyps : List TermId) (known : AreKnown k.trees hyps) (are : terms_at k.trees hyps ≡ (sequent_at k.made id).hypotheses) where
+module _ (k : Kept) (id : ℕ) (d : List Declaration) (symbols : SymbolMap) (m : Module) (held : IsHeld m) (declared : declarations_of m ≡ d) (names : List Name)
+    (variables : List AVariable) (params : AreParams k id names variables) (hyps : List TermId) (known : AreKnown k.trees hyps)
+    (are : terms_at k.trees hyps ≡ (sequent_at k.made id).hypotheses) where
   abbrev s : Sequent
   s = sequent_at k.made id
 
-  placed-in : (inside : ℕ) (scope : Scope) → ((n : Name) → lift inside ((scope_of symbols s).types n) ≡ scope.types n) → ((v : Variable) → lift inside ((scope_of symbols s).terms v) ≡ scope.terms v)
-      → ((h : Term) → lift inside ((scope_of symbols s).proofs h) ≡ scope.proofs h) → IsPlaced (with_scope (given_at d symbols s) scope) m k.trees names variables hyps inside
+  placed-in : (inside : ℕ) (scope : Scope) → ((n : Name) → lift inside ((scope_of symbols s).types n) ≡ scope.types n)
+      → ((v : Variable) → lift inside ((scope_of symbols s).terms v) ≡ scope.terms v)
+      → ((h : Term) → lift inside ((scope_of symbols s).proofs h) ≡ scope.proofs h)
+      → IsPlaced (with_scope (given_at d symbols s) scope) m k.trees names variables hyps inside
   placed-in inside scope types terms proofs =
       let a : length hyps ≡ length s.hypotheses = sym (terms-count k.trees hyps) ∙ ap length are in
       let b : length variables ≡ length (free_variables_of s) = sym (variables-count k.trees variables) ∙ ap length params.free_vars in
@@ -56,13 +60,16 @@ module _ (k : Kept) (id : ℕ) (d : List Declaration) (symbols : SymbolMap) (m :
         one_term = params.one_term;
         variables_known = params.known;
         hyps_known = known;
-        types = λ n. (λ i. placed name_eq (inside + a i + b i + length (params.type_vars i)) (params.type_vars i) (λ w. bools) n) ∙ sym (types-placed symbols s inside n) ∙ types n;
-        terms = λ v. (λ i. placed variable_eq (inside + a i + b i) (params.free_vars i) (filled_terms symbols (λ n. sym (types n) i)) v) ∙ sym (terms-placed symbols s inside v) ∙ terms v;
+        types = λ n. (λ i. placed name_eq (inside + a i + b i + length (params.type_vars i)) (params.type_vars i) (λ w. bools) n)
+            ∙ sym (types-placed symbols s inside n) ∙ types n;
+        terms = λ v. (λ i. placed variable_eq (inside + a i + b i) (params.free_vars i) (filled_terms symbols (λ n. sym (types n) i)) v)
+            ∙ sym (terms-placed symbols s inside v) ∙ terms v;
         proofs = λ g. (λ i. placed term_eq (inside + a i) (are i) unproved g) ∙ sym (proofs-placed symbols s inside g) ∙ proofs g;
       }
 
   pub placed-own : IsPlaced (given_at d symbols s) m k.trees names variables hyps 0
-  placed-own = placed-in 0 (scope_of symbols s) (λ n. lift_zero ((scope_of symbols s).types n)) (λ v. lift_zero ((scope_of symbols s).terms v)) (λ h. lift_zero ((scope_of symbols s).proofs h))
+  placed-own = placed-in 0 (scope_of symbols s) (λ n. lift_zero ((scope_of symbols s).types n)) (λ v. lift_zero ((scope_of symbols s).terms v))
+      (λ h. lift_zero ((scope_of symbols s).proofs h))
 
   pub placed-under : IsPlaced (with_scope (given_at d symbols s) (lifted (scope_of symbols s))) m k.trees names variables hyps 1
   placed-under = placed-in 1 (lifted (scope_of symbols s)) (λ n. refl) (λ v. refl) (λ h. refl)
@@ -80,13 +87,15 @@ module _ (k : Kept) (id : ℕ) (d : List Declaration) (symbols : SymbolMap) (m :
         one_term = params.one_term;
         variables_known = tt;
         hyps_known = tt;
-        types = λ n. (λ i. placed name_eq (count i + length (params.type_vars i)) (params.type_vars i) (λ w. bools) n) ∙ sym (types-placed symbols s 0 n) ∙ lift_zero ((scope_of symbols s).types n);
+        types = λ n. (λ i. placed name_eq (count i + length (params.type_vars i)) (params.type_vars i) (λ w. bools) n) ∙ sym (types-placed symbols s 0 n)
+            ∙ lift_zero ((scope_of symbols s).types n);
         terms = λ v. refl;
         proofs = λ h. refl;
       }
 
 -- the binders of its type variables and its free variables alone
-pub placed-variables : (k : Kept) (id : ℕ) (d : List Declaration) (symbols : SymbolMap) (m : Module) → IsHeld m → declarations_of m ≡ d → (names : List Name) (variables : List AVariable) → AreParams k id names variables
+pub placed-variables : (k : Kept) (id : ℕ) (d : List Declaration) (symbols : SymbolMap) (m : Module) → IsHeld m → declarations_of m ≡ d
+    → (names : List Name) (variables : List AVariable) → AreParams k id names variables
     → IsPlaced (with_scope (given_at d symbols (sequent_at k.made id)) (scope_of_terms symbols (sequent_at k.made id))) m k.trees names variables [] 0
 placed-variables k id d symbols m held declared names variables params =
     let s = sequent_at k.made id in
@@ -94,8 +103,10 @@ placed-variables k id d symbols m held declared names variables params =
     let n : names ≡ type_variables_of j = params.type_vars ∙ sym (type_variables-joined s) in
     let v : variables_of k.trees variables ≡ free_variables_of j = params.free_vars ∙ sym (free_variables-joined s) in
     let b : length variables ≡ length (free_variables_of j) = sym (variables-count k.trees variables) ∙ ap length v in
-    let same : scope_of symbols j ≡ scope_of_terms symbols s = (λ i. under_terms (free_variables-joined s i) (filled symbols (under_types (type_variables-joined s i) unfilled))) in
-    let types : (x : Name) → lift 0 ((scope_of symbols j).types x) ≡ (scope_of_terms symbols s).types x = (λ x. lift_zero ((scope_of symbols j).types x) ∙ ap (λ (w : Scope). w.types x) same) in
+    let same : scope_of symbols j ≡ scope_of_terms symbols s =
+    (λ i. under_terms (free_variables-joined s i) (filled symbols (under_types (type_variables-joined s i) unfilled))) in
+    let types : (x : Name) → lift 0 ((scope_of symbols j).types x) ≡ (scope_of_terms symbols s).types x =
+    (λ x. lift_zero ((scope_of symbols j).types x) ∙ ap (λ (w : Scope). w.types x) same) in
     record {
       held = held;
       declared = declared;
@@ -104,12 +115,14 @@ placed-variables k id d symbols m held declared names variables params =
       variables_known = params.known;
       hyps_known = tt;
       types = λ x. (λ i. placed name_eq (0 + 0 + b i + length (n i)) (n i) (λ w. bools) x) ∙ sym (types-placed symbols j 0 x) ∙ types x;
-      terms = λ x. (λ i. placed variable_eq (0 + 0 + b i) (v i) (filled_terms symbols (λ y. sym (types y) i)) x) ∙ sym (terms-placed symbols j 0 x) ∙ lift_zero ((scope_of symbols j).terms x) ∙ ap (λ (w : Scope). w.terms x) same;
+      terms = λ x. (λ i. placed variable_eq (0 + 0 + b i) (v i) (filled_terms symbols (λ y. sym (types y) i)) x) ∙ sym (terms-placed symbols j 0 x)
+          ∙ lift_zero ((scope_of symbols j).terms x) ∙ ap (λ (w : Scope). w.terms x) same;
       proofs = λ h. sym (proofs-placed symbols j 0 h) ∙ lift_zero ((scope_of symbols j).proofs h) ∙ ap (λ (w : Scope). w.proofs h) same;
     }
 
 -- the binders of type variables alone
-pub placed-over : (trees : Trees) (d : List Declaration) (symbols : SymbolMap) (m : Module) → IsHeld m → declarations_of m ≡ d → type.IsDistinct trees.types → IsDistinct trees.terms → (names : List Name) → IsPlaced (given_over d symbols names) m trees names [] [] 0
+pub placed-over : (trees : Trees) (d : List Declaration) (symbols : SymbolMap) (m : Module) → IsHeld m → declarations_of m ≡ d → type.IsDistinct trees.types
+    → IsDistinct trees.terms → (names : List Name) → IsPlaced (given_over d symbols names) m trees names [] [] 0
 placed-over trees d symbols m held declared one_type one_term names = record {
   held = held;
   declared = declared;
@@ -130,7 +143,9 @@ module _ {old new : Module} (grows : Grows old new) where
 
   -- an environment stands for what it stood for
   pub StandsFor-Grows : (k : Kept) (scope : SymbolMap → Scope) (env : Environment) → IsHeld old → StandsFor k scope old old env → StandsFor k scope new new env
-  StandsFor-Grows k scope env held h d symbols e = Represents-Grows grows (record { declarations = d; symbols = symbols; scope = scope symbols }) k.trees env (h d symbols (sym (declarations_of-Grows _ _ grows held) ∙ e))
+  StandsFor-Grows k scope env held h d symbols e =
+      Represents-Grows grows (record { declarations = d; symbols = symbols; scope = scope symbols }) k.trees env
+      (h d symbols (sym (declarations_of-Grows _ _ grows held) ∙ e))
 
   -- what a module tells it tells still
   pub told-Grows : (Told : List Declaration → Type 0) → IsHeld old → Told (declarations_of old) → Told (declarations_of new)

@@ -35,7 +35,14 @@ use Rattle.translate_rule.proofs.PushLaws.{told-sequent}
 
 -- A part is declared at its type, over its type variables
 pub part-declared : (tables : SymbolMap) (own : Part) (names : TypeNames) (c : HolType) (f : Term) (j : ℕ) (one : Sequent)
-    → record { name = part_name own names; form = Def; ty = part_type tables own names c; body = Some (part_definition_tree tables (part_variables own names c) (part_symbol own) c j one) } ≡ declaration_of tables (part_name own names) (part_content own names c f j one)
+    → record {
+      name = part_name own names;
+      form = Def;
+      ty = part_type tables own names c;
+      body =
+          Some (part_definition_tree tables (part_variables own names c) (part_symbol own) c j one);
+    }
+    ≡ declaration_of tables (part_name own names) (part_content own names c f j one)
 part-declared tables part.Operator names c f j one = refl
 part-declared tables part.Abstraction names c f j one = refl
 part-declared tables part.Representation names c f j one = refl
@@ -53,10 +60,12 @@ module _ (d : List Declaration) (tables : SymbolMap) (names : TypeNames) (c : Ho
   part-sequent-told part.Representation h = told-sequent d tables one h.2
 
   -- and of a constant its generic type
-  pub abstraction-told : (own : Part) → own ≡ part.Abstraction → TellsContent d tables (part_content own names c f j one) → TellsType d tables (abstraction_type names c)
+  pub abstraction-told : (own : Part) → own ≡ part.Abstraction → TellsContent d tables (part_content own names c f j one)
+      → TellsType d tables (abstraction_type names c)
   abstraction-told own e h = (subst (λ p. TellsContent d tables (part_content p names c f j one)) e h).0
 
-  pub representation-told : (own : Part) → own ≡ part.Representation → TellsContent d tables (part_content own names c f j one) → TellsType d tables (representation_type names c)
+  pub representation-told : (own : Part) → own ≡ part.Representation → TellsContent d tables (part_content own names c f j one)
+      → TellsType d tables (representation_type names c)
   representation-told own e h = (subst (λ p. TellsContent d tables (part_content p names c f j one)) e h).0
 
 -- the type of a definition is that of the term of its theorem
@@ -68,10 +77,14 @@ module _ (k : Kept) (id : ℕ) (names : TypeNames) (c : HolType) (f : Term) (d :
   is-defining = record { names = names; ty = c; predicate = f; defines = d }
 
 -- a part by the number of its premise
-pub part-content : (k : Kept) (numbers : List ℕ) (own : Part) (d : TypeDefinition) (one : Premise) → one.id ≡ d.premise → one.symbol ≡ symbol_in numbers d.premise → part_at k own d.view one ≡ item_content k numbers (item.Part own d)
-part-content k numbers own d one e s = λ i. part_content own (names_of d) (type_at k.trees d.view.whole.0) (term_at k.trees d.view.predicate.0) (s i) (sequent_at k.made (e i))
+pub part-content : (k : Kept) (numbers : List ℕ) (own : Part) (d : TypeDefinition) (one : Premise) → one.id ≡ d.premise → one.symbol
+    ≡ symbol_in numbers d.premise → part_at k own d.view one ≡ item_content k numbers (item.Part own d)
+part-content k numbers own d one e s = λ i. part_content own (names_of d) (type_at k.trees d.view.whole.0) (term_at k.trees d.view.predicate.0) (s i)
+    (sequent_at k.made (e i))
 
 -- The part under binders for its type variables
 pub part-definition : (tables : SymbolMap) (names : List Name) (own : Part) (c : HolType) (j : ℕ) (one : Sequent)
-    → abstractions (replicate (length names) types) (part_tree tables (filled tables (under_types names unfilled)) (part_symbol own) c (j, one)) ≡ part_definition_tree tables names (part_symbol own) c j one
-part-definition tables names own c j one = ap (λ l. abstractions l (part_tree tables (filled tables (under_types names unfilled)) (part_symbol own) c (j, one))) (binders-are names names (length names) refl refl)
+    → abstractions (replicate (length names) types) (part_tree tables (filled tables (under_types names unfilled)) (part_symbol own) c (j, one))
+    ≡ part_definition_tree tables names (part_symbol own) c j one
+part-definition tables names own c j one = ap (λ l. abstractions l (part_tree tables (filled tables (under_types names unfilled)) (part_symbol own) c (j, one)))
+    (binders-are names names (length names) refl refl)

@@ -37,7 +37,8 @@ module _ (ds : List Declaration) (symbols : SymbolMap) where
   told-sequents [] h = tt
   told-sequents (s ∷ ss) h = (told-sequent s h.0, told-sequents ss h.1)
 
-  told-pairs : (pairs : ConstantPairs) → AllByRecursion (λ (p : Variable × Term). TellsTerm ds symbols p.1) (constants_put pairs) → steps.TellsGiven ds symbols (Parameters.constants pairs)
+  told-pairs : (pairs : ConstantPairs) → AllByRecursion (λ (p : Variable × Term). TellsTerm ds symbols p.1) (constants_put pairs)
+      → steps.TellsGiven ds symbols (Parameters.constants pairs)
   told-pairs [] h = tt
   told-pairs (p ∷ ps) h = (h.0, told-pairs ps h.1)
 
@@ -62,11 +63,14 @@ module _ (ds : List Declaration) (symbols : SymbolMap) where
   told-content (step kind js ss given s) h = (told-sequent s h.0, told-sequents ss h.1, told-given given h.2)
 
 -- a module of one item more
-module-more : (symbols : SymbolMap) (before : List Item) (x : Item) → module_of symbols (before ++ x ∷ []) ≡ module_of symbols before ++ declaration symbols x ∷ []
+module-more : (symbols : SymbolMap) (before : List Item) (x : Item) → module_of symbols (before ++ x ∷ []) ≡ module_of symbols before
+    ++ declaration symbols x ∷ []
 module-more symbols before x =
-    ap (λ l. lemmas ++ l) (map-append (declaration symbols) before (x ∷ [])) ∙ sym (append_assoc lemmas (map (declaration symbols) before) (declaration symbols x ∷ []))
+    ap (λ l. lemmas ++ l) (map-append (declaration symbols) before (x ∷ []))
+    ∙ sym (append_assoc lemmas (map (declaration symbols) before) (declaration symbols x ∷ []))
 
-module _ (run : Accepted) (sound : IsSoundRun run) (named : HasNames run) (items grown : List Item) (target : Module) (so_far : AreDeclared run items target) (k : Kept) (numbers : List ℕ) (one : AnItem) (kept : IsKeptItem run items grown k numbers one) where
+module _ (run : Accepted) (sound : IsSoundRun run) (named : HasNames run) (items grown : List Item) (target : Module) (so_far : AreDeclared run items target)
+    (k : Kept) (numbers : List ℕ) (one : AnItem) (kept : IsKeptItem run items grown k numbers one) where
   abbrev symbols : SymbolMap
   symbols = kept_symbols run
 
@@ -77,7 +81,8 @@ module _ (run : Accepted) (sound : IsSoundRun run) (named : HasNames run) (items
   pub next-told : TellsContent (declarations_of target) symbols content
   next-told =
       subst (TellsContent (declarations_of target) symbols) kept.content
-      (subst (λ ds. TellsContent ds symbols kept.x.content) (sym so_far.declared) (next-tells run sound named (kept_of run items) kept.next.after kept.x kept.next.whole))
+      (subst (λ ds. TellsContent ds symbols kept.x.content) (sym so_far.declared)
+      (next-tells run sound named (kept_of run items) kept.next.after kept.x kept.next.whole))
 
   -- the declaration of the item, where it is what the item's is
   abbrev pub IsItems : Declaration → Type 0
@@ -90,16 +95,22 @@ module _ (run : Accepted) (sound : IsSoundRun run) (named : HasNames run) (items
   pub next-may-follow : (ds : List Declaration) (d : Declaration) → ds ≡ declarations_of target → IsItems d → MayFollow (signature ++ ds) d
   next-may-follow ds d same is =
       subst (λ l. MayFollow (signature ++ l) d) (sym (same ∙ so_far.declared))
-      (subst (MayFollow (signature ++ declared run (kept_of run items))) (sym (next-declaration d is)) (next-follows run sound named (kept_of run items) kept.next.after kept.x kept.next.whole))
+      (subst (MayFollow (signature ++ declared run (kept_of run items))) (sym (next-declaration d is))
+      (next-follows run sound named (kept_of run items) kept.next.after kept.x kept.next.whole))
 
   -- And then the items so far are declared with it
-  pub next-declared : (ds es : List Declaration) (d : Declaration) → ds ≡ declarations_of target → IsItems d → es ≡ ds ++ d ∷ [] → es ≡ declared run (kept_of run grown)
+  pub next-declared : (ds es : List Declaration) (d : Declaration) → ds ≡ declarations_of target → IsItems d → es ≡ ds ++ d ∷ [] → es
+      ≡ declared run (kept_of run grown)
   next-declared ds es d same is more =
-      more ∙ (λ i. (same ∙ so_far.declared) i ++ next-declaration d is i ∷ []) ∙ sym (module-more symbols (kept_of run items) kept.x) ∙ ap (declared run) (sym kept.next.kept)
+      more ∙ (λ i. (same ∙ so_far.declared) i ++ next-declaration d is i ∷ []) ∙ sym (module-more symbols (kept_of run items) kept.x)
+      ∙ ap (declared run) (sym kept.next.kept)
 
 -- what is made with these numbers
 pub made-with : (run : Accepted) (target : Module) (k : Kept) (seen numbers : List ℕ) (one : AnItem) (d : Declaration) → seen ≡ numbers
-    → ((tables : SymbolMap) → TellsContent (declarations_of target) tables (item_content k seen one) → d ≡ declaration_of tables (item_name run one) (item_content k seen one))
-    → (tables : SymbolMap) → TellsContent (declarations_of target) tables (item_content k numbers one) → d ≡ declaration_of tables (item_name run one) (item_content k numbers one)
+    → ((tables : SymbolMap) → TellsContent (declarations_of target) tables (item_content k seen one) → d
+    ≡ declaration_of tables (item_name run one) (item_content k seen one))
+    → (tables : SymbolMap) → TellsContent (declarations_of target) tables (item_content k numbers one) → d
+    ≡ declaration_of tables (item_name run one) (item_content k numbers one)
 made-with run target k seen numbers one d e is =
-    subst (λ ns. (tables : SymbolMap) → TellsContent (declarations_of target) tables (item_content k ns one) → d ≡ declaration_of tables (item_name run one) (item_content k ns one)) e is
+    subst (λ ns. (tables : SymbolMap) → TellsContent (declarations_of target) tables (item_content k ns one) → d
+    ≡ declaration_of tables (item_name run one) (item_content k ns one)) e is

@@ -25,10 +25,12 @@ pub refl-equation : {ss : List Sequent} {g : Parameters} {s : Sequent} → Rule 
 refl-equation (rule.refl {t = t} {a = a} h e) = record { ty = a; left = t; right = t; is = ap (λ (s : Sequent). s.conclusion) e }
 
 pub beta-equation : {ss : List Sequent} {g : Parameters} {s : Sequent} → Rule kinds.BetaConv ss g s → IsEquation s
-beta-equation (rule.beta_conv {a = a} {b = b} {t = t} {u = u} h e) = record { ty = b; left = app (lam a t) u; right = put u t; is = ap (λ (s : Sequent). s.conclusion) e }
+beta-equation (rule.beta_conv {a = a} {b = b} {t = t} {u = u} h e) =
+    record { ty = b; left = app (lam a t) u; right = put u t; is = ap (λ (s : Sequent). s.conclusion) e }
 
 pub define-equation : {ss : List Sequent} {g : Parameters} {s : Sequent} → Rule kinds.DefineConst ss g s → IsEquation s
-define-equation (rule.define_const {n = n} {t = t} {a = a} h e) = record { ty = a; left = Term.constant n a; right = t; is = ap (λ (s : Sequent). s.conclusion) e }
+define-equation (rule.define_const {n = n} {t = t} {a = a} h e) =
+    record { ty = a; left = Term.constant n a; right = t; is = ap (λ (s : Sequent). s.conclusion) e }
 
 pub eq_mp-equation : {one two : Sequent} {g : Parameters} {s : Sequent} → Rule kinds.EqMp (one ∷ two ∷ []) g s → IsEquation one
 eq_mp-equation (rule.eq_mp {p = p} {q = q} e f i) = record { ty = bool; left = p; right = q; is = e }
@@ -46,7 +48,8 @@ pub trans-second : {one two : Sequent} {g : Parameters} {s : Sequent} → Rule k
 trans-second (rule.trans {a = a} {y = y} {z = z} e f i) = record { ty = a; left = y; right = z; is = f }
 
 pub app_thm-own : {one two : Sequent} {g : Parameters} {s : Sequent} → Rule kinds.AppThm (one ∷ two ∷ []) g s → IsEquation s
-app_thm-own (rule.app_thm {b = b} {f = f} {g = g} {x = x} {y = y} e i l) = record { ty = b; left = app f x; right = app g y; is = ap (λ (s : Sequent). s.conclusion) l }
+app_thm-own (rule.app_thm {b = b} {f = f} {g = g} {x = x} {y = y} e i l) =
+    record { ty = b; left = app f x; right = app g y; is = ap (λ (s : Sequent). s.conclusion) l }
 
 pub app_thm-first : {one two : Sequent} {g : Parameters} {s : Sequent} → Rule kinds.AppThm (one ∷ two ∷ []) g s → IsEquation one
 app_thm-first (rule.app_thm {a = a} {b = b} {f = f} {g = g} e i l) = record { ty = function a b; left = f; right = g; is = e }
@@ -59,24 +62,31 @@ module _ (symbols : SymbolMap) (scope : Scope) where
   abbrev own : Sequent → Tree
   own s = refl_tree symbols scope (equated_type s.conclusion) (right_side s.conclusion)
 
-  pub refl-tree : {ss : List Sequent} {g : Parameters} {s : Sequent} (js : List ℕ) → Rule kinds.Refl ss g s → own s ≡ proof_tree symbols scope kinds.Refl js ss g
+  pub refl-tree : {ss : List Sequent} {g : Parameters} {s : Sequent} (js : List ℕ) → Rule kinds.Refl ss g s → own s
+      ≡ proof_tree symbols scope kinds.Refl js ss g
   refl-tree js (rule.refl {t = t} {a = a} h e) =
       ap (λ (s : Sequent). own s) e ∙ ap (λ b. refl_tree symbols scope b t) (sym (ap (λ o. unwrap_or o bool) h))
 
-  pub beta-tree : {ss : List Sequent} {g : Parameters} {s : Sequent} (js : List ℕ) → Rule kinds.BetaConv ss g s → own s ≡ proof_tree symbols scope kinds.BetaConv js ss g
+  pub beta-tree : {ss : List Sequent} {g : Parameters} {s : Sequent} (js : List ℕ) → Rule kinds.BetaConv ss g s → own s
+      ≡ proof_tree symbols scope kinds.BetaConv js ss g
   beta-tree js (rule.beta_conv {a = a} {b = b} {t = t} {u = u} h e) =
       ap (λ (s : Sequent). own s) e ∙ ap (λ c. refl_tree symbols scope c (put u t)) (sym (ap (λ o. unwrap_or o bool) h))
 
-  pub define-tree : {ss : List Sequent} {g : Parameters} {s : Sequent} (js : List ℕ) → Rule kinds.DefineConst ss g s → own s ≡ proof_tree symbols scope kinds.DefineConst js ss g
+  pub define-tree : {ss : List Sequent} {g : Parameters} {s : Sequent} (js : List ℕ) → Rule kinds.DefineConst ss g s → own s
+      ≡ proof_tree symbols scope kinds.DefineConst js ss g
   define-tree js (rule.define_const {n = n} {t = t} {a = a} h e) =
       ap (λ (s : Sequent). own s) e ∙ ap (λ b. refl_tree symbols scope b t) (sym (ap (λ o. unwrap_or o bool) h.typed))
 
-  pub assume-tree : {ss : List Sequent} {g : Parameters} {s : Sequent} (js : List ℕ) → Rule kinds.Assume ss g s → scope.proofs s.conclusion ≡ proof_tree symbols scope kinds.Assume js ss g
+  pub assume-tree : {ss : List Sequent} {g : Parameters} {s : Sequent} (js : List ℕ) → Rule kinds.Assume ss g s → scope.proofs s.conclusion
+      ≡ proof_tree symbols scope kinds.Assume js ss g
   assume-tree js (rule.assume {p = p} h e) = ap (λ (s : Sequent). scope.proofs s.conclusion) e
 
   pub app_thm-tree : {one two : Sequent} {g : Parameters} {s : Sequent} (j k : ℕ) → Rule kinds.AppThm (one ∷ two ∷ []) g s
-      → app_thm_tree symbols scope (equated_type two.conclusion) (equated_type s.conclusion) (left_side one.conclusion) (right_side one.conclusion) (left_side two.conclusion) (right_side two.conclusion) (j, one) (k, two) ≡ proof_tree symbols scope kinds.AppThm (j ∷ k ∷ []) (one ∷ two ∷ []) g
+      → app_thm_tree symbols scope (equated_type two.conclusion) (equated_type s.conclusion) (left_side one.conclusion) (right_side one.conclusion)
+      (left_side two.conclusion) (right_side two.conclusion) (j, one) (k, two) ≡ proof_tree symbols scope kinds.AppThm (j ∷ k ∷ []) (one ∷ two ∷ []) g
   app_thm-tree j k (rule.app_thm {a = a} {b = b} {f = f} {g = g} {x = x} {y = y} {one = one} {two = two} e i l) =
-      let argument : equated_type two.conclusion ≡ argument_type (equated_type one.conclusion) = ap equated_type i ∙ sym (ap (λ c. argument_type (equated_type c)) e) in
+      let argument : equated_type two.conclusion ≡ argument_type (equated_type one.conclusion) =
+      ap equated_type i ∙ sym (ap (λ c. argument_type (equated_type c)) e) in
       let result = ap (λ (s : Sequent). equated_type s.conclusion) l ∙ sym (ap (λ c. result_type (equated_type c)) e) in
-      λ w. app_thm_tree symbols scope (argument w) (result w) (left_side one.conclusion) (right_side one.conclusion) (left_side two.conclusion) (right_side two.conclusion) (j, one) (k, two)
+      λ w. app_thm_tree symbols scope (argument w) (result w) (left_side one.conclusion) (right_side one.conclusion) (left_side two.conclusion)
+      (right_side two.conclusion) (j, one) (k, two)

@@ -84,7 +84,8 @@ pub record IsNextThing (made : List Made) (i : ℕ) (m : OneMade) : Type 0 where
   pub more : take (i + 1) made ≡ take i made ++ thing ∷ []
   pub kind : IsSameKind m thing
 
-pub next-thing : (ss : List Symbol) (xs : List Step) (ms : List OneMade) (made : List Made) (i : ℕ) (m : OneMade) → made_of ss xs ms ≡ made → m ≡ get_or ms i m → i < length ms → IsNextThing made i m
+pub next-thing : (ss : List Symbol) (xs : List Step) (ms : List OneMade) (made : List Made) (i : ℕ) (m : OneMade) → made_of ss xs ms ≡ made → m ≡ get_or ms i m
+    → i < length ms → IsNextThing made i m
 next-thing ss xs ms made i m e at l =
     let h = subst (λ l. IsMadeAt l i m) e (made-get ss xs ms i m (get-item ms i m at l)) in
     record {
@@ -102,11 +103,14 @@ abbrev no_step : Step
 no_step = record { kind = Refl; premises = []; parameters = rule.Parameters.nothing; sequent = record { hypotheses = []; conclusion = bound 0 } }
 
 pub step-there : (made earlier later : List Made) (x : Step) → made ≡ earlier ++ Made.step x ∷ later → step_at made (length (steps_of earlier)) ≡ x
-step-there made earlier later x e = ap (λ l. step_at l (length (steps_of earlier))) e ∙ ap (λ l. slice_index_or l (length (steps_of earlier)) no_step) (steps_of-append earlier (Made.step x ∷ later)) ∙ index-seam (steps_of earlier) (steps_of later) x no_step
+step-there made earlier later x e = ap (λ l. step_at l (length (steps_of earlier))) e ∙ ap (λ l. slice_index_or l (length (steps_of earlier)) no_step)
+    (steps_of-append earlier (Made.step x ∷ later)) ∙ index-seam (steps_of earlier) (steps_of later) x no_step
 
 pub step-within : (made earlier later : List Made) (x : Step) → made ≡ earlier ++ Made.step x ∷ later → length (steps_of earlier) < length (steps_of made)
 step-within made earlier later x e =
-    let whole : length (steps_of made) ≡ length (steps_of earlier) + length (steps_of (Made.step x ∷ later)) = ap (λ l. length (steps_of l)) e ∙ ap length (steps_of-append earlier (Made.step x ∷ later)) ∙ length-append (steps_of earlier) (steps_of (Made.step x ∷ later)) in
+    let whole : length (steps_of made) ≡ length (steps_of earlier) + length (steps_of (Made.step x ∷ later)) =
+    ap (λ l. length (steps_of l)) e ∙ ap length (steps_of-append earlier (Made.step x ∷ later))
+    ∙ length-append (steps_of earlier) (steps_of (Made.step x ∷ later)) in
     omega (arith, whole)
 
 pub steps-more : (earlier : List Made) (x : Step) → length (steps_of (earlier ++ Made.step x ∷ [])) ≡ length (steps_of earlier) + 1
@@ -117,25 +121,34 @@ get-seam : {X : Type 0} (xs ys : List X) (y : X) → slice_get (xs ++ y ∷ ys) 
 get-seam [] ys y = refl
 get-seam (x ∷ xs) ys y = get-seam xs ys y
 
-pub symbol-there : (made earlier later : List Made) (y : Made) (x : Symbol) → made_symbol y ≡ Some x → made ≡ earlier ++ y ∷ later → slice_get (symbols_of made) (length (symbols_of earlier)) ≡ Some x
+pub symbol-there : (made earlier later : List Made) (y : Made) (x : Symbol) → made_symbol y ≡ Some x → made ≡ earlier ++ y ∷ later
+    → slice_get (symbols_of made) (length (symbols_of earlier)) ≡ Some x
 symbol-there made earlier later y x is e =
     ap (λ l. slice_get (symbols_of l) (length (symbols_of earlier))) e
-    ∙ ap (λ l. slice_get l (length (symbols_of earlier))) (symbols_of-append earlier (y ∷ later) ∙ ap (λ o. symbols_of earlier ++ cons_option o (symbols_of later)) is) ∙ get-seam (symbols_of earlier) (symbols_of later) x
+    ∙ ap (λ l. slice_get l (length (symbols_of earlier)))
+    (symbols_of-append earlier (y ∷ later) ∙ ap (λ o. symbols_of earlier ++ cons_option o (symbols_of later)) is)
+    ∙ get-seam (symbols_of earlier) (symbols_of later) x
 
-symbols-count : (earlier later : List Made) (y : Made) (x : Symbol) → made_symbol y ≡ Some x → length (symbols_of (earlier ++ y ∷ later)) ≡ length (symbols_of earlier) + suc (length (symbols_of later))
+symbols-count : (earlier later : List Made) (y : Made) (x : Symbol) → made_symbol y ≡ Some x → length (symbols_of (earlier ++ y ∷ later))
+    ≡ length (symbols_of earlier) + suc (length (symbols_of later))
 symbols-count earlier later y x is =
-    ap length (symbols_of-append earlier (y ∷ later) ∙ ap (λ o. symbols_of earlier ++ cons_option o (symbols_of later)) is) ∙ length-append (symbols_of earlier) (x ∷ symbols_of later)
+    ap length (symbols_of-append earlier (y ∷ later) ∙ ap (λ o. symbols_of earlier ++ cons_option o (symbols_of later)) is)
+    ∙ length-append (symbols_of earlier) (x ∷ symbols_of later)
 
-pub symbol-within : (made earlier later : List Made) (y : Made) (x : Symbol) → made_symbol y ≡ Some x → made ≡ earlier ++ y ∷ later → length (symbols_of earlier) < length (symbols_of made)
+pub symbol-within : (made earlier later : List Made) (y : Made) (x : Symbol) → made_symbol y ≡ Some x → made ≡ earlier ++ y ∷ later
+    → length (symbols_of earlier) < length (symbols_of made)
 symbol-within made earlier later y x is e = let whole = ap (λ l. length (symbols_of l)) e ∙ symbols-count earlier later y x is in omega (arith, whole)
 
-pub symbols-more : (earlier : List Made) (y : Made) (x : Symbol) → made_symbol y ≡ Some x → length (symbols_of (earlier ++ y ∷ [])) ≡ length (symbols_of earlier) + 1
+pub symbols-more : (earlier : List Made) (y : Made) (x : Symbol) → made_symbol y ≡ Some x → length (symbols_of (earlier ++ y ∷ []))
+    ≡ length (symbols_of earlier) + 1
 symbols-more earlier y x is = symbols-count earlier [] y x is
 
 -- what gives a symbol is no step
 pub steps-same : (earlier : List Made) (y : Made) (x : Symbol) → made_symbol y ≡ Some x → length (steps_of (earlier ++ y ∷ [])) ≡ length (steps_of earlier)
-steps-same earlier (Made.symbol z) x is = let e = ap length (steps_of-append earlier (Made.symbol z ∷ [])) ∙ length-append (steps_of earlier) [] in omega (arith, e)
-steps-same earlier (Made.type_definition names c f i) x is = let e = ap length (steps_of-append earlier (Made.type_definition names c f i ∷ [])) ∙ length-append (steps_of earlier) [] in omega (arith, e)
+steps-same earlier (Made.symbol z) x is = let e = ap length (steps_of-append earlier (Made.symbol z ∷ [])) ∙ length-append (steps_of earlier) [] in omega
+    (arith, e)
+steps-same earlier (Made.type_definition names c f i) x is = let e =
+    ap length (steps_of-append earlier (Made.type_definition names c f i ∷ [])) ∙ length-append (steps_of earlier) [] in omega (arith, e)
 steps-same earlier (Made.step z) x is = absurd (cc)
 
 pub symbols-same : (earlier : List Made) (x : Step) → length (symbols_of (earlier ++ Made.step x ∷ [])) ≡ length (symbols_of earlier)
@@ -163,12 +176,15 @@ assumed-ascend k (x ∷ xs) =
     let z : k + 1 + length xs ≡ k + suc (length xs) = omega arith in
     go (infers x.kind) (subst (λ n. Ascend (k + 1) n (assumed_from (k + 1) xs)) z (assumed-ascend (k + 1) xs))
   where
-    go : (b : Bool) → Ascend (k + 1) (k + suc (length xs)) (assumed_from (k + 1) xs) → Ascend k (k + suc (length xs)) (cond b (assumed_from (k + 1) xs) (k ∷ assumed_from (k + 1) xs))
+    go : (b : Bool) → Ascend (k + 1) (k + suc (length xs)) (assumed_from (k + 1) xs)
+        → Ascend k (k + suc (length xs)) (cond b (assumed_from (k + 1) xs) (k ∷ assumed_from (k + 1) xs))
     go true h = lower (k + 1) k (k + suc (length xs)) (assumed_from (k + 1) xs) (omega arith) h
-    go false h = let one : k + 1 ≡ suc k = omega arith in let l : k ≤ k = omega arith in (l, subst (λ n. Ascend n (k + suc (length xs)) (assumed_from (k + 1) xs)) one h)
+    go false h = let one : k + 1 ≡ suc k = omega arith in let l : k ≤ k =
+        omega arith in (l, subst (λ n. Ascend n (k + suc (length xs)) (assumed_from (k + 1) xs)) one h)
 
 pub assumptions-rise : (run : Accepted) → IsSoundRun run → IsRising run.assumptions
-assumptions-rise run h = subst IsRising (sym h.assumptions) (record { each = rising 0 _ (assumed_from 0 (steps_of run.made)) (assumed-ascend 0 (steps_of run.made)) })
+assumptions-rise run h = subst IsRising (sym h.assumptions)
+    (record { each = rising 0 _ (assumed_from 0 (steps_of run.made)) (assumed-ascend 0 (steps_of run.made)) })
 
 pub exports-rise : (run : Accepted) → IsSoundRun run → IsRising run.exports
 exports-rise run h = record { each = rising 0 (length (steps_of run.made)) run.exports h.ascend }

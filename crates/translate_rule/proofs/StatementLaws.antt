@@ -35,29 +35,34 @@ use Rattle.translate_rule.proofs.GenericLaws.{binders-of}
 abbrev with_proofs : Scope → (Term → Tree) → Scope
 with_proofs scope proofs = record { types = scope.types; terms = scope.terms; proofs = proofs; bounds = scope.bounds }
 
-term_tree-proofs : (symbols : SymbolMap) (scope : Scope) (proofs : Term → Tree) (t : Term) → term_tree symbols (with_proofs scope proofs) t ≡ term_tree symbols scope t
+term_tree-proofs : (symbols : SymbolMap) (scope : Scope) (proofs : Term → Tree) (t : Term) → term_tree symbols (with_proofs scope proofs) t
+    ≡ term_tree symbols scope t
 term_tree-proofs symbols scope proofs (term.Term.free n t) = refl
 term_tree-proofs symbols scope proofs (term.Term.bound k) = refl
 term_tree-proofs symbols scope proofs (term.Term.constant n t) = refl
 term_tree-proofs symbols scope proofs (term.Term.app f x) = ap₂ App (term_tree-proofs symbols scope proofs f) (term_tree-proofs symbols scope proofs x)
-term_tree-proofs symbols scope proofs (term.Term.lam t b) = ap (Lam (term_of (type_tree symbols scope.types t))) (term_tree-proofs symbols (inside scope) (λ h. lift 1 (proofs h)) b)
+term_tree-proofs symbols scope proofs (term.Term.lam t b) =
+    ap (Lam (term_of (type_tree symbols scope.types t))) (term_tree-proofs symbols (inside scope) (λ h. lift 1 (proofs h)) b)
 
 lift-suc : (k : ℕ) (x : Tree) → lift 1 (lift k x) ≡ lift (suc k) x
 lift-suc k x = lift-lift 1 k x ∙ ap (λ j. lift j x) (let e : 1 + k ≡ suc k = omega arith in e)
 
 -- the domains of hypotheses, and of free variables, are made outside all of them and lifted
 module _ (symbols : SymbolMap) where
-  proof_domains-lifted : (base scope : Scope) (k : ℕ) → ((t : Term) → term_tree symbols scope t ≡ lift k (term_tree symbols base t)) → (hs : List Term) → proof_domains symbols hs scope ≡ lifted_domains proof_symbol (term_tree symbols base) k hs
+  proof_domains-lifted : (base scope : Scope) (k : ℕ) → ((t : Term) → term_tree symbols scope t ≡ lift k (term_tree symbols base t)) → (hs : List Term)
+      → proof_domains symbols hs scope ≡ lifted_domains proof_symbol (term_tree symbols base) k hs
   proof_domains-lifted base scope k e [] = refl
   proof_domains-lifted base scope k e (h ∷ hs) = ap₂ (λ a rest. proof_of a ∷ rest) (e h) (proof_domains-lifted base (under_proof h scope) (suc k) under hs)
     where
       under : (t : Term) → term_tree symbols (under_proof h scope) t ≡ lift (suc k) (term_tree symbols base t)
-      under t = term_tree-proofs symbols (lifted scope) (under_proof h scope).proofs t ∙ sym (term_tree-lift symbols scope t) ∙ ap (lift 1) (e t) ∙ lift-suc k (term_tree symbols base t)
+      under t = term_tree-proofs symbols (lifted scope) (under_proof h scope).proofs t ∙ sym (term_tree-lift symbols scope t) ∙ ap (lift 1) (e t)
+          ∙ lift-suc k (term_tree symbols base t)
 
   pub proof_domains-outside : (scope : Scope) (hs : List Term) → lifted_domains proof_symbol (term_tree symbols scope) 0 hs ≡ proof_domains symbols hs scope
   proof_domains-outside scope hs = sym (proof_domains-lifted scope scope 0 (λ t. sym (lift_zero (term_tree symbols scope t))) hs)
 
-  term_domains-lifted : (base : TypeScope) (scope : Scope) (k : ℕ) → ((a : HolType) → type_tree symbols scope.types a ≡ lift k (type_tree symbols base a)) → (vs : List Variable)
+  term_domains-lifted : (base : TypeScope) (scope : Scope) (k : ℕ) → ((a : HolType) → type_tree symbols scope.types a ≡ lift k (type_tree symbols base a))
+      → (vs : List Variable)
       → term_domains symbols vs scope ≡ lifted_domains term_symbol (λ (v : Variable). type_tree symbols base v.1) k vs
   term_domains-lifted base scope k e [] = refl
   term_domains-lifted base scope k e (v ∷ vs) = ap₂ (λ a rest. term_of a ∷ rest) (e v.1) (term_domains-lifted base (under_term v scope) (suc k) under vs)
@@ -65,7 +70,8 @@ module _ (symbols : SymbolMap) where
       under : (a : HolType) → type_tree symbols (lifted_types scope.types) a ≡ lift (suc k) (type_tree symbols base a)
       under a = sym (type_tree-lift symbols scope.types a) ∙ ap (lift 1) (e a) ∙ lift-suc k (type_tree symbols base a)
 
-  pub term_domains-outside : (scope : Scope) (vs : List Variable) → lifted_domains term_symbol (λ (v : Variable). type_tree symbols scope.types v.1) 0 vs ≡ term_domains symbols vs scope
+  pub term_domains-outside : (scope : Scope) (vs : List Variable) → lifted_domains term_symbol (λ (v : Variable). type_tree symbols scope.types v.1) 0 vs
+      ≡ term_domains symbols vs scope
   term_domains-outside scope vs = sym (term_domains-lifted scope.types scope 0 (λ a. sym (lift_zero (type_tree symbols scope.types a))) vs)
 
 products-append : (xs ys : List Tree) (t : Tree) → products (xs ++ ys) t ≡ products xs (products ys t)
@@ -74,7 +80,9 @@ products-append (x ∷ xs) ys t = ap (Pi x) (products-append xs ys t)
 
 -- the product over the type variables of the product over the free variables of the product over the hypotheses
 pub sequent_tree-products : (symbols : SymbolMap) (s : Sequent) (count : ℕ) → count ≡ length (type_variables_of s)
-    → products (replicate count types) (products (term_domains symbols (free_variables_of s) (scope_of_types symbols s)) (products (proof_domains symbols s.hypotheses (scope_of_terms symbols s)) (conclusion_tree symbols s))) ≡ sequent_tree symbols s
+    → products (replicate count types)
+    (products (term_domains symbols (free_variables_of s) (scope_of_types symbols s))
+    (products (proof_domains symbols s.hypotheses (scope_of_terms symbols s)) (conclusion_tree symbols s))) ≡ sequent_tree symbols s
 sequent_tree-products symbols s count e =
     let A = map (λ (n : Name). types) (type_variables_of s) in
     let B = term_domains symbols (free_variables_of s) (scope_of_types symbols s) in
@@ -87,7 +95,9 @@ sequent_tree-products symbols s count e =
 -- a list is its front and its last item
 pub front-last : {A : Type 0} (xs : List A) (d : A) → 1 ≤ length xs → take (length xs - 1) xs ++ get_or xs (length xs - 1) d ∷ [] ≡ xs
 front-last xs d h =
-    ap (λ l. take (length xs - 1) xs ++ l) (sym (drop_more xs (length xs - 1) d (omega (arith, h)) ∙ ap (λ l. get_or xs (length xs - 1) d ∷ l) (drop_all (length xs - 1 + 1) xs (omega (arith, h)))))
+    ap (λ l. take (length xs - 1) xs ++ l)
+    (sym (drop_more xs (length xs - 1) d (omega (arith, h))
+    ∙ ap (λ l. get_or xs (length xs - 1) d ∷ l) (drop_all (length xs - 1 + 1) xs (omega (arith, h)))))
     ∙ take-append-drop (length xs - 1) xs
 
 pub front-item : {A : Type 0} (xs : List A) (x : A) → x ≡ get_or xs (length xs - 1) x → 1 ≤ length xs → take (length xs - 1) xs ++ x ∷ [] ≡ xs
@@ -99,11 +109,13 @@ no-item (x ∷ xs) h = absurd (omega (arith, h))
 
 -- a product over one domain more
 module _ {A : Type 0} (P : A → Type 0) (symbol : ℕ) (tree : A → Tree) where
-  products-last : (k : ℕ) (xs : List A) (x : A) (t : Tree) → products (lifted_domains symbol tree k (xs ++ x ∷ [])) t ≡ products (lifted_domains symbol tree k xs) (Pi (App (Sym symbol) (lift (k + length xs) (tree x))) t)
+  products-last : (k : ℕ) (xs : List A) (x : A) (t : Tree) → products (lifted_domains symbol tree k (xs ++ x ∷ [])) t
+      ≡ products (lifted_domains symbol tree k xs) (Pi (App (Sym symbol) (lift (k + length xs) (tree x))) t)
   products-last k [] x t = let e : k ≡ k + 0 = omega arith in ap (λ j. Pi (App (Sym symbol) (lift j (tree x))) t) e
   products-last k (y ∷ ys) x t =
       let e : suc k + length ys ≡ k + suc (length ys) = omega arith in
-      ap (Pi (App (Sym symbol) (lift k (tree y)))) (products-last (suc k) ys x t ∙ ap (λ j. products (lifted_domains symbol tree (suc k) ys) (Pi (App (Sym symbol) (lift j (tree x))) t)) e)
+      ap (Pi (App (Sym symbol) (lift k (tree y))))
+      (products-last (suc k) ys x t ∙ ap (λ j. products (lifted_domains symbol tree (suc k) ys) (Pi (App (Sym symbol) (lift j (tree x))) t)) e)
 
   -- how far the domains are folded: the product that is made, over those that are left, is what is wanted
   pub record IsFolded (rest : List A) (made wanted : Tree) : Type 0 where
@@ -117,7 +129,8 @@ module _ {A : Type 0} (P : A → Type 0) (symbol : ℕ) (tree : A → Tree) wher
       go [] k = k.0
       go (y ∷ ys) k = go ys k.1
 
-  pub folded-more : (rest front : List A) (x : A) (count : ℕ) (made next wanted : Tree) → front ++ x ∷ [] ≡ rest → count ≡ length front → next ≡ Pi (App (Sym symbol) (lift count (tree x))) made → IsFolded rest made wanted → IsFolded front next wanted
+  pub folded-more : (rest front : List A) (x : A) (count : ℕ) (made next wanted : Tree) → front ++ x ∷ [] ≡ rest → count ≡ length front → next
+      ≡ Pi (App (Sym symbol) (lift count (tree x))) made → IsFolded rest made wanted → IsFolded front next wanted
   folded-more rest front x count made next wanted e c n h = record {
     each = go front (subst (AllByRecursion P) (sym e) h.each);
     is =
@@ -139,7 +152,8 @@ module _ (trees : Trees) where
   pub terms-last : (front rest : List TermId) (x : TermId) → front ++ x ∷ [] ≡ rest → terms_at trees front ++ term_at trees x.0 ∷ [] ≡ terms_at trees rest
   terms-last front rest x e = sym (map-append (λ (i : TermId). term_at trees i.0) front (x ∷ [])) ∙ ap (terms_at trees) e
 
-  pub variables-last : (front rest : List AVariable) (x : AVariable) → front ++ x ∷ [] ≡ rest → variables_of trees front ++ (x.name, type_at trees x.ty.0) ∷ [] ≡ variables_of trees rest
+  pub variables-last : (front rest : List AVariable) (x : AVariable) → front ++ x ∷ [] ≡ rest → variables_of trees front ++ (x.name, type_at trees x.ty.0) ∷ []
+      ≡ variables_of trees rest
   variables-last front rest x e = go front ∙ ap (variables_of trees) e
     where
       go : (vs : List AVariable) → variables_of trees vs ++ (x.name, type_at trees x.ty.0) ∷ [] ≡ variables_of trees (vs ++ x ∷ [])
@@ -153,7 +167,8 @@ module _ (trees : Trees) where
       go [] k = (tt, k.0)
       go (y ∷ ys) k = let r = go ys k.1 in ((k.0, r.0), r.1)
 
-  pub types-split : (front rest : List AVariable) (x : AVariable) → front ++ x ∷ [] ≡ rest → HaveTypes trees rest → HaveTypes trees front × (x.ty.0 < length trees.types)
+  pub types-split : (front rest : List AVariable) (x : AVariable) → front ++ x ∷ [] ≡ rest → HaveTypes trees rest → HaveTypes trees front
+      × (x.ty.0 < length trees.types)
   types-split front rest x e h = go front (subst (HaveTypes trees) (sym e) h)
     where
       go : (xs : List AVariable) → HaveTypes trees (xs ++ x ∷ []) → HaveTypes trees xs × (x.ty.0 < length trees.types)
@@ -161,18 +176,23 @@ module _ (trees : Trees) where
       go (y ∷ ys) k = let r = go ys k.1 in ((k.0, r.0), r.1)
 
 -- What a sequent tells of its terms and of its free variables
-free_types-told : (declarations : List Declaration) (symbols : SymbolMap) (t : Term) → TellsTerm declarations symbols t → AllByRecursion (λ (v : Variable). TellsType declarations symbols v.1) (free_places t)
+free_types-told : (declarations : List Declaration) (symbols : SymbolMap) (t : Term) → TellsTerm declarations symbols t
+    → AllByRecursion (λ (v : Variable). TellsType declarations symbols v.1) (free_places t)
 free_types-told d symbols (term.Term.free n t) h = (h, tt {0})
 free_types-told d symbols (term.Term.bound k) h = tt
 free_types-told d symbols (term.Term.constant n t) h = tt
-free_types-told d symbols (term.Term.app f x) h = All-append _ (free_places f) (free_places x) (free_types-told d symbols f h.0) (free_types-told d symbols x h.1)
+free_types-told d symbols (term.Term.app f x) h = All-append _ (free_places f) (free_places x) (free_types-told d symbols f h.0)
+    (free_types-told d symbols x h.1)
 free_types-told d symbols (term.Term.lam t b) h = free_types-told d symbols b h.1
 
-all_free_types-told : (declarations : List Declaration) (symbols : SymbolMap) (ts : List Term) → AllByRecursion (TellsTerm declarations symbols) ts → AllByRecursion (λ (v : Variable). TellsType declarations symbols v.1) (flat_map free_places ts)
+all_free_types-told : (declarations : List Declaration) (symbols : SymbolMap) (ts : List Term) → AllByRecursion (TellsTerm declarations symbols) ts
+    → AllByRecursion (λ (v : Variable). TellsType declarations symbols v.1) (flat_map free_places ts)
 all_free_types-told d symbols [] h = tt
-all_free_types-told d symbols (t ∷ ts) h = All-append _ (free_places t) (flat_map free_places ts) (free_types-told d symbols t h.0) (all_free_types-told d symbols ts h.1)
+all_free_types-told d symbols (t ∷ ts) h = All-append _ (free_places t) (flat_map free_places ts) (free_types-told d symbols t h.0)
+    (all_free_types-told d symbols ts h.1)
 
-pub variables-told : (declarations : List Declaration) (symbols : SymbolMap) (s : Sequent) → TellsSequent declarations symbols s → AllByRecursion (λ (v : Variable). TellsType declarations symbols v.1) (free_variables_of s)
+pub variables-told : (declarations : List Declaration) (symbols : SymbolMap) (s : Sequent) → TellsSequent declarations symbols s
+    → AllByRecursion (λ (v : Variable). TellsType declarations symbols v.1) (free_variables_of s)
 variables-told d symbols s h =
     All-each _ (free_variables_of s) (λ v i. All-at _ (flat_map free_places (terms_of s)) v
     (all_free_types-told d symbols (terms_of s) (All-append (TellsTerm d symbols) s.hypotheses (s.conclusion ∷ []) h.hypotheses (h.conclusion, tt {0})))
@@ -188,7 +208,8 @@ conclusion-told given s is told = formula-told given s.conclusion is.conclusion 
 pub hypotheses-told : (given : Given) (s : Sequent) → IsSequent s → TellsSequent given.declarations given.symbols s → AllByRecursion (IsTold given) s.hypotheses
 hypotheses-told given s is told = go s.hypotheses is.hypotheses told.hypotheses
   where
-    go : (hs : List Term) → AllByRecursion (λ h. HasType h bool) hs → AllByRecursion (TellsTerm given.declarations given.symbols) hs → AllByRecursion (IsTold given) hs
+    go : (hs : List Term) → AllByRecursion (λ h. HasType h bool) hs → AllByRecursion (TellsTerm given.declarations given.symbols) hs
+        → AllByRecursion (IsTold given) hs
     go [] h k = tt
     go (t ∷ ts) h k = (formula-told given t h.0 k.0, go ts h.1 k.1)
 

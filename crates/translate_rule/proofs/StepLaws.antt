@@ -59,12 +59,15 @@ premises-within xs [] (s ∷ ss) h = absurd h
 premises-within xs (n ∷ ns) [] h = absurd h
 
 -- what is no step leaves the steps before it
-another : (m before : List Made) (y : Made) (i : ℕ) (x : Step) → steps_of (y ∷ []) ≡ [] → m ≡ before ++ y ∷ [] → (slice_get (steps_of before) i ≡ Some x → Rests before i x) → slice_get (steps_of m) i ≡ Some x → Rests m i x
+another : (m before : List Made) (y : Made) (i : ℕ) (x : Step) → steps_of (y ∷ []) ≡ [] → m ≡ before ++ y ∷ []
+    → (slice_get (steps_of before) i ≡ Some x → Rests before i x) → slice_get (steps_of m) i ≡ Some x → Rests m i x
 another m before y i x none is on e =
-    let r = on (subst (λ l. slice_get l i ≡ Some x) (ap steps_of is ∙ steps_of-append before (y ∷ []) ∙ ap (λ l. steps_of before ++ l) none ∙ append-nil (steps_of before)) e) in
+    let r = on (subst (λ l. slice_get l i ≡ Some x)
+    (ap steps_of is ∙ steps_of-append before (y ∷ []) ∙ ap (λ l. steps_of before ++ l) none ∙ append-nil (steps_of before)) e) in
     subst (λ w. Rests w i x) (sym is) (record {
       premises = r.premises;
-      earlier = subst (λ l. ArePremises l x.premises r.premises) (sym (sequents_of-append before (y ∷ []))) (more-premises (sequents_of before) (sequents_of (y ∷ [])) x.premises r.premises r.earlier);
+      earlier = subst (λ l. ArePremises l x.premises r.premises) (sym (sequents_of-append before (y ∷ [])))
+          (more-premises (sequents_of before) (sequents_of (y ∷ [])) x.premises r.premises r.earlier);
       below = r.below;
       rule = r.rule;
     })
@@ -72,16 +75,20 @@ another m before y i x none is on e =
 step-rests : (m : List Made) → IsProof m → (i : ℕ) (x : Step) → slice_get (steps_of m) i ≡ Some x → Rests m i x
 step-rests m made.Each.empty i x e = absurd (cc)
 step-rests m (made.Each.more {made = before} (Made.symbol y) p h is) i x e = another m before (Made.symbol y) i x refl is (step-rests before p i x) e
-step-rests m (made.Each.more {made = before} (Made.type_definition names c f j) p h is) i x e = another m before (Made.type_definition names c f j) i x refl is (step-rests before p i x) e
+step-rests m (made.Each.more {made = before} (Made.type_definition names c f j) p h is) i x e =
+    another m before (Made.type_definition names c f j) i x refl is (step-rests before p i x) e
 step-rests m (made.Each.more {made = before} (Made.step y) p h is) i x e =
-    go (λ f. step-rests before p i x f) (get-at (steps_of before) y x i (subst (λ l. slice_get l i ≡ Some x) (ap steps_of is ∙ steps_of-append before (Made.step y ∷ [])) e))
+    go (λ f. step-rests before p i x f)
+    (get-at (steps_of before) y x i (subst (λ l. slice_get l i ≡ Some x) (ap steps_of is ∙ steps_of-append before (Made.step y ∷ [])) e))
   where
-    go : (slice_get (steps_of before) i ≡ Some x → Rests before i x) → (slice_get (steps_of before) i ≡ Some x) ⊎ ((i ≡ length (steps_of before)) × (y ≡ x)) → Rests m i x
+    go : (slice_get (steps_of before) i ≡ Some x → Rests before i x) → (slice_get (steps_of before) i ≡ Some x) ⊎ ((i ≡ length (steps_of before)) × (y ≡ x))
+        → Rests m i x
     go on (inl f) =
         let r = on f in
         subst (λ w. Rests w i x) (sym is) (record {
           premises = r.premises;
-          earlier = subst (λ l. ArePremises l x.premises r.premises) (sym (sequents_of-append before (Made.step y ∷ []))) (more-premises (sequents_of before) (y.sequent ∷ []) x.premises r.premises r.earlier);
+          earlier = subst (λ l. ArePremises l x.premises r.premises) (sym (sequents_of-append before (Made.step y ∷ [])))
+              (more-premises (sequents_of before) (y.sequent ∷ []) x.premises r.premises r.earlier);
           below = r.below;
           rule = r.rule;
         })
@@ -89,8 +96,10 @@ step-rests m (made.Each.more {made = before} (Made.step y) p h is) i x e =
         subst (λ z. Rests m i z) w.1
         (subst (λ w. Rests w i y) (sym is) (record {
           premises = h.premises;
-          earlier = subst (λ l. ArePremises l y.premises h.premises) (sym (sequents_of-append before (Made.step y ∷ []))) (more-premises (sequents_of before) (y.sequent ∷ []) y.premises h.premises h.earlier);
-          below = subst (λ n. AllByRecursion (λ j. j < n) y.premises) (length-map (steps_of before) (λ (z : Step). z.sequent) ∙ sym w.0) (premises-within (sequents_of before) y.premises h.premises h.earlier);
+          earlier = subst (λ l. ArePremises l y.premises h.premises) (sym (sequents_of-append before (Made.step y ∷ [])))
+              (more-premises (sequents_of before) (y.sequent ∷ []) y.premises h.premises h.earlier);
+          below = subst (λ n. AllByRecursion (λ j. j < n) y.premises) (length-map (steps_of before) (λ (z : Step). z.sequent) ∙ sym w.0)
+              (premises-within (sequents_of before) y.premises h.premises h.earlier);
           rule = h.follows.rule;
         }))
 
@@ -118,7 +127,8 @@ module _ (m : List Made) (p : IsProof m) (id : ℕ) (l : id < length (steps_of m
   pub step-sequent : (step_at m id).sequent ≡ sequent_at m id
   step-sequent = from (steps_of m) id l _ _
     where
-      from : (xs : List Step) (i : ℕ) → i < length xs → (d : Step) (s : Sequent) → (slice_index_or xs i d).sequent ≡ slice_index_or (map (λ (z : Step). z.sequent) xs) i s
+      from : (xs : List Step) (i : ℕ) → i < length xs → (d : Step) (s : Sequent) → (slice_index_or xs i d).sequent
+          ≡ slice_index_or (map (λ (z : Step). z.sequent) xs) i s
       from [] i l d s = absurd (omega (arith, l))
       from (x ∷ xs) zero l d s = refl
       from (x ∷ xs) (suc i) l d s = from xs i (omega (arith, l)) d s
@@ -130,4 +140,5 @@ module _ (m : List Made) (p : IsProof m) (id : ℕ) (l : id < length (steps_of m
   step-rule =
       let r = step-rests m p id (step_at m id) at in
       subst (λ s. Rule (step_at m id).kind (map (sequent_at m) (step_at m id).premises) (step_at m id).parameters s) step-sequent
-      (subst (λ ss. Rule (step_at m id).kind ss (step_at m id).parameters (step_at m id).sequent) (premises-at m (step_at m id).premises r.premises r.earlier) r.rule)
+      (subst (λ ss. Rule (step_at m id).kind ss (step_at m id).parameters (step_at m id).sequent) (premises-at m (step_at m id).premises r.premises r.earlier)
+      r.rule)

@@ -138,7 +138,8 @@ module _ (k : Kept) (id : ℕ) (l : id < step_count k) (p : IsProof k.made) wher
   x = step_at k.made id
 
   pub kind-count : (kind : StepKind) → x.kind ≡ kind → length x.premises ≡ premise_count kind
-  kind-count kind e = sym (length-map x.premises (sequent_at k.made)) ∙ rule-count x.kind (map (sequent_at k.made) x.premises) x.parameters (sequent_at k.made id) (step-rule k.made p id l) ∙ ap premise_count e
+  kind-count kind e = sym (length-map x.premises (sequent_at k.made)) ∙ rule-count x.kind (map (sequent_at k.made) x.premises) x.parameters
+      (sequent_at k.made id) (step-rule k.made p id l) ∙ ap premise_count e
 
   pub rule-of : (kind : StepKind) → x.kind ≡ kind → Rule kind (map (sequent_at k.made) x.premises) x.parameters (sequent_at k.made id)
   rule-of kind e = subst (λ w. Rule w (map (sequent_at k.made) x.premises) x.parameters (sequent_at k.made id)) e (step-rule k.made p id l)
@@ -146,7 +147,8 @@ module _ (k : Kept) (id : ℕ) (l : id < step_count k) (p : IsProof k.made) wher
   pub rule-one : (kind : StepKind) (j : ℕ) → x.kind ≡ kind → x.premises ≡ j ∷ [] → Rule kind (sequent_at k.made j ∷ []) x.parameters (sequent_at k.made id)
   rule-one kind j e is = subst (λ ns. Rule kind (map (sequent_at k.made) ns) x.parameters (sequent_at k.made id)) is (rule-of kind e)
 
-  pub rule-two : (kind : StepKind) (i j : ℕ) → x.kind ≡ kind → x.premises ≡ i ∷ j ∷ [] → Rule kind (sequent_at k.made i ∷ sequent_at k.made j ∷ []) x.parameters (sequent_at k.made id)
+  pub rule-two : (kind : StepKind) (i j : ℕ) → x.kind ≡ kind → x.premises ≡ i ∷ j ∷ []
+      → Rule kind (sequent_at k.made i ∷ sequent_at k.made j ∷ []) x.parameters (sequent_at k.made id)
   rule-two kind i j e is = subst (λ ns. Rule kind (map (sequent_at k.made) ns) x.parameters (sequent_at k.made id)) is (rule-of kind e)
 
   pub one-below : (j : ℕ) → x.premises ≡ j ∷ [] → j < id
@@ -169,37 +171,47 @@ module _ (k : Kept) (id : ℕ) (l : id < step_count k) (p : IsProof k.made) wher
     pub second-told : (i j : ℕ) → x.premises ≡ i ∷ j ∷ [] → TellsSequent d tables (sequent_at k.made j)
     second-told i j is = (subst (λ ns. AllByRecursion (TellsSequent d tables) (map (sequent_at k.made) ns)) is h.premises).1.0
 
-  pub restated-told : (d : List Declaration) (tables : SymbolMap) (i j : ℕ) → x.premises ≡ i ∷ j ∷ [] → proves_nothing x.kind (map (sequent_at k.made) x.premises) ≡ true → TellsProof d tables k.made (needed_at k.made id) → TellsSequent d tables (sequent_at k.made j)
+  pub restated-told : (d : List Declaration) (tables : SymbolMap) (i j : ℕ) → x.premises ≡ i ∷ j ∷ []
+      → proves_nothing x.kind (map (sequent_at k.made) x.premises) ≡ true → TellsProof d tables k.made (needed_at k.made id)
+      → TellsSequent d tables (sequent_at k.made j)
   restated-told d tables i j are e h =
       let own = subst (TellsProof d tables k.made) (needed-restated (map (sequent_at k.made) x.premises) x e) h in
       (subst (λ ns. AllByRecursion (TellsSequent d tables) (map (sequent_at k.made) (drop 1 ns))) are own.premises).0
 
   -- the proof terms, by the symbols of premises
   module _ (tables : SymbolMap) (scope : Scope) where
-    pub tree-kind : (kind : StepKind) → x.kind ≡ kind → (js : List ℕ) (ss : List Sequent) → proof_tree tables scope kind js ss x.parameters ≡ proof_tree tables scope x.kind js ss x.parameters
+    pub tree-kind : (kind : StepKind) → x.kind ≡ kind → (js : List ℕ) (ss : List Sequent) → proof_tree tables scope kind js ss x.parameters
+        ≡ proof_tree tables scope x.kind js ss x.parameters
     tree-kind kind e js ss = sym (ap (λ w. proof_tree tables scope w js ss x.parameters) e)
 
     module _ (numbers : List ℕ) where
       abbrev tree_over : List ℕ → Tree
       tree_over ns = proof_tree tables scope x.kind (map (symbol_in numbers) ns) (map (sequent_at k.made) ns) x.parameters
 
-      pub tree-plain : (kind : StepKind) → x.kind ≡ kind → premise_count kind ≡ 0 → proof_tree tables scope kind [] [] x.parameters ≡ rule_tree tables scope numbers k.made x
+      pub tree-plain : (kind : StepKind) → x.kind ≡ kind → premise_count kind ≡ 0 → proof_tree tables scope kind [] [] x.parameters
+          ≡ rule_tree tables scope numbers k.made x
       tree-plain kind e none = tree-kind kind e [] [] ∙ ap tree_over (sym (nil_from_length x.premises (kind-count kind e ∙ none)))
 
-      pub tree-one : (kind : StepKind) → x.kind ≡ kind → (one : Premise) → IsOne k numbers id one → proof_tree tables scope kind (one.symbol ∷ []) (sequent_at k.made one.id ∷ []) x.parameters ≡ rule_tree tables scope numbers k.made x
+      pub tree-one : (kind : StepKind) → x.kind ≡ kind → (one : Premise) → IsOne k numbers id one
+          → proof_tree tables scope kind (one.symbol ∷ []) (sequent_at k.made one.id ∷ []) x.parameters ≡ rule_tree tables scope numbers k.made x
       tree-one kind e one h =
           tree-kind kind e (one.symbol ∷ []) (sequent_at k.made one.id ∷ [])
           ∙ ap (λ j. proof_tree tables scope x.kind (j ∷ []) (sequent_at k.made one.id ∷ []) x.parameters) h.first.symbol ∙ sym (ap tree_over h.is)
 
-      pub tree-two : (kind : StepKind) → x.kind ≡ kind → (one two : Premise) → AreTwo k numbers id one two → proof_tree tables scope kind (one.symbol ∷ two.symbol ∷ []) (sequent_at k.made one.id ∷ sequent_at k.made two.id ∷ []) x.parameters ≡ rule_tree tables scope numbers k.made x
+      pub tree-two : (kind : StepKind) → x.kind ≡ kind → (one two : Premise) → AreTwo k numbers id one two
+          → proof_tree tables scope kind (one.symbol ∷ two.symbol ∷ []) (sequent_at k.made one.id ∷ sequent_at k.made two.id ∷ []) x.parameters
+          ≡ rule_tree tables scope numbers k.made x
       tree-two kind e one two h =
           tree-kind kind e (one.symbol ∷ two.symbol ∷ []) (sequent_at k.made one.id ∷ sequent_at k.made two.id ∷ [])
-          ∙ (λ i. proof_tree tables scope x.kind (h.first.symbol i ∷ h.second.symbol i ∷ []) (sequent_at k.made one.id ∷ sequent_at k.made two.id ∷ []) x.parameters)
+          ∙ (λ i. proof_tree tables scope x.kind (h.first.symbol i ∷ h.second.symbol i ∷ []) (sequent_at k.made one.id ∷ sequent_at k.made two.id ∷ [])
+          x.parameters)
           ∙ sym (ap tree_over h.are)
 
       -- a premise alone, where the first proves nothing
-      pub tree-restated : (one two : Premise) → AreTwo k numbers id one two → proves_nothing x.kind (map (sequent_at k.made) x.premises) ≡ true → theorem_tree scope two.symbol (sequent_at k.made two.id) ≡ rule_tree tables scope numbers k.made (needed_at k.made id)
+      pub tree-restated : (one two : Premise) → AreTwo k numbers id one two → proves_nothing x.kind (map (sequent_at k.made) x.premises) ≡ true
+          → theorem_tree scope two.symbol (sequent_at k.made two.id) ≡ rule_tree tables scope numbers k.made (needed_at k.made id)
       tree-restated one two h e =
           ap (λ j. theorem_tree scope j (sequent_at k.made two.id)) h.second.symbol
-          ∙ sym (ap (λ ns. rule_tree tables scope numbers k.made (record { kind = kinds.Restate; premises = drop 1 ns; parameters = Parameters.sequent x.sequent; sequent = x.sequent })) h.are)
+          ∙ sym (ap (λ ns. rule_tree tables scope numbers k.made
+          (record { kind = kinds.Restate; premises = drop 1 ns; parameters = Parameters.sequent x.sequent; sequent = x.sequent })) h.are)
           ∙ sym (ap (rule_tree tables scope numbers k.made) (needed-restated (map (sequent_at k.made) x.premises) x e))

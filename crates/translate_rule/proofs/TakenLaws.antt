@@ -39,25 +39,30 @@ plain-made (Made.type_definition names c f i) x e plain = absurd (subst IsPlain 
 plain-made (Made.step z) x e plain = absurd (cc)
 
 -- a type operator is made by a type definition, which is noted with its step
-operator-made : (made earlier later : List Made) (y : Made) (m : OneMade) (names : TypeNames) (c : HolType) (f : Term) → IsProof made → made ≡ earlier ++ y ∷ later → IsNoted y m → made_symbol y ≡ Some (Symbol.defined (Definition.type_operator names c f))
+operator-made : (made earlier later : List Made) (y : Made) (m : OneMade) (names : TypeNames) (c : HolType) (f : Term) → IsProof made → made ≡ earlier
+    ++ y ∷ later → IsNoted y m → made_symbol y ≡ Some (Symbol.defined (Definition.type_operator names c f))
     → (i : ℕ) × (y ≡ Made.type_definition names c f i) × IsNoted (Made.type_definition names c f i) m
 operator-made made earlier later (Made.symbol z) m names c f proof whole noted e =
-    absurd (subst IsPlain (same_Some _ _ e) (each-at IsMade [] earlier later (Made.symbol z) (each-after IsMade (earlier ++ Made.symbol z ∷ later) (subst IsProof whole proof))).0)
+    absurd (subst IsPlain (same_Some _ _ e)
+    (each-at IsMade [] earlier later (Made.symbol z) (each-after IsMade (earlier ++ Made.symbol z ∷ later) (subst IsProof whole proof))).0)
 operator-made made earlier later (Made.type_definition names2 c2 f2 i) m names c f proof whole noted e =
     let same : Made.type_definition names2 c2 f2 i ≡ Made.type_definition names c f i = let d = same_Some _ _ e in cc in
     (i, same, subst (λ z. IsNoted z m) same noted)
 operator-made made earlier later (Made.step z) m names c f proof whole noted e = absurd noted
 
-definition-noted : (names : TypeNames) (c : HolType) (f : Term) (i : ℕ) (m : OneMade) → IsNoted (Made.type_definition names c f i) m → (n : Name) × (m ≡ one.TypeOp n i)
+definition-noted : (names : TypeNames) (c : HolType) (f : Term) (i : ℕ) (m : OneMade) → IsNoted (Made.type_definition names c f i) m → (n : Name)
+    × (m ≡ one.TypeOp n i)
 definition-noted names c f i (one.TypeOp n j) h = (n, ap (one.TypeOp n) (sym h))
 definition-noted names c f i (one.InputConst n) h = absurd h
 definition-noted names c f i (one.InputOp n k) h = absurd h
 definition-noted names c f i (one.Const n) h = absurd h
 definition-noted names c f i (one.Step k) h = absurd h
 
-module _ (trees : Trees) (made earlier later : List Made) (y : Made) (m : OneMade) (x : TypeOpView) (proof : IsProof made) (whole : made ≡ earlier ++ y ∷ later) (noted : IsNoted y m) (is : made_symbol y ≡ Some (symbol_at trees (operator_of_view x))) where
+module _ (trees : Trees) (made earlier later : List Made) (y : Made) (m : OneMade) (x : TypeOpView) (proof : IsProof made) (whole : made ≡ earlier ++ y ∷ later)
+    (noted : IsNoted y m) (is : made_symbol y ≡ Some (symbol_at trees (operator_of_view x))) where
   definition-of : (i : ℕ) × (y ≡ definition_made trees x i) × IsNoted (definition_made trees x i) m
-  definition-of = operator-made made earlier later y m (named x.op.now x.abs.now x.rep.now x.names.now) (type_at trees x.whole.0) (term_at trees x.predicate.0) proof whole noted is
+  definition-of = operator-made made earlier later y m (named x.op.now x.abs.now x.rep.now x.names.now) (type_at trees x.whole.0) (term_at trees x.predicate.0)
+      proof whole noted is
 
   -- The next thing is the type definition that is taken, from the step with which it is noted
   pub definition-is : (n : Name) (i : ℕ) → m ≡ one.TypeOp n i → y ≡ definition_made trees x i
@@ -78,25 +83,30 @@ module _ (r : Run) (earlier later : List Made) (y : Made) where
   k = r.proof.now
 
   -- the one item of a symbol
-  next-one : (s : Symbol) → y ≡ Made.symbol s → k.made ≡ earlier ++ y ∷ later → (c : Content) → contents_of s ≡ c ∷ [] → (numbers : List ℕ) (own : AnItem) → symbol_name s ≡ item_name run own → c ≡ item_content k numbers own → IsItemKnown k numbers own
+  next-one : (s : Symbol) → y ≡ Made.symbol s → k.made ≡ earlier ++ y ∷ later → (c : Content) → contents_of s ≡ c ∷ [] → (numbers : List ℕ) (own : AnItem)
+      → symbol_name s ≡ item_name run own → c ≡ item_content k numbers own → IsItemKnown k numbers own
       → IsNextItem run (items_made run earlier) (items_made run (earlier ++ y ∷ [])) k numbers own
   next-one s e whole c among numbers own name content known =
       subst (λ (z : Made). k.made ≡ earlier ++ z ∷ later → IsNextItem run (items_made run earlier) (items_made run (earlier ++ z ∷ [])) k numbers own) (sym e)
       (λ w. only-content run earlier later s w c among k numbers own name content known) whole
 
-  pub next-input-constant : (n : Bor Name) → made_symbol y ≡ Some (Symbol.input_constant n.now) → k.made ≡ earlier ++ y ∷ later → (numbers : List ℕ) → IsNextItem run (items_made run earlier) (items_made run (earlier ++ y ∷ [])) k numbers (item.InputConst n)
+  pub next-input-constant : (n : Bor Name) → made_symbol y ≡ Some (Symbol.input_constant n.now) → k.made ≡ earlier ++ y ∷ later → (numbers : List ℕ)
+      → IsNextItem run (items_made run earlier) (items_made run (earlier ++ y ∷ [])) k numbers (item.InputConst n)
   next-input-constant n e whole numbers =
       let s = Symbol.input_constant n.now in
       next-one s (plain-made y s e (tt {0})) whole (Content.constant n.now generic) refl numbers (item.InputConst n) refl refl (tt {0})
 
-  pub next-input-operator : (n : Bor Name) (j : ℕ) → made_symbol y ≡ Some (Symbol.input_operator n.now j) → k.made ≡ earlier ++ y ∷ later → (numbers : List ℕ) → IsNextItem run (items_made run earlier) (items_made run (earlier ++ y ∷ [])) k numbers (item.InputOp n j)
+  pub next-input-operator : (n : Bor Name) (j : ℕ) → made_symbol y ≡ Some (Symbol.input_operator n.now j) → k.made ≡ earlier ++ y ∷ later → (numbers : List ℕ)
+      → IsNextItem run (items_made run earlier) (items_made run (earlier ++ y ∷ [])) k numbers (item.InputOp n j)
   next-input-operator n j e whole numbers =
       let s = Symbol.input_operator n.now j in
       next-one s (plain-made y s e (tt {0})) whole (Content.operator n.now j) refl numbers (item.InputOp n j) refl refl (tt {0})
 
-  pub next-constant : (n : Bor Name) (u : TermId) (a : TypeId) → made_symbol y ≡ Some (symbol_at k.trees (Taken.constant n.now u a)) → IsConstantKnown k.trees u a → k.made ≡ earlier ++ y ∷ later → (numbers : List ℕ)
+  pub next-constant : (n : Bor Name) (u : TermId) (a : TypeId) → made_symbol y ≡ Some (symbol_at k.trees (Taken.constant n.now u a))
+      → IsConstantKnown k.trees u a → k.made ≡ earlier ++ y ∷ later → (numbers : List ℕ)
       → IsNextItem run (items_made run earlier) (items_made run (earlier ++ y ∷ [])) k numbers (item.Const n u a)
   next-constant n u a e known whole numbers =
       let s = symbol_at k.trees (Taken.constant n.now u a) in
       next-one s (plain-made y s e (tt {0})) whole _ refl numbers (item.Const n u a) refl
-      (ap (λ b. Content.defined_constant n.now b (term_at k.trees u.0)) (type_or-is (term_at k.trees u.0) (type_at k.trees a.0) known.typed)) (known.term, known.ty)
+      (ap (λ b. Content.defined_constant n.now b (term_at k.trees u.0)) (type_or-is (term_at k.trees u.0) (type_at k.trees a.0) known.typed))
+      (known.term, known.ty)

@@ -17,14 +17,17 @@ use Rattle.translate_term.specs.Told.{TellsType, TellsTerm}
 use Rattle.translate_proof.specs.Told.{TellsSequent}
 
 -- the type of the variable is told where the sequent is
-variable-of : (d : List Declaration) (tables : SymbolMap) (v : Variable) (one s : Sequent) → Rule kinds.AbsThm (one ∷ []) (Parameters.variable v) s → TellsSequent d tables s → TellsType d tables v.1
+variable-of : (d : List Declaration) (tables : SymbolMap) (v : Variable) (one s : Sequent) → Rule kinds.AbsThm (one ∷ []) (Parameters.variable v) s
+    → TellsSequent d tables s → TellsType d tables v.1
 variable-of d tables v one s (rule.abs_thm e f i) h = let whole = subst (TellsTerm d tables) (ap (λ (s : Sequent). s.conclusion) i) h.conclusion in whole.0.1.0
 
-pub variable-told : (d : List Declaration) (tables : SymbolMap) (v : Variable) (g : Parameters) (one s : Sequent) → Rule kinds.AbsThm (one ∷ []) g s → Parameters.variable v ≡ g → TellsSequent d tables s → TellsType d tables v.1
+pub variable-told : (d : List Declaration) (tables : SymbolMap) (v : Variable) (g : Parameters) (one s : Sequent) → Rule kinds.AbsThm (one ∷ []) g s
+    → Parameters.variable v ≡ g → TellsSequent d tables s → TellsType d tables v.1
 variable-told d tables v g one s r e h = variable-of d tables v one s (subst (λ g. Rule kinds.AbsThm (one ∷ []) g s) (sym e) r) h
 
 -- such a step was given a variable
-pub variable-given : (trees : Trees) (p : Given) (g : Parameters) (one s : Sequent) → Rule kinds.AbsThm (one ∷ []) g s → parameters_view trees p ≡ g → ((x : AVariable) → p ≡ given.Variable x → ⊥) → ⊥
+pub variable-given : (trees : Trees) (p : Given) (g : Parameters) (one s : Sequent) → Rule kinds.AbsThm (one ∷ []) g s → parameters_view trees p ≡ g
+    → ((x : AVariable) → p ≡ given.Variable x → ⊥) → ⊥
 variable-given trees p g one s (rule.abs_thm {v = w} e f i) is other = go p is other
   where
     go : (p : Given) → parameters_view trees p ≡ Parameters.variable w → ((x : AVariable) → p ≡ given.Variable x → ⊥) → ⊥

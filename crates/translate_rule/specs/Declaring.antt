@@ -21,7 +21,8 @@ IsTold m content = (tables : SymbolMap) × TellsContent (declarations_of m) tabl
 
 -- a declaration is that of a content under a name, where the module told before what the content says
 abbrev pub IsDeclared : Module → Module → List ℕ → Content → Decl → Type 0
-IsDeclared old new name content decl = (tables : SymbolMap) → TellsContent (declarations_of old) tables content → declaration_in new.table decl ≡ declaration_of tables name content
+IsDeclared old new name content decl = (tables : SymbolMap) → TellsContent (declarations_of old) tables content → declaration_in new.table decl ≡ declaration_of
+    tables name content
 
 -- a declaration is that of an item of a run
 abbrev pub IsItemDeclared : Module → Module → Run → List ℕ → Item → Decl → Type 0

@@ -68,7 +68,8 @@ abbrev pub item_content : Kept → List ℕ → Item → Content
 item_content k numbers (item.InputConst n) = Content.constant n.now generic
 item_content k numbers (item.InputOp n j) = Content.operator n.now j
 item_content k numbers (item.Const n t a) = constant_at k.trees n.now t a
-item_content k numbers (item.Part own d) = part_content own (names_of d) (type_at k.trees d.view.whole.0) (term_at k.trees d.view.predicate.0) (symbol_in numbers d.premise) (sequent_at k.made d.premise)
+item_content k numbers (item.Part own d) = part_content own (names_of d) (type_at k.trees d.view.whole.0) (term_at k.trees d.view.predicate.0)
+    (symbol_in numbers d.premise) (sequent_at k.made d.premise)
 item_content k numbers (item.Step id) = content_at numbers k.made id
 
 -- the numbers of a type definition are of the proof, and its premise is an earlier step, which has a symbol

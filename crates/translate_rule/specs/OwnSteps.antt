@@ -77,7 +77,8 @@ IsSequentTold step m = (tables : SymbolMap) × TellsSequent (declarations_of m) 
 
 -- a tree is this one of a step's sequent, where the module told the sequent before
 abbrev pub IsTreeOf : OwnStep → (SymbolMap → Sequent → Tree) → Module → Module → LpId → Type 0
-IsTreeOf step tree old new r = (tables : SymbolMap) → TellsSequent (declarations_of old) tables (own_sequent step) → Holds new.table r.0 (tree tables (own_sequent step))
+IsTreeOf step tree old new r = (tables : SymbolMap) → TellsSequent (declarations_of old) tables (own_sequent step) → Holds new.table r.0
+    (tree tables (own_sequent step))
 
 -- the products over a sequent's hypotheses, and over its free variables
 abbrev pub hypotheses_product : Tree → SymbolMap → Sequent → Tree
@@ -104,7 +105,8 @@ tree_by step premises tables =
 
 -- a tree is that proof
 abbrev pub IsProofBy : OwnStep → List Premise → Module → Module → LpId → Type 0
-IsProofBy step premises old new r = (tables : SymbolMap) → TellsProof (declarations_of old) tables (proof_in step).made (own_step step) → Holds new.table r.0 (tree_by step premises tables)
+IsProofBy step premises old new r = (tables : SymbolMap) → TellsProof (declarations_of old) tables (proof_in step).made (own_step step) → Holds new.table r.0
+    (tree_by step premises tables)
 
 -- a module tells what the content of a step asks for
 abbrev pub IsStepTold : Module → Content → Type 0
@@ -116,9 +118,11 @@ own_content step numbers = content_at numbers (proof_in step).made step.id
 
 -- what a declaration has beside its name is that of a content, under each name
 abbrev pub IsStated : Module → Module → Content → Unnamed → Type 0
-IsStated old new content x = (tables : SymbolMap) (name : List ℕ) → TellsContent (declarations_of old) tables content → named_in new.table name x ≡ declaration_of tables name content
+IsStated old new content x = (tables : SymbolMap) (name : List ℕ) → TellsContent (declarations_of old) tables content → named_in new.table name x
+    ≡ declaration_of tables name content
 
 -- a declaration is that of a step of a run
 abbrev pub IsStepDeclared : Module → Module → Run → List ℕ → ℕ → Decl → Type 0
 IsStepDeclared old new run numbers id decl = (tables : SymbolMap) → TellsContent (declarations_of old) tables (content_at numbers run.proof.now.made id)
-    → declaration_in new.table decl ≡ declaration_of tables (step_name (accepted run) id (step_at run.proof.now.made id).kind) (content_at numbers run.proof.now.made id)
+    → declaration_in new.table decl ≡ declaration_of tables (step_name (accepted run) id (step_at run.proof.now.made id).kind)
+    (content_at numbers run.proof.now.made id)

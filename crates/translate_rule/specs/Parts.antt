@@ -51,7 +51,8 @@ IsDefining k x id = IsTypeDefinition (names_of_view x) (type_at k.trees x.whole.
 
 -- a module tells its type and its sequent
 abbrev pub IsDefiningTold : Kept → ℕ → Module → Type 0
-IsDefiningTold k id m = (tables : SymbolMap) × TellsType (declarations_of m) tables (whole_type k id) × TellsSequent (declarations_of m) tables (sequent_at k.made id)
+IsDefiningTold k id m = (tables : SymbolMap) × TellsType (declarations_of m) tables (whole_type k id) × TellsSequent (declarations_of m) tables
+    (sequent_at k.made id)
 
 -- a tree is the declared type of a part, and what a part stands for, where the module told before what the part says
 abbrev pub IsPartType : Kept → Part → TypeOpView → Premise → Module → Module → LpId → Type 0

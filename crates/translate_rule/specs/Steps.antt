@@ -54,7 +54,8 @@ TellsContent declarations symbols (type_operator names c f j one) = Unit {0}
 TellsContent declarations symbols (type_abstraction names c f j one) = Unit {0}
 TellsContent declarations symbols (type_representation names c f j one) = Unit {0}
 TellsContent declarations symbols (unproved s) = TellsSequent declarations symbols s
-TellsContent declarations symbols (step kind js premises given s) = TellsSequent declarations symbols s × AllByRecursion (TellsSequent declarations symbols) premises × TellsGiven declarations symbols given
+TellsContent declarations symbols (step kind js premises given s) =
+    TellsSequent declarations symbols s × AllByRecursion (TellsSequent declarations symbols) premises × TellsGiven declarations symbols given
 
 -- in a step, its premises and what it was given
 pub record TellsProof (declarations : List Declaration) (symbols : SymbolMap) (made : List Made) (x : Step) : Type 0 where

@@ -21,9 +21,9 @@ use common::Memory;
 use hol_defs::SymbolView;
 use hol_rules::{Made, Proof, StepId};
 use holide_sig::{Module, SIGNATURE};
-use translate_reach::Reached;
-use translate_proof::{KeptParams, Part};
 use std::alloc::Global;
+use translate_proof::{KeptParams, Part};
+use translate_reach::Reached;
 
 /// The module of what a proof made and its exports reach: the two lemmas, and then each item that is reached, in order of making. The
 /// proof is that of an accepted run with these assumptions and exports.

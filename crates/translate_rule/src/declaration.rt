@@ -24,9 +24,9 @@ use hol_rules::{Proof, StepId};
 use hol_spec::StepKind;
 use holide_sig::{Decl, Form, Ident, Module};
 use lp_term::LpId;
-use translate_proof::{Ground, KeptParams, abstracted, step_name};
 use sequent::Params;
 use std::alloc::Global;
+use translate_proof::{Ground, KeptParams, abstracted, step_name};
 
 /// What a step's declaration has beside its name.
 #[derive(Clone, Copy)]

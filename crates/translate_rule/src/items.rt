@@ -29,8 +29,8 @@ use hol_term::{TermId, TermTable};
 use hol_type::{TypeId, TypeTable};
 use holide_sig::{Decl, Form, Ident, Module};
 use lp_term::LpId;
-use translate_proof::{KeptParams, Part};
 use std::alloc::Global;
+use translate_proof::{KeptParams, Part};
 use translate_term::{tm, ty};
 
 /// A type definition, by its numbers.

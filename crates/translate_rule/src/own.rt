@@ -15,9 +15,9 @@ use hol_name::Name;
 use hol_rules::{Proof, StepId};
 use hol_term::{TermId, Variable};
 use holide_sig::Module;
-use translate_proof::{Environment, Ground, KeptParams, LentParams};
 use sequent::Params;
 use std::alloc::Global;
+use translate_proof::{Environment, Ground, KeptParams, LentParams};
 
 /// A step with the parameters of its sequent, and what its proof term is made from: its environment is that of its own binders.
 #[derive(Clone, Copy)]

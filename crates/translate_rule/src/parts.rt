@@ -26,8 +26,8 @@ use hol_rules::Proof;
 use hol_type::TypeId;
 use holide_sig::{Decl, Form, Ident, Module};
 use lp_term::LpId;
-use translate_proof::{Environment, Part, Premise, type_part};
 use std::alloc::Global;
+use translate_proof::{Environment, Part, Premise, type_part};
 
 // The declaration of a part of a type definition, from a premise with its symbol.
 pub(crate) fn part_declaration(

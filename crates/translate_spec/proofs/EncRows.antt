@@ -29,7 +29,8 @@ no_repeats = tt
 bool_stands : (at : Place) → StandsForType m closed_bool at bools
 bool_stands at = (bool_symbol, [], truth_values refl, tt, refl)
 
-functions_stand : (at : Place) (a b : ClosedType) (A B : Tree) → StandsForType m a at A → StandsForType m b at B → StandsForType m (closed_function a b) at (arr_of A B)
+functions_stand : (at : Place) (a b : ClosedType) (A B : Tree) → StandsForType m a at A → StandsForType m b at B
+    → StandsForType m (closed_function a b) at (arr_of A B)
 functions_stand at a b A B ha hb = (arr_symbol, A ∷ B ∷ [], arrow refl, (ha, (hb, tt)), refl)
 
 u_means : MeansConstant m 18 (codes "u" ∷ []) 1 (ClosedType.parameter 0)
@@ -58,7 +59,12 @@ captured = record {
       generic = ClosedType.parameter 0;
       means = u_means;
       arguments = ClosedTypes.more (closed_function (closed_function closed_bool closed_bool) closed_bool) ClosedTypes.none;
-      args_stand = (functions_stand (place 0 1 0 0) (closed_function closed_bool closed_bool) closed_bool (arr_of bools bools) bools (functions_stand (place 0 1 0 0) closed_bool closed_bool bools bools (bool_stands (place 0 1 0 0)) (bool_stands (place 0 1 0 0))) (bool_stands (place 0 1 0 0)), tt);
+      args_stand = (
+        functions_stand (place 0 1 0 0) (closed_function closed_bool closed_bool) closed_bool (arr_of bools bools) bools
+            (functions_stand (place 0 1 0 0) closed_bool closed_bool bools bools (bool_stands (place 0 1 0 0)) (bool_stands (place 0 1 0 0)))
+            (bool_stands (place 0 1 0 0)),
+        tt,
+      );
       is_instance = refl;
       tree = refl;
     },
@@ -69,13 +75,16 @@ captured = record {
 
 -- o_two, and c_mk : v0 : type -> v1 : type -> term (arr (arr v0 v1) (o_two v1 v0))
 abbrev two : List Declaration
-two = symbol (codes "o_two") (Pi types (Pi types types)) ∷ symbol (codes "c_mk") (Pi types (Pi types (term_of (arr_of (arr_of (Var 1) (Var 0)) (App (App (Sym 18) (Var 0)) (Var 1)))))) ∷ []
+two = symbol (codes "o_two") (Pi types (Pi types types)) ∷ symbol (codes "c_mk")
+    (Pi types (Pi types (term_of (arr_of (arr_of (Var 1) (Var 0)) (App (App (Sym 18) (Var 0)) (Var 1)))))) ∷ []
 
 two_means : operators.MeansOperator two 18 (codes "two" ∷ []) 2
-two_means = operators.MeansOperator.defined {name = codes "two" ∷ []} {arity = 2} (record { is_name = ((omega arith, (omega arith, (omega arith, tt))), tt); not_primitive = refl; text = refl; ty = refl })
+two_means = operators.MeansOperator.defined {name = codes "two" ∷ []} {arity = 2}
+    (record { is_name = ((omega arith, (omega arith, (omega arith, tt))), tt); not_primitive = refl; text = refl; ty = refl })
 
 mk_type : ClosedType
-mk_type = closed_function (closed_function (ClosedType.parameter 0) (ClosedType.parameter 1)) (ClosedType.operator (codes "two" ∷ []) (ClosedTypes.more (ClosedType.parameter 1) (ClosedTypes.more (ClosedType.parameter 0) ClosedTypes.none)))
+mk_type = closed_function (closed_function (ClosedType.parameter 0) (ClosedType.parameter 1))
+    (ClosedType.operator (codes "two" ∷ []) (ClosedTypes.more (ClosedType.parameter 1) (ClosedTypes.more (ClosedType.parameter 0) ClosedTypes.none)))
 
 mk_means : MeansConstant two 19 (codes "mk" ∷ []) 2 mk_type
 unfolding mk_type
@@ -84,6 +93,15 @@ mk_means = constants.MeansConstant.defined {name = codes "mk" ∷ []} {variables
     (record {
       tree = arr_of (arr_of (Var 1) (Var 0)) (App (App (Sym 18) (Var 0)) (Var 1));
       ty = refl;
-      stands = (arr_symbol, arr_of (Var 1) (Var 0) ∷ App (App (Sym 18) (Var 0)) (Var 1) ∷ [], arrow refl, ((arr_symbol, Var 1 ∷ Var 0 ∷ [], arrow refl, ((omega arith, refl), ((omega arith, refl), tt)), refl), ((18, Var 0 ∷ Var 1 ∷ [], two_means, ((omega arith, refl), ((omega arith, refl), tt)), refl), tt)), refl);
+      stands = (
+        arr_symbol,
+        arr_of (Var 1) (Var 0) ∷ App (App (Sym 18) (Var 0)) (Var 1) ∷ [],
+        arrow refl,
+        (
+          (arr_symbol, Var 1 ∷ Var 0 ∷ [], arrow refl, ((omega arith, refl), ((omega arith, refl), tt)), refl),
+          ((18, Var 0 ∷ Var 1 ∷ [], two_means, ((omega arith, refl), ((omega arith, refl), tt)), refl), tt),
+        ),
+        refl,
+      );
       in_order = refl;
     })

@@ -30,7 +30,8 @@ module _ (n : Name) (names : TypeNames) (c : HolType) (f : Term) (one law : Sequ
   item i c = record { symbol = i; name = []; content = c }
 
   example_items : items_of plain run
-      ≡ item 0 (Content.operator n 1) ∷ item 1 (Content.unproved one) ∷ item 2 (Content.type_operator names c f 1 one) ∷ item 3 (Content.type_abstraction names c f 1 one)
+      ≡ item 0 (Content.operator n 1) ∷ item 1 (Content.unproved one) ∷ item 2 (Content.type_operator names c f 1 one) ∷ item 3
+      (Content.type_abstraction names c f 1 one)
       ∷ item 4 (Content.type_representation names c f 1 one) ∷ item 5 (Content.step FirstLaw (1 ∷ []) (one ∷ []) (Parameters.type_operator names Six) law)
       ∷ item 6 (Content.step Restate (5 ∷ []) (law ∷ []) (Parameters.sequent law) law) ∷ []
   example_items = refl

@@ -57,11 +57,14 @@ second = record { hypotheses = []; conclusion = equation bool m r }
 abbrev joined : Sequent
 joined = record { hypotheses = []; conclusion = equation bool p r }
 
-first_type : sequent_tree symbols first ≡ Pi types (Pi (term_of bools) (Pi (term_of (Var 1)) (proof_of (eq_of bools (Var 1) (App (App (Sym 17) (arr_of (Var 2) bools)) (Var 0))))))
+first_type : sequent_tree symbols first ≡ Pi types
+    (Pi (term_of bools) (Pi (term_of (Var 1)) (proof_of (eq_of bools (Var 1) (App (App (Sym 17) (arr_of (Var 2) bools)) (Var 0))))))
 first_type = refl
 
 vanished : proof_tree symbols (scope_of symbols joined) Trans (18 ∷ 19 ∷ []) (first ∷ second ∷ []) nothing
-    ≡ applied (Sym trans_symbol) (bools ∷ Var 1 ∷ App (App (Sym 17) (arr_of bools bools)) S ∷ Var 0 ∷ applied (Sym 18) (bools ∷ Var 1 ∷ S ∷ []) ∷ applied (Sym 19) (bools ∷ S ∷ Var 0 ∷ []) ∷ [])
+    ≡ applied (Sym trans_symbol)
+    (bools ∷ Var 1 ∷ App (App (Sym 17) (arr_of bools bools)) S ∷ Var 0 ∷ applied (Sym 18) (bools ∷ Var 1 ∷ S ∷ []) ∷ applied (Sym 19)
+    (bools ∷ S ∷ Var 0 ∷ []) ∷ [])
 vanished = refl
 
 -- What merges: {p, q} |- r, by subst of q to p {p} |- r.
@@ -85,7 +88,8 @@ types_first = record { hypotheses = []; conclusion = app (app k (free (name (cod
 abbrev both_q : Sequent
 both_q = record { hypotheses = []; conclusion = app (app (constant (name (codes "k")) (function bool (function bool bool))) q) q }
 
-types_first_body : proof_tree symbols (scope_of symbols both_q) Subst (18 ∷ []) (types_first ∷ []) (substitution ((name (codes "a"), bool) ∷ []) (((name (codes "x"), bool), q) ∷ []))
+types_first_body : proof_tree symbols (scope_of symbols both_q) Subst (18 ∷ []) (types_first ∷ [])
+    (substitution ((name (codes "a"), bool) ∷ []) (((name (codes "x"), bool), q) ∷ []))
     ≡ applied (Sym 18) (bools ∷ Var 0 ∷ Var 0 ∷ [])
 types_first_body = refl
 
@@ -93,7 +97,8 @@ types_first_body = refl
 abbrev over_y : Term → Term
 over_y t = app (constant (name (codes "u")) (function (function bool bool) bool)) (lam bool t)
 
-captured : sequent_tree symbols (record { hypotheses = []; conclusion = over_y (boolean (codes "y")) }) ≡ Pi (term_of bools) (proof_of (App (App (Sym 17) (arr_of (arr_of bools bools) bools)) (Lam (term_of bools) (Var 1))))
+captured : sequent_tree symbols (record { hypotheses = []; conclusion = over_y (boolean (codes "y")) })
+    ≡ Pi (term_of bools) (proof_of (App (App (Sym 17) (arr_of (arr_of bools bools) bools)) (Lam (term_of bools) (Var 1))))
 captured = refl
 
 -- Removal up to renaming: {u (\y. y)} |- p and |- u (\z. z).
@@ -103,7 +108,8 @@ u = over_y (bound 0)
 abbrev U : Tree
 U = App (App (Sym 17) (arr_of (arr_of bools bools) bools)) (Lam (term_of bools) (Var 0))
 
-removed : proof_tree symbols (scope_of symbols (record { hypotheses = []; conclusion = equation bool p u })) DeductAntisym (18 ∷ 19 ∷ []) (record { hypotheses = u ∷ []; conclusion = p } ∷ record { hypotheses = []; conclusion = u } ∷ []) nothing
+removed : proof_tree symbols (scope_of symbols (record { hypotheses = []; conclusion = equation bool p u })) DeductAntisym (18 ∷ 19 ∷ [])
+    (record { hypotheses = u ∷ []; conclusion = p } ∷ record { hypotheses = []; conclusion = u } ∷ []) nothing
     ≡ applied (Sym prop_ext_symbol) (Var 0 ∷ U ∷ Lam (proof_of (Var 0)) (Sym 19) ∷ Lam (proof_of U) (applied (Sym 18) (Var 1 ∷ Var 0 ∷ [])) ∷ [])
 removed = refl
 
@@ -111,7 +117,8 @@ removed = refl
 abbrev redex : Term
 redex = app (lam bool (app (lam bool (bound 0)) (bound 0))) p
 
-contracted_body : proof_tree symbols (scope_of symbols (record { hypotheses = []; conclusion = equation bool redex (app (lam bool (bound 0)) p) })) BetaConv [] [] (term redex)
+contracted_body : proof_tree symbols (scope_of symbols (record { hypotheses = []; conclusion = equation bool redex (app (lam bool (bound 0)) p) })) BetaConv []
+    [] (term redex)
     ≡ refl_of bools (App (Lam (term_of bools) (Var 0)) (Var 0))
 contracted_body = refl
 
@@ -131,7 +138,8 @@ w = free (name (codes "w")) on_bool
 abbrev R : Tree
 R = refl_of (arr_of bools bools) (Lam (term_of bools) (Var 0))
 
-listed_body : proof_tree symbols (scope_of symbols (record { hypotheses = []; conclusion = equation on_bool (constant (name (codes "c")) on_bool) I })) DefineConstList (18 ∷ [])
+listed_body : proof_tree symbols (scope_of symbols (record { hypotheses = []; conclusion = equation on_bool (constant (name (codes "c")) on_bool) I }))
+    DefineConstList (18 ∷ [])
     (record { hypotheses = equation on_bool v I ∷ equation on_bool w I ∷ []; conclusion = equation on_bool v I } ∷ [])
     (constants ((name (codes "c"), (name (codes "v"), on_bool)) ∷ (name (codes "d"), (name (codes "w"), on_bool)) ∷ []))
     ≡ applied (Sym 18) (Sym 15 ∷ Sym 16 ∷ R ∷ R ∷ [])

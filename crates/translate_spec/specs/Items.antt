@@ -49,26 +49,38 @@ says (step kind js premises given s) = Some s
 
 -- what a defined constant stands for, over the type variables of its generic type
 abbrev pub definition_tree : SymbolMap → HolType → Term → Tree
-definition_tree symbols a t = abstractions (map (λ n. types) (type_variables a)) (term_tree symbols (filled symbols (under_types (type_variables a) unfilled)) t)
+definition_tree symbols a t = abstractions (map (λ n. types) (type_variables a))
+    (term_tree symbols (filled symbols (under_types (type_variables a) unfilled)) t)
 
 -- what a symbol of a type definition stands for: a symbol of parts, under these type variables
 abbrev pub part_definition_tree : SymbolMap → List Name → ℕ → HolType → ℕ → Sequent → Tree
-part_definition_tree symbols names s c j one = abstractions (map (λ n. types) names) (part_tree symbols (filled symbols (under_types names unfilled)) s c (j, one))
+part_definition_tree symbols names s c j one = abstractions (map (λ n. types) names)
+    (part_tree symbols (filled symbols (under_types names unfilled)) s c (j, one))
 
 -- the definition of the constant of a type definition with this generic type
 abbrev pub part_constant : SymbolMap → List ℕ → HolType → ℕ → HolType → ℕ → Sequent → Declaration
-part_constant symbols name a s c j one = record { name = name; form = Def; ty = generic_tree symbols a; body = Some (part_definition_tree symbols (type_variables a) s c j one) }
+part_constant symbols name a s c j one = record
+    { name = name; form = Def; ty = generic_tree symbols a; body = Some (part_definition_tree symbols (type_variables a) s c j one) }
 
 -- the declaration of an item
 abbrev pub declaration_of : SymbolMap → List ℕ → Content → Declaration
 declaration_of symbols name (operator n k) = symbol name (products (replicate k types) types)
 declaration_of symbols name (constant n a) = symbol name (generic_tree symbols a)
-declaration_of symbols name (defined_constant n a t) = record { name = name; form = Def; ty = generic_tree symbols a; body = Some (definition_tree symbols a t) }
-declaration_of symbols name (type_operator names c u j one) = record { name = name; form = Def; ty = products (replicate (length names.variables) types) types; body = Some (part_definition_tree symbols names.variables sub_symbol c j one) }
+declaration_of symbols name (defined_constant n a t) =
+    record { name = name; form = Def; ty = generic_tree symbols a; body = Some (definition_tree symbols a t) }
+declaration_of symbols name (type_operator names c u j one) =
+    record {
+      name = name;
+      form = Def;
+      ty = products (replicate (length names.variables) types) types;
+      body =
+          Some (part_definition_tree symbols names.variables sub_symbol c j one);
+    }
 declaration_of symbols name (type_abstraction names c u j one) = part_constant symbols name (abstraction_type names c) sub_abs_symbol c j one
 declaration_of symbols name (type_representation names c u j one) = part_constant symbols name (representation_type names c) sub_rep_symbol c j one
 declaration_of symbols name (unproved s) = symbol name (sequent_tree symbols s)
-declaration_of symbols name (step kind js premises given s) = theorem name (domains_of symbols s) (conclusion_tree symbols s) (proof_tree symbols (scope_of symbols s) kind js premises given)
+declaration_of symbols name (step kind js premises given s) =
+    theorem name (domains_of symbols s) (conclusion_tree symbols s) (proof_tree symbols (scope_of symbols s) kind js premises given)
 
 abbrev pub declaration : SymbolMap → Item → Declaration
 declaration symbols x = declaration_of symbols x.name x.content

@@ -28,7 +28,8 @@ contents_of (Symbol.defined (Definition.type_operator names c f)) = []
 
 -- The contents of a type definition, by the theorem of this number and this sequent.
 abbrev pub type_contents : TypeNames → HolType → Term → ℕ × Sequent → List Content
-type_contents names c f one = Content.type_operator names c f one.0 one.1 ∷ Content.type_abstraction names c f one.0 one.1 ∷ Content.type_representation names c f one.0 one.1 ∷ []
+type_contents names c f one = Content.type_operator names c f one.0 one.1 ∷ Content.type_abstraction names c f one.0 one.1 ∷ Content.type_representation names c
+    f one.0 one.1 ∷ []
 
 -- What items say, each with its number, in order: the k-th is that of the k-th step.
 abbrev pub said_of : Item → Option (ℕ × Sequent)
@@ -61,7 +62,8 @@ abbrev pub sequents_at : List Item → List ℕ → List Sequent
 sequents_at before ks = map (λ k. (premise_at before k).1) ks
 
 abbrev pub shown_content : List Item → Step → Content
-shown_content before x = content_by (has_row x.kind) x.kind (map (λ k. (premise_at before k).0) x.premises) (sequents_at before x.premises) x.parameters x.sequent
+shown_content before x = content_by (has_row x.kind) x.kind (map (λ k. (premise_at before k).0) x.premises) (sequents_at before x.premises) x.parameters
+    x.sequent
 
 abbrev pub step_content : List Item → Step → Content
 step_content before x = shown_content before (needed (sequents_at before x.premises) x)

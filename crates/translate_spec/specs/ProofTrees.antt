@@ -86,7 +86,8 @@ module _ (symbols : SymbolMap) (scope : Scope) where
 
   -- the constants stand for the variables, and their defining equations are proved by reflexivity
   abbrev pub constants_scope : TermPairs → Scope
-  constants_scope terms = let scope_of_images = images symbols [] terms scope in record { types = scope_of_images.types; terms = scope_of_images.terms; proofs = self_proof; bounds = scope_of_images.bounds }
+  constants_scope terms = let scope_of_images = images symbols [] terms scope in record
+      { types = scope_of_images.types; terms = scope_of_images.terms; proofs = self_proof; bounds = scope_of_images.bounds }
 
   -- a symbol of parts at the type c, the predicate and the term of a premise |- f t, and the premise
   abbrev pub part_arguments_of : HolType → Premise → List Tree
@@ -109,12 +110,14 @@ first_law_tree symbols scope names c one =
 
 abbrev pub second_law_tree : SymbolMap → Scope → TypeNames → HolType → Premise → Tree
 second_law_tree symbols scope names c one =
-    law_tree symbols scope c bool (equation c (represented names c (abstracted names c (bound 0))) (bound 0)) (app (predicate one.1.conclusion) (bound 0)) sub_rep_abs_symbol c one
+    law_tree symbols scope c bool (equation c (represented names c (abstracted names c (bound 0))) (bound 0)) (app (predicate one.1.conclusion) (bound 0))
+    sub_rep_abs_symbol c one
 
 -- in version 5: abs (rep a) = a, and f r = (rep (abs r) = r). The premise stands where nothing is put for its free variables, as in what the symbols
 -- of the definition stand for
 abbrev pub first_law_free_tree : SymbolMap → Scope → TypeNames → HolType → Premise → Tree
-first_law_free_tree symbols scope names c one = App (part_tree symbols (filled symbols scope.types) sub_abs_rep_symbol c one) (term_tree symbols scope (new_variable names))
+first_law_free_tree symbols scope names c one = App (part_tree symbols (filled symbols scope.types) sub_abs_rep_symbol c one)
+    (term_tree symbols scope (new_variable names))
 
 abbrev pub second_law_free_tree : SymbolMap → Scope → TypeNames → HolType → Premise → Tree
 second_law_free_tree symbols scope names c one =

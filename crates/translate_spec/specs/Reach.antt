@@ -44,7 +44,8 @@ sequent_keys s = flat_map term_keys s.hypotheses ++ term_keys s.conclusion
 -- what a step defines, or the type definition whose law it is
 abbrev pub given_keys : Parameters → List Key
 given_keys (Parameters.constant n t) = constant_key n ∷ []
-given_keys (Parameters.type_operator names version) = operator_key names.operator (length names.variables) ∷ constant_key names.abstraction ∷ constant_key names.representation ∷ []
+given_keys (Parameters.type_operator names version) =
+    operator_key names.operator (length names.variables) ∷ constant_key names.abstraction ∷ constant_key names.representation ∷ []
 given_keys (Parameters.constants pairs) = flat_map (λ p. term_keys p.1) (constants_put pairs)
 given_keys given = []
 

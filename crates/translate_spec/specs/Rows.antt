@@ -65,7 +65,8 @@ abbrev pub type_or : Term → HolType
 type_or t = unwrap_or (type_of t) bool
 
 abbrev abs_row : SymbolMap → Scope → Parameters → Premise → Tree
-abs_row symbols scope (Parameters.variable v) one = fun_ext_tree symbols scope v (equated_type one.1.conclusion) (left_side one.1.conclusion) (right_side one.1.conclusion) one
+abs_row symbols scope (Parameters.variable v) one =
+    fun_ext_tree symbols scope v (equated_type one.1.conclusion) (left_side one.1.conclusion) (right_side one.1.conclusion) one
 abs_row symbols scope given one = tree.Sym 0
 
 abbrev subst_row : SymbolMap → Scope → Parameters → Premise → Tree
@@ -94,20 +95,24 @@ second_law_row symbols scope given one = tree.Sym 0
 abbrev app_row : SymbolMap → Scope → Premise → Premise → Tree
 app_row symbols scope one two =
     let f = equated_type one.1.conclusion in
-    app_thm_tree symbols scope (argument_type f) (result_type f) (left_side one.1.conclusion) (right_side one.1.conclusion) (left_side two.1.conclusion) (right_side two.1.conclusion) one two
+    app_thm_tree symbols scope (argument_type f) (result_type f) (left_side one.1.conclusion) (right_side one.1.conclusion) (left_side two.1.conclusion)
+    (right_side two.1.conclusion) one two
 
 -- the proof of a step, by its rule; an assumption has none
 abbrev pub proof_tree : SymbolMap → Scope → StepKind → List ℕ → List Sequent → Parameters → Tree
 proof_tree symbols scope Refl js ss given = of_term (λ t. refl_tree symbols scope (type_or t) t) given
 proof_tree symbols scope Assume js ss given = of_term scope.proofs given
-proof_tree symbols scope EqMp js ss given = of_two (λ one two. eq_mp_tree symbols scope (left_side one.1.conclusion) (right_side one.1.conclusion) one two) js ss
+proof_tree symbols scope EqMp js ss given = of_two (λ one two. eq_mp_tree symbols scope (left_side one.1.conclusion) (right_side one.1.conclusion) one two) js
+    ss
 proof_tree symbols scope AbsThm js ss given = of_one (abs_row symbols scope given) js ss
 proof_tree symbols scope AppThm js ss given = of_two (app_row symbols scope) js ss
 proof_tree symbols scope DeductAntisym js ss given = of_two (λ one two. prop_ext_tree symbols scope one.1.conclusion two.1.conclusion one two) js ss
 proof_tree symbols scope BetaConv js ss given = of_term (λ t. refl_tree symbols scope (type_or t) (contracted t)) given
-proof_tree symbols scope Sym js ss given = of_one (λ one. sym_tree symbols scope (equated_type one.1.conclusion) (left_side one.1.conclusion) (right_side one.1.conclusion) one) js ss
+proof_tree symbols scope Sym js ss given = of_one
+    (λ one. sym_tree symbols scope (equated_type one.1.conclusion) (left_side one.1.conclusion) (right_side one.1.conclusion) one) js ss
 proof_tree symbols scope Trans js ss given =
-    of_two (λ one two. trans_tree symbols scope (equated_type one.1.conclusion) (left_side one.1.conclusion) (right_side one.1.conclusion) (right_side two.1.conclusion) one two) js ss
+    of_two (λ one two. trans_tree symbols scope (equated_type one.1.conclusion) (left_side one.1.conclusion) (right_side one.1.conclusion)
+    (right_side two.1.conclusion) one two) js ss
 proof_tree symbols scope ProveHyp js ss given = of_two (λ one two. prove_hyp_tree symbols scope one.1.conclusion one two) js ss
 proof_tree symbols scope Subst js ss given = of_one (subst_row symbols scope given) js ss
 proof_tree symbols scope Restate js ss given = of_one (premise_tree scope) js ss

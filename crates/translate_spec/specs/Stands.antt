@@ -91,7 +91,8 @@ pub record DefinesConstant (m : List Declaration) (run : Accepted) (d : Declarat
 
 -- the arguments of a symbol of parts, under these type variables: the type and the predicate of a type definition of a run, a term, and a proof by
 -- a theorem |- f t from which the definition can be made
-pub record IsPartOf (m : List Declaration) (run : Accepted) (names : TypeNames) (c : HolType) (f : Term) (variables : List Name) (arguments : List Tree) : Type 0 where
+pub record IsPartOf (m : List Declaration) (run : Accepted) (names : TypeNames) (c : HolType) (f : Term) (variables : List Name) (arguments : List Tree) : Type
+    0 where
   pub among : IsAmong (symbols_of run.made) (Symbol.defined (Definition.type_operator names c f))
   pub one : Sequent
   pub defines : IsTypeDefinition names c f one
@@ -109,19 +110,23 @@ pub record IsPartOf (m : List Declaration) (run : Accepted) (names : TypeNames) 
 
 -- a definition by a symbol of parts, under so many type variables
 abbrev pub part_definition : List ℕ → Tree → ℕ → ℕ → List Tree → Declaration
-part_definition name A variables s arguments = record { name = name; form = Def; ty = A; body = Some (abstractions (replicate variables types) (applied (Sym s) arguments)) }
+part_definition name A variables s arguments = record
+    { name = name; form = Def; ty = A; body = Some (abstractions (replicate variables types) (applied (Sym s) arguments)) }
 
 -- a declaration defines what its run defined: a constant by its term, or the operator or a constant of a type definition by a part of its type
 pub data IsDefined (m : List Declaration) (run : Accepted) : Declaration → Type 0 where
   constant : {d : Declaration} → DefinesConstant m run d → IsDefined m run d
   type_operator : (names : TypeNames) (c : HolType) (f : Term) (arguments : List Tree) → IsPartOf m run names c f names.variables arguments
-      → IsDefined m run (part_definition (operator_name names.operator) (products (replicate (length names.variables) types) types) (length names.variables) sub_symbol arguments)
+      → IsDefined m run
+      (part_definition (operator_name names.operator) (products (replicate (length names.variables) types) types) (length names.variables) sub_symbol
+      arguments)
   abstraction : (names : TypeNames) (c : HolType) (f : Term) (A : Tree) (arguments : List Tree) → IsConstantType m (abstraction_type names c) A
       → IsPartOf m run names c f (type_variables (abstraction_type names c)) arguments
       → IsDefined m run (part_definition (constant_name names.abstraction) A (length (type_variables (abstraction_type names c))) sub_abs_symbol arguments)
   representation : (names : TypeNames) (c : HolType) (f : Term) (A : Tree) (arguments : List Tree) → IsConstantType m (representation_type names c) A
       → IsPartOf m run names c f (type_variables (representation_type names c)) arguments
-      → IsDefined m run (part_definition (constant_name names.representation) A (length (type_variables (representation_type names c))) sub_rep_symbol arguments)
+      → IsDefined m run
+      (part_definition (constant_name names.representation) A (length (type_variables (representation_type names c))) sub_rep_symbol arguments)
 
 -- the declarations are E and the places from k on, each the theorem of the export at its place
 pub data AreExports (m : List Declaration) (run : Accepted) : ℕ → List ℕ → List Declaration → Type 0 where

@@ -45,27 +45,32 @@ pairwise-length P (x ∷ xs) [] h = absurd h
 pairwise-length P (x ∷ xs) (y ∷ ys) h = ap suc (pairwise-length P xs ys h.1)
 
 -- a product over one more part
-pub product_made : (t0 t1 t2 : List Tree) (part product made : LpId) (x : Tree) (head : ℕ) → Keeps t0 t1 → product.0 < length t0 → Holds t1 part.0 x → Holds t2 made.0 (Pi (App (Sym head) (tree_at t1 part.0)) (tree_at t1 product.0))
+pub product_made : (t0 t1 t2 : List Tree) (part product made : LpId) (x : Tree) (head : ℕ) → Keeps t0 t1 → product.0 < length t0 → Holds t1 part.0 x
+    → Holds t2 made.0 (Pi (App (Sym head) (tree_at t1 part.0)) (tree_at t1 product.0))
     → tree_at t2 made.0 ≡ Pi (App (Sym head) x) (tree_at t0 product.0)
 product_made t0 t1 t2 part product made x head k known h p =
     Holds-tree_at t2 made.0 _ p ∙ ap₂ (λ a b. Pi (App (Sym head) a) b) (Holds-tree_at t1 part.0 x h) (sym (tree_at-Stays k.stays product.0 known))
 
 module _ (given : Numbered) where
   domains-last : (depth : ℕ) (hs : List Term) (h : Term) (t : Tree)
-      → products (hypothesis_domains given depth (hs ++ h ∷ [])) t ≡ products (hypothesis_domains given depth hs) (Pi (proof_of (term_tree given.symbols (scope_under given (depth + length hs)) h)) t)
+      → products (hypothesis_domains given depth (hs ++ h ∷ [])) t
+      ≡ products (hypothesis_domains given depth hs) (Pi (proof_of (term_tree given.symbols (scope_under given (depth + length hs)) h)) t)
   domains-last depth [] h t = let e : depth ≡ depth + 0 = omega arith in ap (λ d. Pi (proof_of (term_tree given.symbols (scope_under given d) h)) t) e
   domains-last depth (x ∷ xs) h t =
       let e : suc depth + length xs ≡ depth + suc (length xs) = omega arith in
       ap (Pi (proof_of (term_tree given.symbols (scope_under given depth) x)))
-      (domains-last (suc depth) xs h t ∙ ap (λ d. products (hypothesis_domains given (suc depth) xs) (Pi (proof_of (term_tree given.symbols (scope_under given d) h)) t)) e)
+      (domains-last (suc depth) xs h t ∙ ap
+      (λ d. products (hypothesis_domains given (suc depth) xs) (Pi (proof_of (term_tree given.symbols (scope_under given d) h)) t)) e)
 
   variables-last : (depth : ℕ) (ts : List HolType) (a : HolType) (t : Tree)
-      → products (variable_domains given depth (ts ++ a ∷ [])) t ≡ products (variable_domains given depth ts) (Pi (term_of (type_tree given.symbols (types_under given (depth + length ts)) a)) t)
+      → products (variable_domains given depth (ts ++ a ∷ [])) t
+      ≡ products (variable_domains given depth ts) (Pi (term_of (type_tree given.symbols (types_under given (depth + length ts)) a)) t)
   variables-last depth [] a t = let e : depth ≡ depth + 0 = omega arith in ap (λ d. Pi (term_of (type_tree given.symbols (types_under given d) a)) t) e
   variables-last depth (x ∷ xs) a t =
       let e : suc depth + length xs ≡ depth + suc (length xs) = omega arith in
       ap (Pi (term_of (type_tree given.symbols (types_under given depth) x)))
-      (variables-last (suc depth) xs a t ∙ ap (λ d. products (variable_domains given (suc depth) xs) (Pi (term_of (type_tree given.symbols (types_under given d) a)) t)) e)
+      (variables-last (suc depth) xs a t ∙ ap
+      (λ d. products (variable_domains given (suc depth) xs) (Pi (term_of (type_tree given.symbols (types_under given d) a)) t)) e)
 
   -- Hypotheses: those that are left give, over what was made, the whole product.
   pub record HypothesesLeft (outside : ℕ) (closed : List form.ClosedTerm) (product goal : Tree) : Type 0 where
@@ -81,11 +86,14 @@ module _ (given : Numbered) where
     pub are : Pairwise (IsTermOf given) (map closed_term_view front) left
     pub is : products (hypothesis_domains given outside left) (Pi (proof_of (term_tree given.symbols (scope_under given depth) term)) product) ≡ goal
 
-  pub hypothesis_next : (outside : ℕ) (rest front : List ClosedTerm) (x : ClosedTerm) (depth : ℕ) (product goal : Tree) → front ++ x ∷ [] ≡ rest → depth ≡ outside + length front → HypothesesLeft outside (map closed_term_view rest) product goal
+  pub hypothesis_next : (outside : ℕ) (rest front : List ClosedTerm) (x : ClosedTerm) (depth : ℕ) (product goal : Tree) → front ++ x ∷ [] ≡ rest → depth
+      ≡ outside + length front → HypothesesLeft outside (map closed_term_view rest) product goal
       → HypothesisNext outside front x depth product goal
   hypothesis_next outside rest front x depth product goal e d h =
-      let split : map closed_term_view rest ≡ map closed_term_view front ++ closed_term_view x ∷ [] = ap (map closed_term_view) (sym e) ∙ map_push closed_term_view front x in
-      let ends = pairwise-last (IsTermOf given) (map closed_term_view front) (closed_term_view x) h.left (subst (λ l. Pairwise (IsTermOf given) l h.left) split h.are) in
+      let split : map closed_term_view rest ≡ map closed_term_view front ++ closed_term_view x ∷ [] =
+      ap (map closed_term_view) (sym e) ∙ map_push closed_term_view front x in
+      let ends = pairwise-last (IsTermOf given) (map closed_term_view front) (closed_term_view x) h.left
+      (subst (λ l. Pairwise (IsTermOf given) l h.left) split h.are) in
       let count = pairwise-length (IsTermOf given) (map closed_term_view front) ends.others ends.all in
       let same = length_map closed_term_view front in
       let at : outside + length ends.others ≡ depth = omega (arith, d, count, same) in
@@ -94,23 +102,29 @@ module _ (given : Numbered) where
         of = ends.of;
         left = ends.others;
         are = ends.all;
-        is = ap (λ k. products (hypothesis_domains given outside ends.others) (Pi (proof_of (term_tree given.symbols (scope_under given k) ends.last)) product)) (sym at)
+        is = ap (λ k. products (hypothesis_domains given outside ends.others) (Pi (proof_of (term_tree given.symbols (scope_under given k) ends.last)) product))
+            (sym at)
             ∙ sym (domains-last outside ends.others ends.last product)
             ∙ ap (λ l. products (hypothesis_domains given outside l) product) (sym ends.is)
             ∙ h.is;
       }
 
-  pub term_start : (m : Module) (k : ℕ) (x : ClosedTerm) (depth : ℕ) (t : Term) → IsNumbered given m k → IsInside given depth → IsTermOf given (closed_term_view x) t → IsTermToMake given t m k (closed_term_view x) depth
+  pub term_start : (m : Module) (k : ℕ) (x : ClosedTerm) (depth : ℕ) (t : Term) → IsNumbered given m k → IsInside given depth
+      → IsTermOf given (closed_term_view x) t → IsTermToMake given t m k (closed_term_view x) depth
   term_start m k x depth t numbered within of = record { numbered = numbered; of = of; inside = within }
 
-  pub type_start : (m : Module) (k : ℕ) (x : ClosedType) (t : HolType) → IsNumbered given m k → IsTypeOf given (closed_type_view x) t → IsTypeToMake given t m (closed_type_view x)
+  pub type_start : (m : Module) (k : ℕ) (x : ClosedType) (t : HolType) → IsNumbered given m k → IsTypeOf given (closed_type_view x) t
+      → IsTypeToMake given t m (closed_type_view x)
   type_start m k x t numbered of = record { numbered = IsNumbered-names numbered; of = of }
 
-  pub hypotheses_goes_on : (outside : ℕ) (front : List ClosedTerm) (x : ClosedTerm) (depth : ℕ) (product goal made : Tree) → (n : HypothesisNext outside front x depth product goal) → made ≡ Pi (proof_of (term_tree given.symbols (scope_under given depth) n.term)) product
+  pub hypotheses_goes_on : (outside : ℕ) (front : List ClosedTerm) (x : ClosedTerm) (depth : ℕ) (product goal made : Tree)
+      → (n : HypothesisNext outside front x depth product goal) → made ≡ Pi (proof_of (term_tree given.symbols (scope_under given depth) n.term)) product
       → HypothesesLeft outside (map closed_term_view front) made goal
-  hypotheses_goes_on outside front x depth product goal made n e = record { left = n.left; are = n.are; is = ap (products (hypothesis_domains given outside n.left)) e ∙ n.is }
+  hypotheses_goes_on outside front x depth product goal made n e =
+      record { left = n.left; are = n.are; is = ap (products (hypothesis_domains given outside n.left)) e ∙ n.is }
 
-  pub hypotheses_end : (outside : ℕ) (rest : List ClosedTerm) (product goal : Tree) → rest ≡ [] → HypothesesLeft outside (map closed_term_view rest) product goal → product ≡ goal
+  pub hypotheses_end : (outside : ℕ) (rest : List ClosedTerm) (product goal : Tree) → rest ≡ []
+      → HypothesesLeft outside (map closed_term_view rest) product goal → product ≡ goal
   hypotheses_end outside rest product goal e h = go h.left (subst (λ l. Pairwise (IsTermOf given) (map closed_term_view l) h.left) e h.are) h.is
     where
       go : (left : List Term) → Pairwise (IsTermOf given) [] left → products (hypothesis_domains given outside left) product ≡ goal → product ≡ goal
@@ -130,11 +144,14 @@ module _ (given : Numbered) where
     pub are : Pairwise (IsTypeOf given) (map closed_type_view front) left
     pub is : products (variable_domains given outside left) (Pi (term_of (type_tree given.symbols (types_under given depth) ty)) product) ≡ goal
 
-  pub variable_next : (outside : ℕ) (rest front : List ClosedType) (x : ClosedType) (depth : ℕ) (product goal : Tree) → front ++ x ∷ [] ≡ rest → depth ≡ outside + length front → VariablesLeft outside (map closed_type_view rest) product goal
+  pub variable_next : (outside : ℕ) (rest front : List ClosedType) (x : ClosedType) (depth : ℕ) (product goal : Tree) → front ++ x ∷ [] ≡ rest → depth
+      ≡ outside + length front → VariablesLeft outside (map closed_type_view rest) product goal
       → VariableNext outside front x depth product goal
   variable_next outside rest front x depth product goal e d h =
-      let split : map closed_type_view rest ≡ map closed_type_view front ++ closed_type_view x ∷ [] = ap (map closed_type_view) (sym e) ∙ map_push closed_type_view front x in
-      let ends = pairwise-last (IsTypeOf given) (map closed_type_view front) (closed_type_view x) h.left (subst (λ l. Pairwise (IsTypeOf given) l h.left) split h.are) in
+      let split : map closed_type_view rest ≡ map closed_type_view front ++ closed_type_view x ∷ [] =
+      ap (map closed_type_view) (sym e) ∙ map_push closed_type_view front x in
+      let ends = pairwise-last (IsTypeOf given) (map closed_type_view front) (closed_type_view x) h.left
+      (subst (λ l. Pairwise (IsTypeOf given) l h.left) split h.are) in
       let count = pairwise-length (IsTypeOf given) (map closed_type_view front) ends.others ends.all in
       let same = length_map closed_type_view front in
       let at : outside + length ends.others ≡ depth = omega (arith, d, count, same) in
@@ -143,17 +160,21 @@ module _ (given : Numbered) where
         of = ends.of;
         left = ends.others;
         are = ends.all;
-        is = ap (λ k. products (variable_domains given outside ends.others) (Pi (term_of (type_tree given.symbols (types_under given k) ends.last)) product)) (sym at)
+        is = ap (λ k. products (variable_domains given outside ends.others) (Pi (term_of (type_tree given.symbols (types_under given k) ends.last)) product))
+            (sym at)
             ∙ sym (variables-last outside ends.others ends.last product)
             ∙ ap (λ l. products (variable_domains given outside l) product) (sym ends.is)
             ∙ h.is;
       }
 
-  pub variables_goes_on : (outside : ℕ) (front : List ClosedType) (x : ClosedType) (depth : ℕ) (product goal made : Tree) → (n : VariableNext outside front x depth product goal) → made ≡ Pi (term_of (type_tree given.symbols (types_under given depth) n.ty)) product
+  pub variables_goes_on : (outside : ℕ) (front : List ClosedType) (x : ClosedType) (depth : ℕ) (product goal made : Tree)
+      → (n : VariableNext outside front x depth product goal) → made ≡ Pi (term_of (type_tree given.symbols (types_under given depth) n.ty)) product
       → VariablesLeft outside (map closed_type_view front) made goal
-  variables_goes_on outside front x depth product goal made n e = record { left = n.left; are = n.are; is = ap (products (variable_domains given outside n.left)) e ∙ n.is }
+  variables_goes_on outside front x depth product goal made n e =
+      record { left = n.left; are = n.are; is = ap (products (variable_domains given outside n.left)) e ∙ n.is }
 
-  pub variables_end : (outside : ℕ) (rest : List ClosedType) (product goal : Tree) → rest ≡ [] → VariablesLeft outside (map closed_type_view rest) product goal → product ≡ goal
+  pub variables_end : (outside : ℕ) (rest : List ClosedType) (product goal : Tree) → rest ≡ [] → VariablesLeft outside (map closed_type_view rest) product goal
+      → product ≡ goal
   variables_end outside rest product goal e h = go h.left (subst (λ l. Pairwise (IsTypeOf given) (map closed_type_view l) h.left) e h.are) h.is
     where
       go : (left : List HolType) → Pairwise (IsTypeOf given) [] left → products (variable_domains given outside left) product ≡ goal → product ≡ goal
@@ -165,10 +186,12 @@ pub types-last : (k : ℕ) (t : Tree) → products (replicate k types) (Pi types
 types-last zero t = refl
 types-last (suc k) t = ap (Pi types) (types-last k t)
 
-pub types_step : (t0 t1 t2 : List Tree) (domain product made : LpId) (left after : ℕ) (goal : Tree) → Keeps t0 t1 → product.0 < length t0 → Holds t1 domain.0 types → Holds t2 made.0 (Pi (tree_at t1 domain.0) (tree_at t1 product.0)) → left ≡ suc after
+pub types_step : (t0 t1 t2 : List Tree) (domain product made : LpId) (left after : ℕ) (goal : Tree) → Keeps t0 t1 → product.0 < length t0
+    → Holds t1 domain.0 types → Holds t2 made.0 (Pi (tree_at t1 domain.0) (tree_at t1 product.0)) → left ≡ suc after
     → products (replicate left types) (tree_at t0 product.0) ≡ goal → products (replicate after types) (tree_at t2 made.0) ≡ goal
 types_step t0 t1 t2 domain product made left after goal j known d p e is =
-    ap (products (replicate after types)) (Holds-tree_at t2 made.0 _ p ∙ ap₂ Pi (Holds-tree_at t1 domain.0 types d) (sym (tree_at-Stays j.stays product.0 known)))
+    ap (products (replicate after types)) (Holds-tree_at t2 made.0 _ p
+    ∙ ap₂ Pi (Holds-tree_at t1 domain.0 types d) (sym (tree_at-Stays j.stays product.0 known)))
     ∙ types-last after (tree_at t0 product.0)
     ∙ ap (λ k. products (replicate k types) (tree_at t0 product.0)) (sym e)
     ∙ is

@@ -20,7 +20,8 @@ use Rattle.translate_term.proofs.ParameterScopes.{sequent_tree-under, hypotheses
 use Rattle.translate_term.proofs.ClosedTurns.{IsNumbered-Grows}
 use Rattle.translate_term.proofs.ClosedParts.{pairwise-length, term_start}
 
-module _ (symbols : SymbolMap) (s : Sequent) (m : Module) (closed : Closed) (told : TellsClosed (declarations_of m) symbols s (closed_view closed)) (held : IsHeld m) where
+module _ (symbols : SymbolMap) (s : Sequent) (m : Module) (closed : Closed) (told : TellsClosed (declarations_of m) symbols s (closed_view closed))
+    (held : IsHeld m) where
   abbrev given : Numbered
   given = numbered_of (declarations_of m) symbols s
 
@@ -30,12 +31,14 @@ module _ (symbols : SymbolMap) (s : Sequent) (m : Module) (closed : Closed) (tol
   variables-count : length (free_variables_of s) ≡ length closed.free_vars.items
   variables-count =
       sym (length_map (λ (v : Variable). v.1) (free_variables_of s))
-      ∙ pairwise-length (IsTypeOf given) (map closed_type_view closed.free_vars.items) (map (λ (v : Variable). v.1) (free_variables_of s)) (variables-are (declarations_of m) symbols s (closed_view closed) told)
+      ∙ pairwise-length (IsTypeOf given) (map closed_type_view closed.free_vars.items) (map (λ (v : Variable). v.1) (free_variables_of s))
+      (variables-are (declarations_of m) symbols s (closed_view closed) told)
       ∙ length_map closed_type_view closed.free_vars.items
 
   hypotheses-count : length s.hypotheses ≡ length closed.hyps.items
   hypotheses-count =
-      pairwise-length (IsTermOf given) (map closed_term_view closed.hyps.items) s.hypotheses (hypotheses-are (declarations_of m) symbols s (closed_view closed) told)
+      pairwise-length (IsTermOf given) (map closed_term_view closed.hyps.items) s.hypotheses
+      (hypotheses-are (declarations_of m) symbols s (closed_view closed) told)
       ∙ length_map closed_term_view closed.hyps.items
 
   -- as many binders as there are type variables and free variables
@@ -48,7 +51,8 @@ module _ (symbols : SymbolMap) (s : Sequent) (m : Module) (closed : Closed) (tol
       term_start given m closed.type_vars x proofs s.conclusion numbered (within proofs (omega (arith, p)))
       (subst (λ c. IsTermOf given (closed_term_view c) s.conclusion) (sym e) (conclusion-is (declarations_of m) symbols s (closed_view closed) told))
 
-  pub hypotheses_start : (now : Module) (terms : ℕ) (inside : LpId) → Grows m now → terms ≡ closed.type_vars + length closed.free_vars.items → inside.0 < length now.table
+  pub hypotheses_start : (now : Module) (terms : ℕ) (inside : LpId) → Grows m now → terms ≡ closed.type_vars + length closed.free_vars.items
+      → inside.0 < length now.table
       → AreHypotheses given s.hypotheses now closed.type_vars terms (map closed_term_view closed.hyps.items) inside
   hypotheses_start now terms inside g e k = record {
     numbered = IsNumbered-Grows g given closed.type_vars numbered;
@@ -59,10 +63,13 @@ module _ (symbols : SymbolMap) (s : Sequent) (m : Module) (closed : Closed) (tol
 
   pub variables_start : (now : Module) (inside : LpId) → Grows m now → inside.0 < length now.table
       → AreVariables given (map (λ (v : Variable). v.1) (free_variables_of s)) now closed.type_vars (map closed_type_view closed.free_vars.items) inside
-  variables_start now inside g k = record { numbered = IsNumbered-Grows g given closed.type_vars numbered; are = variables-are (declarations_of m) symbols s (closed_view closed) told; known = k }
+  variables_start now inside g k = record
+      { numbered = IsNumbered-Grows g given closed.type_vars numbered; are = variables-are (declarations_of m) symbols s (closed_view closed) told; known = k }
 
-  pub statement_is : (terms proofs : ℕ) (c p h : Tree) → terms ≡ closed.type_vars + length closed.free_vars.items → proofs ≡ closed.type_vars + length closed.free_vars.items + length closed.hyps.items
-      → c ≡ term_tree symbols (scope_under given proofs) s.conclusion → p ≡ proof_of c → h ≡ products (hypothesis_domains given terms s.hypotheses) p → h ≡ statement_under given s
+  pub statement_is : (terms proofs : ℕ) (c p h : Tree) → terms ≡ closed.type_vars + length closed.free_vars.items → proofs
+      ≡ closed.type_vars + length closed.free_vars.items + length closed.hyps.items
+      → c ≡ term_tree symbols (scope_under given proofs) s.conclusion → p ≡ proof_of c → h ≡ products (hypothesis_domains given terms s.hypotheses) p → h
+      ≡ statement_under given s
   statement_is terms proofs c p h t f ec ep eh =
       let n = length (type_variables_of s) in
       let count : closed.type_vars ≡ n = sym numbered.count in
@@ -74,7 +81,8 @@ module _ (symbols : SymbolMap) (s : Sequent) (m : Module) (closed : Closed) (tol
       ∙ ap (products (hypothesis_domains given terms s.hypotheses)) (ep ∙ ap proof_of ec)
       ∙ (λ i. products (hypothesis_domains given (under i) s.hypotheses) (proof_of (term_tree symbols (scope_under given (over i)) s.conclusion)))
 
-  pub product_is : (h v : Tree) → h ≡ statement_under given s → v ≡ products (variable_domains given closed.type_vars (map (λ (v : Variable). v.1) (free_variables_of s))) h
+  pub product_is : (h v : Tree) → h ≡ statement_under given s → v
+      ≡ products (variable_domains given closed.type_vars (map (λ (v : Variable). v.1) (free_variables_of s))) h
       → products (replicate closed.type_vars types) v ≡ sequent_tree symbols s
   product_is h v eh ev =
       let variables = map (λ (v : Variable). v.1) (free_variables_of s) in

@@ -52,13 +52,15 @@ module _ {K : Type 0} where
     pub Ends-done : (tasks : List (Task K)) (P : K → Type 0) (key : K) → P key → Ends Known HasParts root tasks (OrIs P key) → Ends Known HasParts root tasks P
     Ends-done tasks P key p h = Ends-more tasks (OrIs P key) P (λ x. ⊎_elim (λ a. a) (λ e. subst P (sym e) p)) h
 
-    Ends-visits : (keys : List K) (tasks : List (Task K)) (P : K → Type 0) → AreAll Known keys → Ends Known HasParts root tasks (After P keys) → Ends Known HasParts root (visits keys tasks) P
+    Ends-visits : (keys : List K) (tasks : List (Task K)) (P : K → Type 0) → AreAll Known keys → Ends Known HasParts root tasks (After P keys)
+        → Ends Known HasParts root (visits keys tasks) P
     unfolding After
     Ends-visits [] tasks P k h = h
     Ends-visits (key ∷ keys) tasks P k h = (k.0, Ends-visits keys tasks (OrIs P key) k.1 h)
 
     -- a visit can be replaced by those of the parts and a task to come back
-    pub Ends-set_out : (key : K) (parts : List K) (tasks : List (Task K)) (P : K → Type 0) → AreAll Known parts → HasParts key parts → Ends Known HasParts root (Visit key ∷ tasks) P → Ends Known HasParts root (visits parts (Join key ∷ tasks)) P
+    pub Ends-set_out : (key : K) (parts : List K) (tasks : List (Task K)) (P : K → Type 0) → AreAll Known parts → HasParts key parts
+        → Ends Known HasParts root (Visit key ∷ tasks) P → Ends Known HasParts root (visits parts (Join key ∷ tasks)) P
     Ends-set_out key parts tasks P known of h =
         Ends-visits parts (Join key ∷ tasks) P known (
           h.0,
@@ -67,7 +69,8 @@ module _ {K : Type 0} where
         )
 
     -- a key that is noted is done, and no other becomes undone
-    pub Ends-noted : {V : Type 0} (tasks : List (Task K)) (made noted : List (K × V)) (key : K) (mark : V) → IsNoted noted key mark → ((i : K) (r : V) → IsNoted made i r → (i ≡ key) ⊎ IsNoted noted i r)
+    pub Ends-noted : {V : Type 0} (tasks : List (Task K)) (made noted : List (K × V)) (key : K) (mark : V) → IsNoted noted key mark
+        → ((i : K) (r : V) → IsNoted made i r → (i ≡ key) ⊎ IsNoted noted i r)
         → Ends Known HasParts root tasks (OrIs (IsDone made) key) → Ends Known HasParts root tasks (IsDone noted)
     Ends-noted tasks made noted key mark new kept h = Ends-more tasks (OrIs (IsDone made) key) (IsDone noted) more h
       where
@@ -78,9 +81,11 @@ module _ {K : Type 0} where
         more x h = ⊎_elim (λ d. ⊎_elim (λ e. this x e) (λ n. (d.0, n)) (kept x d.0 d.1)) (λ e. this x e) h
 
   -- what was noted is sound with another note
-  pub noted-sound : {V : Type 0} (S : K → V → Type 0) (made noted : List (K × V)) (key : K) (mark : V) → ((i : K) (r : V) → IsNoted noted i r → IsNoted made i r ⊎ ((i ≡ key) × (r ≡ mark))) → S key mark
+  pub noted-sound : {V : Type 0} (S : K → V → Type 0) (made noted : List (K × V)) (key : K) (mark : V)
+      → ((i : K) (r : V) → IsNoted noted i r → IsNoted made i r ⊎ ((i ≡ key) × (r ≡ mark))) → S key mark
       → ((i : K) (r : V) → IsNoted made i r → S i r) → (i : K) (r : V) → IsNoted noted i r → S i r
-  noted-sound S made noted key mark only is old i r n = ⊎_elim (λ a. old i r a) (λ b. subst (λ j. S j r) (sym b.0) (subst (λ m. S key m) (sym b.1) is)) (only i r n)
+  noted-sound S made noted key mark only is old i r n =
+      ⊎_elim (λ a. old i r a) (λ b. subst (λ j. S j r) (sym b.0) (subst (λ m. S key m) (sym b.1) is)) (only i r n)
 
   -- the size of some keys
   abbrev pub sum_of : (K → ℕ) → List K → ℕ
@@ -92,7 +97,8 @@ module _ {K : Type 0} where
   work-visits size (key ∷ keys) tasks = omega (arith, work-visits size keys tasks)
 
   -- the parts and the way back are less work than the whole
-  pub set_out-less : (size : K → ℕ) (key : K) (keys : List K) (tasks : List (Task K)) → sum_of size keys < size key → work size (visits keys (Join key ∷ tasks)) < work size (Visit key ∷ tasks)
+  pub set_out-less : (size : K → ℕ) (key : K) (keys : List K) (tasks : List (Task K)) → sum_of size keys < size key
+      → work size (visits keys (Join key ∷ tasks)) < work size (Visit key ∷ tasks)
   set_out-less size key keys tasks h = omega (arith, h, work-visits size keys (Join key ∷ tasks))
 
   -- any visit is some work

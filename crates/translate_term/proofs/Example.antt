@@ -40,7 +40,8 @@ tells : TellsTerm module_of_u symbols_of_u term_of_u
 tells = (tells-u, (tells-bool, tells-bool))
 
 -- i_u (arr (arr bool bool) bool) (v1 : term bool => v0), under the binder of x
-tree : term_tree symbols_of_u (told symbols_of_u [] (((codes "x" ∷ [], bool), Var 0) ∷ [])) term_of_u ≡ App (App (Sym 18) (arr_of (arr_of bools bools) bools)) (Lam (term_of bools) (Var 1))
+tree : term_tree symbols_of_u (told symbols_of_u [] (((codes "x" ∷ [], bool), Var 0) ∷ [])) term_of_u
+    ≡ App (App (Sym 18) (arr_of (arr_of bools bools) bools)) (Lam (term_of bools) (Var 1))
 tree = refl
 
 -- |- u (\y. x)
@@ -55,5 +56,6 @@ tells-closed : TellsClosed module_of_u symbols_of_u sequent_of_u (closed_form se
 tells-closed = record { is_sequent = sequent-u; hypotheses = tt; conclusion = tells; closed = refl }
 
 -- v0 : term bool -> proof (i_u (arr (arr bool bool) bool) (v1 : term bool => v0))
-product : sequent_tree symbols_of_u sequent_of_u ≡ Pi (term_of bools) (proof_of (App (App (Sym 18) (arr_of (arr_of bools bools) bools)) (Lam (term_of bools) (Var 1))))
+product : sequent_tree symbols_of_u sequent_of_u ≡ Pi (term_of bools)
+    (proof_of (App (App (Sym 18) (arr_of (arr_of bools bools) bools)) (Lam (term_of bools) (Var 1))))
 product = refl

@@ -31,4 +31,5 @@ module _ (t0 t1 t2 t3 t4 t5 t6 : List Tree) (ty lifted variable equation domain 
     test-is = Holds-tree_at t5 test.0 _ h5 ∙ ap₂ Lam domain-is equation-is
 
     pub filling-made : (r : LpId) → Holds t6 r.0 (App (App (Sym select_symbol) (tree_at t5 ty.0)) (tree_at t5 test.0)) → Holds t6 r.0 (filler (tree_at t0 ty.0))
-    filling-made r h = h ∙ ap₂ (λ a x. Some (App (App (Sym select_symbol) a) x)) (sym (tree_at-Stays (Keeps-trans k1 (Keeps-trans k2 (Keeps-trans k3 (Keeps-trans k4 k5)))).stays ty.0 known)) test-is
+    filling-made r h = h ∙ ap₂ (λ a x. Some (App (App (Sym select_symbol) a) x))
+        (sym (tree_at-Stays (Keeps-trans k1 (Keeps-trans k2 (Keeps-trans k3 (Keeps-trans k4 k5)))).stays ty.0 known)) test-is

@@ -38,24 +38,34 @@ same-argument : (a b c d : Tree) → App a b ≡ App c d → b ≡ d
 unfolding argument_of
 same-argument a b c d e = ap argument_of e
 
-pub under_begins : (trees : List Tree) (id k : ℕ) (pattern : Tree) → tree_at trees id ≡ products (replicate k types) (term_of pattern) → IsUnder trees id 0 k pattern
+pub under_begins : (trees : List Tree) (id k : ℕ) (pattern : Tree) → tree_at trees id ≡ products (replicate k types) (term_of pattern)
+    → IsUnder trees id 0 k pattern
 under_begins trees id k pattern e = record { left = k; sum = omega arith; is = e }
 
 -- under one product more
-pub under_product : (trees : List Tree) (id count k : ℕ) (pattern : Tree) (a b : LpId) → Holds trees id (Pi (tree_at trees a.0) (tree_at trees b.0)) → IsUnder trees id count k pattern → IsUnder trees b.0 (count + 1) k pattern
+pub under_product : (trees : List Tree) (id count k : ℕ) (pattern : Tree) (a b : LpId) → Holds trees id (Pi (tree_at trees a.0) (tree_at trees b.0))
+    → IsUnder trees id count k pattern → IsUnder trees b.0 (count + 1) k pattern
 under_product trees id count k pattern a b h u = go u.left u.sum u.is
   where
     go : (left : ℕ) → k ≡ count + left → tree_at trees id ≡ products (replicate left types) (term_of pattern) → IsUnder trees b.0 (count + 1) k pattern
     go zero s e = absurd (let no : Pi (tree_at trees a.0) (tree_at trees b.0) ≡ term_of pattern = sym (Holds-tree_at trees id _ h) ∙ e in cc)
-    go (suc left) s e = record { left = left; sum = omega (arith, s); is = same-body (tree_at trees a.0) (tree_at trees b.0) types (products (replicate left types) (term_of pattern)) (sym (Holds-tree_at trees id _ h) ∙ e) }
+    go (suc left) s e = record {
+      left = left;
+      sum = omega (arith, s);
+      is = same-body (tree_at trees a.0) (tree_at trees b.0) types (products (replicate left types) (term_of pattern))
+          (sym (Holds-tree_at trees id _ h) ∙ e);
+    }
 
 -- at the end
-pub under_application : (trees : List Tree) (id count k : ℕ) (pattern : Tree) (f x : LpId) → Holds trees id (App (tree_at trees f.0) (tree_at trees x.0)) → IsUnder trees id count k pattern → (count ≡ k) × (tree_at trees x.0 ≡ pattern)
+pub under_application : (trees : List Tree) (id count k : ℕ) (pattern : Tree) (f x : LpId) → Holds trees id (App (tree_at trees f.0) (tree_at trees x.0))
+    → IsUnder trees id count k pattern → (count ≡ k) × (tree_at trees x.0 ≡ pattern)
 under_application trees id count k pattern f x h u = go u.left u.sum u.is
   where
     go : (left : ℕ) → k ≡ count + left → tree_at trees id ≡ products (replicate left types) (term_of pattern) → (count ≡ k) × (tree_at trees x.0 ≡ pattern)
     go zero s e = (omega (arith, s), same-argument (tree_at trees f.0) (tree_at trees x.0) (Sym 4) pattern (sym (Holds-tree_at trees id _ h) ∙ e))
-    go (suc left) s e = absurd (let no : App (tree_at trees f.0) (tree_at trees x.0) ≡ Pi types (products (replicate left types) (term_of pattern)) = sym (Holds-tree_at trees id _ h) ∙ e in cc)
+    go (suc left) s e = absurd
+        (let no : App (tree_at trees f.0) (tree_at trees x.0) ≡ Pi types (products (replicate left types) (term_of pattern)) =
+        sym (Holds-tree_at trees id _ h) ∙ e in cc)
 
 -- what is neither a product nor an application
 abbrev pub is_other : Tree → Bool
@@ -73,7 +83,8 @@ under_other trees id count k pattern t h o u = go u.left u.is
     go zero e = let no = other (term_of pattern) (sym (Holds-tree_at trees id t h) ∙ e) in cc
     go (suc left) e = let no = other (Pi types (products (replicate left types) (term_of pattern))) (sym (Holds-tree_at trees id t h) ∙ e) in cc
 
-module _ (m : List Declaration) (symbol : ℕ) (symbols : SymbolMap) (scope : TypeScope) (generic t : HolType) (trees : List Tree) (ty : LpId) (h : IsGeneric m symbol symbols scope generic t trees ty) (count : ℕ) (pattern : LpId)
+module _ (m : List Declaration) (symbol : ℕ) (symbols : SymbolMap) (scope : TypeScope) (generic t : HolType) (trees : List Tree) (ty : LpId)
+    (h : IsGeneric m symbol symbols scope generic t trees ty) (count : ℕ) (pattern : LpId)
     (is : (k : ℕ) (p : Tree) → symbol_type m symbol ≡ Some (products (replicate k types) (term_of p)) → (count ≡ k) × (tree_at trees pattern.0 ≡ p)) where
   abbrev pub wanted_in : ℕ → Tree
   wanted_in k = type_tree symbols scope (wants symbols generic t h.instance k)
@@ -81,7 +92,8 @@ module _ (m : List Declaration) (symbol : ℕ) (symbols : SymbolMap) (scope : Ty
   here : (count ≡ length (type_variables generic)) × (tree_at trees pattern.0 ≡ pattern_of symbols generic t h.instance)
   here =
       is (length (type_variables generic)) (pattern_of symbols generic t h.instance)
-      (h.declared ∙ ap (λ ds. Some (products ds (term_of (type_tree symbols (under_types (type_variables generic) unfilled) generic)))) (types-are (type_variables generic)))
+      (h.declared ∙ ap (λ ds. Some (products ds (term_of (type_tree symbols (under_types (type_variables generic) unfilled) generic))))
+      (types-are (type_variables generic)))
 
   pub pattern-fits : tree_at trees ty.0 ≡ sub wanted_in (tree_at trees pattern.0)
   pattern-fits = h.is ∙ pattern-becomes symbols generic t h.instance scope ∙ ap (sub wanted_in) (sym here.1)
@@ -104,7 +116,8 @@ module _ (m : List Declaration) (symbol : ℕ) (symbols : SymbolMap) (scope : Ty
   argument-sole e x h = ap (λ y. y ∷ []) h ∙ ap (λ k. map wanted_in (below k)) (sym e) ∙ arguments-are
 
 -- one argument more
-pub arguments_step : (trees : List Tree) (want : ℕ → Tree) (items : List LpId) (id : LpId) (left after : ℕ) (goal : List Tree) → tree_at trees id.0 ≡ want after → left ≡ suc after
+pub arguments_step : (trees : List Tree) (want : ℕ → Tree) (items : List LpId) (id : LpId) (left after : ℕ) (goal : List Tree) → tree_at trees id.0 ≡ want after
+    → left ≡ suc after
     → trees_at trees items ++ map want (below left) ≡ goal → trees_at trees (items ++ id ∷ []) ++ map want (below after) ≡ goal
 arguments_step trees want items id left after goal is e h =
     ap (λ l. l ++ map want (below after)) (trees_at-append trees items (id ∷ []))
@@ -113,7 +126,8 @@ arguments_step trees want items id left after goal is e h =
     ∙ ap (λ k. trees_at trees items ++ map want (below k)) (sym e)
     ∙ h
 
-pub arguments_end : (trees : List Tree) (want : ℕ → Tree) (items : List LpId) (left : ℕ) (goal : List Tree) → left ≡ 0 → trees_at trees items ++ map want (below left) ≡ goal → trees_at trees items ≡ goal
+pub arguments_end : (trees : List Tree) (want : ℕ → Tree) (items : List LpId) (left : ℕ) (goal : List Tree) → left ≡ 0 → trees_at trees items
+    ++ map want (below left) ≡ goal → trees_at trees items ≡ goal
 arguments_end trees want items left goal e h = sym (append-none (trees_at trees items)) ∙ ap (λ k. trees_at trees items ++ map want (below k)) (sym e) ∙ h
 
 -- a symbol with a type is one of the module

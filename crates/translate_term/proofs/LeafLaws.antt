@@ -29,12 +29,14 @@ use Rattle.translate_term.specs.GrowLaws.{IsHeld-Grows, declarations_of-Grows}
 use Rattle.translate_term.proofs.ScopeLists.{term-found, term-absent}
 use Rattle.std.proofs.lemmas.Option.{same_Some}
 
-module _ (given : Given) (m : Module) (types : List HolType) (distinct : type.IsDistinct types) (variables : List (Variable × LpId)) (n : Name) (ty : TypeId) (known : ty.0 < length types) (told_here : AreGiven given m types variables) where
+module _ (given : Given) (m : Module) (types : List HolType) (distinct : type.IsDistinct types) (variables : List (Variable × LpId)) (n : Name) (ty : TypeId)
+    (known : ty.0 < length types) (told_here : AreGiven given m types variables) where
   filling : Tree
   filling = filler (type_tree given.symbols (told_types given.types) (type.tree_at types ty.0))
 
   -- a free variable that is told
-  pub free-told : (id : LpId) → lookup (same_variable (record { name = n; ty = ty })) variables ≡ Some id → lp.Holds m.table id.0 (term_wanted given 0 (free n (type.tree_at types ty.0)))
+  pub free-told : (id : LpId) → lookup (same_variable (record { name = n; ty = ty })) variables ≡ Some id
+      → lp.Holds m.table id.0 (term_wanted given 0 (free n (type.tree_at types ty.0)))
   unfolding filling
   free-told id h =
       term-found types distinct m.table n ty known variables id filling told_here.known h
@@ -42,7 +44,8 @@ module _ (given : Given) (m : Module) (types : List HolType) (distinct : type.Is
       ∙ ap Some (sym (lift_zero (unwrap_or (lookup (variable_eq (n, type.tree_at types ty.0)) given.terms) filling)))
 
   -- and one that isn't
-  pub free-filled : (new : List Tree) (r : LpId) → lookup (same_variable (record { name = n; ty = ty })) variables ≡ None → lp.Holds new r.0 (filler (type_wanted given (type.tree_at types ty.0)))
+  pub free-filled : (new : List Tree) (r : LpId) → lookup (same_variable (record { name = n; ty = ty })) variables ≡ None
+      → lp.Holds new r.0 (filler (type_wanted given (type.tree_at types ty.0)))
       → lp.Holds new r.0 (term_wanted given 0 (free n (type.tree_at types ty.0)))
   unfolding filling
   free-filled new r h is =
@@ -59,23 +62,28 @@ module _ (symbols : SymbolMap) (scope : TypeScope) (t : HolType) (m : Module) (n
   constant-symbol : (s : ℕ) → Some s ≡ told_constant (declarations_of m) n → s ≡ constant_symbol symbols n
   constant-symbol s e = same_Some _ _ (e ∙ h.told.named)
 
-  pub constant-generic : (s : ℕ) → Some s ≡ told_constant (declarations_of m) n → IsGeneric (declarations_of m) s symbols scope (generic_type symbols n) t m.table ty
+  pub constant-generic : (s : ℕ) → Some s ≡ told_constant (declarations_of m) n
+      → IsGeneric (declarations_of m) s symbols scope (generic_type symbols n) t m.table ty
   constant-generic s e =
       subst (λ k. IsGeneric (declarations_of m) k symbols scope (generic_type symbols n) t m.table ty) (sym (constant-symbol s e))
       (record { declared = h.told.declared; instance = h.told.instance; known = h.known; is = h.is })
 
-  pub constant-made : (s : ℕ) (trees : List Tree) → Some s ≡ told_constant (declarations_of m) n → trees ≡ map (type_tree symbols scope) (type_arguments (generic_type symbols n) t) → applied (Sym s) trees ≡ constant_tree symbols scope n t
+  pub constant-made : (s : ℕ) (trees : List Tree) → Some s ≡ told_constant (declarations_of m) n → trees
+      ≡ map (type_tree symbols scope) (type_arguments (generic_type symbols n) t) → applied (Sym s) trees ≡ constant_tree symbols scope n t
   constant-made s trees e are = ap₂ (λ k l. applied (Sym k) l) (constant-symbol s e) are
 
 -- the tree of its type, once it is made
-pub constant-typed : (given : Given) (m now : Module) (types : List HolType) (names : List (Name × LpId)) (made : List (TypeId × LpId)) (n : Name) (ty : TypeId) → IsTypeStart given ty m types names made
-    → TellsConstant given.declarations given.symbols n (type.tree_at types ty.0) → Grows m now → (tree : LpId) → lp.Holds now.table tree.0 (type_wanted given (type.tree_at types ty.0))
+pub constant-typed : (given : Given) (m now : Module) (types : List HolType) (names : List (Name × LpId)) (made : List (TypeId × LpId)) (n : Name) (ty : TypeId)
+    → IsTypeStart given ty m types names made
+    → TellsConstant given.declarations given.symbols n (type.tree_at types ty.0) → Grows m now → (tree : LpId)
+    → lp.Holds now.table tree.0 (type_wanted given (type.tree_at types ty.0))
     → IsTypeTree given.symbols (told_types given.types) (type.tree_at types ty.0) now n tree
 constant-typed given m now types names made n ty start told grows tree h = record {
   held = IsHeld-Grows m now grows start.reads.held;
   known = lp_reduction_laws.Holds-within now.table tree.0 _ h;
   is = lp_reduction_laws.Holds-tree_at now.table tree.0 _ h;
-  told = subst (λ d. TellsConstant d given.symbols n (type.tree_at types ty.0)) (sym (declarations_of-Grows m now grows start.reads.held ∙ start.reads.declared)) told;
+  told = subst (λ d. TellsConstant d given.symbols n (type.tree_at types ty.0))
+      (sym (declarations_of-Grows m now grows start.reads.held ∙ start.reads.declared)) told;
 }
 
 pub constant-unlifted : (given : Given) (n : Name) (t : HolType) → constant_tree given.symbols (told_types given.types) n t ≡ term_wanted given 0 (constant n t)

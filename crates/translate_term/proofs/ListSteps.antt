@@ -18,7 +18,8 @@ drop-all (x ∷ xs) (suc i) h = drop-all xs i (omega arith)
 -- a list is its front and its last item
 pub front-last : {X : Type 0} (xs : List X) (d : X) → 1 ≤ length xs → take (length xs - 1) xs ++ get_or xs (length xs - 1) d ∷ [] ≡ xs
 front-last xs d h =
-    ap (λ l. take (length xs - 1) xs ++ l) (sym (drop_more xs (length xs - 1) d (omega arith) ∙ ap (λ l. get_or xs (length xs - 1) d ∷ l) (drop-all xs (length xs - 1 + 1) (omega arith))))
+    ap (λ l. take (length xs - 1) xs ++ l)
+    (sym (drop_more xs (length xs - 1) d (omega arith) ∙ ap (λ l. get_or xs (length xs - 1) d ∷ l) (drop-all xs (length xs - 1 + 1) (omega arith))))
     ∙ take-append-drop (length xs - 1) xs
 
 pub front-item : {X : Type 0} (xs : List X) (x : X) → x ≡ get_or xs (length xs - 1) x → 1 ≤ length xs → take (length xs - 1) xs ++ x ∷ [] ≡ xs

@@ -15,8 +15,10 @@ pub record IsGathering (made : List (TypeId × LpId)) (ids rest : List TypeId) (
 pub gathering_begins : (made : List (TypeId × LpId)) (ids : List TypeId) → AreAll (IsDone made) ids → IsGathering made ids ids []
 gathering_begins made ids h = record { done = h; on = λ rs m. m }
 
-pub gathering_goes_on : (made : List (TypeId × LpId)) (ids rest : List TypeId) (items : List LpId) (id : TypeId) (r : LpId) → IsNoted made id r → IsGathering made ids (id ∷ rest) items → IsGathering made ids rest (items ++ r ∷ [])
-gathering_goes_on made ids rest items id r n g = record { done = g.done.1; on = λ rs m. subst (AreNoted made ids) (sym (append_assoc items (r ∷ []) rs)) (g.on (r ∷ rs) (n, m)) }
+pub gathering_goes_on : (made : List (TypeId × LpId)) (ids rest : List TypeId) (items : List LpId) (id : TypeId) (r : LpId) → IsNoted made id r
+    → IsGathering made ids (id ∷ rest) items → IsGathering made ids rest (items ++ r ∷ [])
+gathering_goes_on made ids rest items id r n g = record
+    { done = g.done.1; on = λ rs m. subst (AreNoted made ids) (sym (append_assoc items (r ∷ []) rs)) (g.on (r ∷ rs) (n, m)) }
 
 append_nil : (l : List LpId) → l ++ [] ≡ l
 append_nil [] = refl

@@ -10,7 +10,8 @@ use Rattle.translate_term.specs.Tasks.{IsNoted, IsDone}
 use Rattle.translate_term.specs.Patterns.{Fits, Mentions, IsLeft, IsMatching, work}
 
 -- a matching at its beginning
-pub matching_begins : (want : ℕ → Tree) (trees : List Tree) (pattern instance : LpId) (found : List (ℕ × LpId)) → pattern.0 < length trees → instance.0 < length trees
+pub matching_begins : (want : ℕ → Tree) (trees : List Tree) (pattern instance : LpId) (found : List (ℕ × LpId)) → pattern.0 < length trees
+    → instance.0 < length trees
     → tree_at trees instance.0 ≡ sub want (tree_at trees pattern.0) → ((k : ℕ) (id : LpId) → IsNoted found k id → ⊥)
     → IsMatching want (tree_at trees pattern.0) trees (record { pattern = pattern; instance = instance } ∷ []) found
 matching_begins want trees pattern instance found p i f empty = record {
@@ -30,7 +31,8 @@ Fits-parts want trees pattern instance f x g y h k fits =
     (sym (Holds-tree_at trees instance.0 _ k) ∙ fits ∙ ap (sub want) (Holds-tree_at trees pattern.0 _ h))
 
 -- and a variable meets what is wanted for it
-pub Fits-variable : (want : ℕ → Tree) (trees : List Tree) (pattern instance : LpId) (number : ℕ) → Holds trees pattern.0 (Var number) → Fits want trees pattern instance
+pub Fits-variable : (want : ℕ → Tree) (trees : List Tree) (pattern instance : LpId) (number : ℕ) → Holds trees pattern.0 (Var number)
+    → Fits want trees pattern instance
     → tree_at trees instance.0 ≡ want number
 Fits-variable want trees pattern instance number h fits = fits ∙ ap (sub want) (Holds-tree_at trees pattern.0 _ h)
 
@@ -46,7 +48,8 @@ is_application (Pi a b) = false
 
 module _ (want : ℕ → Tree) (root : Tree) (trees : List Tree) (task : Meeting) (tasks : List Meeting) (found : List (ℕ × LpId)) where
   -- a tree in which never variable stands
-  pub matching_nothing : ((k : ℕ) → Mentions k (tree_at trees task.pattern.0) → ⊥) → IsMatching want root trees (task ∷ tasks) found → IsMatching want root trees tasks found
+  pub matching_nothing : ((k : ℕ) → Mentions k (tree_at trees task.pattern.0) → ⊥) → IsMatching want root trees (task ∷ tasks) found
+      → IsMatching want root trees tasks found
   matching_nothing never m = record {
     fit = m.fit.3;
     noted = m.noted;
@@ -54,12 +57,15 @@ module _ (want : ℕ → Tree) (root : Tree) (trees : List Tree) (task : Meeting
   }
 
   -- a variable
-  pub matching_variable : (number : ℕ) (after : List (ℕ × LpId)) → Holds trees task.pattern.0 (Var number) → ((k : ℕ) (id : LpId) → IsNoted after k id → IsNoted found k id ⊎ ((k ≡ number) × (id ≡ task.instance)))
-      → IsNoted after number task.instance → ((k : ℕ) (id : LpId) → IsNoted found k id → (k ≡ number) ⊎ IsNoted after k id) → IsMatching want root trees (task ∷ tasks) found → IsMatching want root trees tasks after
+  pub matching_variable : (number : ℕ) (after : List (ℕ × LpId)) → Holds trees task.pattern.0 (Var number)
+      → ((k : ℕ) (id : LpId) → IsNoted after k id → IsNoted found k id ⊎ ((k ≡ number) × (id ≡ task.instance)))
+      → IsNoted after number task.instance → ((k : ℕ) (id : LpId) → IsNoted found k id → (k ≡ number) ⊎ IsNoted after k id)
+      → IsMatching want root trees (task ∷ tasks) found → IsMatching want root trees tasks after
   matching_variable number after h only new kept m = record {
     fit = m.fit.3;
     noted = λ k id n. ⊎_elim (λ a. m.noted k id a) (λ b. noted k id b.0 b.1) (only k id n);
-    all = λ k s. ⊎_elim (λ d. inl (⊎_elim (λ e. this k e) (λ n. (d.0, n)) (kept k d.0 d.1))) (λ l. ⊎_elim (λ q. inl (this k (sym (subst (λ t. Mentions k t) (Holds-tree_at trees task.pattern.0 (Var number) h) q)))) (λ r. inr r) l) (m.all k s);
+    all = λ k s. ⊎_elim (λ d. inl (⊎_elim (λ e. this k e) (λ n. (d.0, n)) (kept k d.0 d.1)))
+        (λ l. ⊎_elim (λ q. inl (this k (sym (subst (λ t. Mentions k t) (Holds-tree_at trees task.pattern.0 (Var number) h) q)))) (λ r. inr r) l) (m.all k s);
   }
     where
       this : (k : ℕ) → k ≡ number → IsDone after k
@@ -73,23 +79,29 @@ module _ (want : ℕ → Tree) (root : Tree) (trees : List Tree) (task : Meeting
 
   -- an application
   module _ (f x : LpId) (h : Holds trees task.pattern.0 (App (tree_at trees f.0) (tree_at trees x.0))) where
-    becomes : IsMatching want root trees (task ∷ tasks) found → tree_at trees task.instance.0 ≡ App (sub want (tree_at trees f.0)) (sub want (tree_at trees x.0))
+    becomes : IsMatching want root trees (task ∷ tasks) found → tree_at trees task.instance.0
+        ≡ App (sub want (tree_at trees f.0)) (sub want (tree_at trees x.0))
     becomes m = m.fit.2 ∙ ap (sub want) (Holds-tree_at trees task.pattern.0 _ h)
 
     -- becomes an application
-    pub matching_application : (g y : LpId) → Holds trees task.instance.0 (App (tree_at trees g.0) (tree_at trees y.0)) → f.0 < length trees → x.0 < length trees → g.0 < length trees → y.0 < length trees
-        → IsMatching want root trees (task ∷ tasks) found → IsMatching want root trees (record { pattern = x; instance = y } ∷ record { pattern = f; instance = g } ∷ tasks) found
+    pub matching_application : (g y : LpId) → Holds trees task.instance.0 (App (tree_at trees g.0) (tree_at trees y.0)) → f.0 < length trees
+        → x.0 < length trees → g.0 < length trees → y.0 < length trees
+        → IsMatching want root trees (task ∷ tasks) found
+        → IsMatching want root trees (record { pattern = x; instance = y } ∷ record { pattern = f; instance = g } ∷ tasks) found
     matching_application g y k kf kx kg ky m =
-        let e : App (tree_at trees g.0) (tree_at trees y.0) ≡ App (sub want (tree_at trees f.0)) (sub want (tree_at trees x.0)) = sym (Holds-tree_at trees task.instance.0 _ k) ∙ becomes m in
+        let e : App (tree_at trees g.0) (tree_at trees y.0) ≡ App (sub want (tree_at trees f.0)) (sub want (tree_at trees x.0)) =
+        sym (Holds-tree_at trees task.instance.0 _ k) ∙ becomes m in
         let head : tree_at trees g.0 ≡ sub want (tree_at trees f.0) = cc in
         let argument : tree_at trees y.0 ≡ sub want (tree_at trees x.0) = cc in
         record {
           fit = (kx, ky, argument, (kf, kg, head, m.fit.3));
           noted = m.noted;
-          all = λ k s. ⊎_elim (λ d. inl d) (λ l. inr (⊎_elim (λ q. parts k (subst (λ t. Mentions k t) (Holds-tree_at trees task.pattern.0 _ h) q)) (λ r. inr (inr r)) l)) (m.all k s);
+          all = λ k s. ⊎_elim (λ d. inl d)
+              (λ l. inr (⊎_elim (λ q. parts k (subst (λ t. Mentions k t) (Holds-tree_at trees task.pattern.0 _ h) q)) (λ r. inr (inr r)) l)) (m.all k s);
         }
       where
-        parts : (k : ℕ) → Mentions k (App (tree_at trees f.0) (tree_at trees x.0)) → Mentions k (tree_at trees x.0) ⊎ (Mentions k (tree_at trees f.0) ⊎ IsLeft k trees tasks)
+        parts : (k : ℕ) → Mentions k (App (tree_at trees f.0) (tree_at trees x.0)) → Mentions k (tree_at trees x.0)
+            ⊎ (Mentions k (tree_at trees f.0) ⊎ IsLeft k trees tasks)
         parts k s = ⊎_elim (λ a. inr (inl a)) (λ b. inl b) s
 
     -- and nothing else
@@ -108,7 +120,8 @@ size-positive (App f x) = omega arith
 size-positive (Lam f x) = omega arith
 size-positive (Pi f x) = omega arith
 
-pub application-less : (trees : List Tree) (task : Meeting) (tasks : List Meeting) (f x : LpId) (a b : LpId) → Holds trees task.pattern.0 (App (tree_at trees f.0) (tree_at trees x.0))
+pub application-less : (trees : List Tree) (task : Meeting) (tasks : List Meeting) (f x : LpId) (a b : LpId)
+    → Holds trees task.pattern.0 (App (tree_at trees f.0) (tree_at trees x.0))
     → work trees (record { pattern = x; instance = a } ∷ record { pattern = f; instance = b } ∷ tasks) < work trees (task ∷ tasks)
 application-less trees task tasks f x a b h =
     let e : size (tree_at trees task.pattern.0) ≡ 1 + size (tree_at trees f.0) + size (tree_at trees x.0) = ap size (Holds-tree_at trees task.pattern.0 _ h) in

@@ -20,7 +20,8 @@ module _ {K V : Type 0} (eq : K → K → Bool) (exact : (a b : K) → eq a b �
     noted [] p r h = ⊎_elim (λ w. inr (sym w.0, sym w.1)) (λ w. inl w) (IsNoted-cons (k, v) [] p r h)
     noted (e ∷ es) p r h = go (λ w. noted es p r w) (eq k e.0) refl h
       where
-        go : (IsNoted (insert_entry eq es k v) p r → IsNoted es p r ⊎ ((p ≡ k) × (r ≡ v))) → (b : Bool) → eq k e.0 ≡ b → IsNoted (if b then (e.0, v) ∷ es else e ∷ insert_entry eq es k v) p r → IsNoted (e ∷ es) p r ⊎ ((p ≡ k) × (r ≡ v))
+        go : (IsNoted (insert_entry eq es k v) p r → IsNoted es p r ⊎ ((p ≡ k) × (r ≡ v))) → (b : Bool) → eq k e.0 ≡ b
+            → IsNoted (if b then (e.0, v) ∷ es else e ∷ insert_entry eq es k v) p r → IsNoted (e ∷ es) p r ⊎ ((p ≡ k) × (r ≡ v))
         go on true q w = ⊎_elim (λ a. inr (sym (exact k e.0 q ∙ a.0), sym a.1)) (λ a. inl (IsNoted-behind e es p r a)) (IsNoted-cons (e.0, v) es p r w)
         go on false q w = ⊎_elim
             (λ a. inl (IsNoted-front e es p r a))
@@ -39,7 +40,8 @@ module _ {K V : Type 0} (eq : K → K → Bool) (exact : (a b : K) → eq a b �
     noted_kept [] p r h = inr (IsNoted-behind (k, v) [] p r h)
     noted_kept (e ∷ es) p r h = go (λ w. noted_kept es p r w) (eq k e.0) refl (IsNoted-cons e es p r h)
       where
-        go : (IsNoted es p r → (p ≡ k) ⊎ IsNoted (insert_entry eq es k v) p r) → (b : Bool) → eq k e.0 ≡ b → ((e.0 ≡ p) × (e.1 ≡ r)) ⊎ IsNoted es p r → (p ≡ k) ⊎ IsNoted (if b then (e.0, v) ∷ es else e ∷ insert_entry eq es k v) p r
+        go : (IsNoted es p r → (p ≡ k) ⊎ IsNoted (insert_entry eq es k v) p r) → (b : Bool) → eq k e.0 ≡ b → ((e.0 ≡ p) × (e.1 ≡ r)) ⊎ IsNoted es p r → (p ≡ k)
+            ⊎ IsNoted (if b then (e.0, v) ∷ es else e ∷ insert_entry eq es k v) p r
         go on true q (inl a) = inl (sym (exact k e.0 q ∙ a.0))
         go on true q (inr a) = inr (IsNoted-behind (e.0, v) es p r a)
         go on false q (inl a) = inr (IsNoted-front e (insert_entry eq es k v) p r a)

@@ -46,7 +46,8 @@ wanted-more : (ns : List Name) (n : Name) (f : Name → HolType) (j : ℕ) → j
 wanted-more ns n f j h = ap (λ b. cond b (f n) (wanted_for ns f j)) (less-differs j (length ns) h)
 
 -- what is wanted for each binder in turn is what stands for each variable
-map-wanted : (ns ms : List Name) (f : Name → HolType) (g : ℕ → HolType) (k : ℕ) → ((j : ℕ) → j < k → g j ≡ wanted_for ns f j) → map g (below k) ≡ map (wanted_for ns f) (below k)
+map-wanted : (ns ms : List Name) (f : Name → HolType) (g : ℕ → HolType) (k : ℕ) → ((j : ℕ) → j < k → g j ≡ wanted_for ns f j) → map g (below k)
+    ≡ map (wanted_for ns f) (below k)
 map-wanted ns ms f g zero h = refl
 map-wanted ns ms f g (suc k) h = ap₂ (λ x l. x ∷ l) (h k (omega arith)) (map-wanted ns ms f g k (λ j l. h j (omega (arith, l))))
 
@@ -92,11 +93,13 @@ is-in (m ∷ ns) n = go (name_eq n m) (name_eq-Decides n m) (is-in ns n)
 
 under-own : (ns : List Name) (m n : Name) (scope : TypeScope) → (IsIn ns n → ⊥) → n ≡ m → under_types ns (under_type m scope) n ≡ Var (length ns)
 under-own ns m n scope never e =
-    under-other ns (under_type m scope) n never ∙ ap (λ b. lift (length ns) (cond b (Var 0) (lift 1 (scope n)))) ((name_eq-Decides n m).1 e) ∙ lift-first (length ns)
+    under-other ns (under_type m scope) n never ∙ ap (λ b. lift (length ns) (cond b (Var 0) (lift 1 (scope n)))) ((name_eq-Decides n m).1 e)
+    ∙ lift-first (length ns)
 
 pub binder-of : (ns : List Name) (f : Name → HolType) (scope : TypeScope) (n : Name) → IsIn ns n → HasBinder ns f scope n
 binder-of [] f scope n i = absurd i
-binder-of (m ∷ ns) f scope n i = ⊎_elim (λ k. later (binder-of ns f (under_type m scope) n k)) (λ never. ⊎_elim (λ e. own never e) (λ k. absurd (never k)) i) (is-in ns n)
+binder-of (m ∷ ns) f scope n i = ⊎_elim (λ k. later (binder-of ns f (under_type m scope) n k)) (λ never. ⊎_elim (λ e. own never e) (λ k. absurd (never k)) i)
+    (is-in ns n)
   where
     later : HasBinder ns f (under_type m scope) n → HasBinder (m ∷ ns) f scope n
     later h = record { number = h.number; within = omega (arith, h.within); stands = h.stands; wanted = wanted-more ns m f h.number h.within ∙ h.wanted }
@@ -126,10 +129,16 @@ less-or-last (suc j) (suc k) h = ⊎_elim (λ e. inl (ap suc e)) (λ l. inr (ome
 
 pub variable-of : (ns : List Name) (scope : TypeScope) (k : ℕ) → IsDistinct name_eq ns → k < length ns → HasVariable ns scope k
 variable-of [] scope k d h = absurd (omega (arith, h))
-variable-of (m ∷ ns) scope k d h = ⊎_elim own (λ l. later (variable-of ns (under_type m scope) k (IsDistinct-tail name_eq m ns d) l)) (less-or-last k (length ns) h)
+variable-of (m ∷ ns) scope k d h = ⊎_elim own (λ l. later (variable-of ns (under_type m scope) k (IsDistinct-tail name_eq m ns d) l))
+    (less-or-last k (length ns) h)
   where
     own : k ≡ length ns → HasVariable (m ∷ ns) scope k
-    own e = record { name = m; among = inl refl; stands = under-own ns m m scope (none-same m m ns (IsDistinct-head name_eq m ns d) refl) refl ∙ ap Var (sym e) }
+    own e = record {
+      name = m;
+      among = inl refl;
+      stands =
+          under-own ns m m scope (none-same m m ns (IsDistinct-head name_eq m ns d) refl) refl ∙ ap Var (sym e);
+    }
 
     later : HasVariable ns (under_type m scope) k → HasVariable (m ∷ ns) scope k
     later v = record { name = v.name; among = inr v.among; stands = v.stands }
@@ -157,7 +166,8 @@ module _ (symbols : SymbolMap) (scope : TypeScope) (n : Name) (k : ℕ) (stands 
 
     types-mention : (ts : HolTypes) → IsIn (variable_places_of_all ts) n → MentionedIn k (type_trees symbols scope ts)
     types-mention none i = absurd i
-    types-mention (more t ts) i = ⊎_elim (λ l. inl (type-mentions t l)) (λ r. inr (types-mention ts r)) (IsIn-either (variable_places t) (variable_places_of_all ts) n i)
+    types-mention (more t ts) i = ⊎_elim (λ l. inl (type-mentions t l)) (λ r. inr (types-mention ts r))
+        (IsIn-either (variable_places t) (variable_places_of_all ts) n i)
 
 -- a generic type's tree becomes that of an instance, and has every variable
 module _ (symbols : SymbolMap) (generic t : HolType) (h : Instance generic t) where
@@ -180,13 +190,16 @@ module _ (symbols : SymbolMap) (generic t : HolType) (h : Instance generic t) wh
       (All-each _ (variable_places generic) (λ n i. IsIn-distinct name_eq name_eq-Decides (variable_places generic) n i)))
       ∙ sym (type_tree-sub symbols want inner generic)
     where
-      stands : (n : Name) → IsIn (type_variables generic) n → sub (λ k. type_tree symbols scope (wants k)) (under_types (type_variables generic) unfilled n) ≡ type_tree symbols scope (filling_of n)
-      stands n i = let b = binder-of (type_variables generic) filling_of unfilled n i in ap (sub (λ k. type_tree symbols scope (wants k))) b.stands ∙ ap (type_tree symbols scope) b.wanted
+      stands : (n : Name) → IsIn (type_variables generic) n → sub (λ k. type_tree symbols scope (wants k)) (under_types (type_variables generic) unfilled n)
+          ≡ type_tree symbols scope (filling_of n)
+      stands n i = let b = binder-of (type_variables generic) filling_of unfilled n i in ap (sub (λ k. type_tree symbols scope (wants k))) b.stands ∙ ap
+          (type_tree symbols scope) b.wanted
 
   pub generic-mentions : (k : ℕ) → k < length (type_variables generic) → Mentions k pattern_of
   generic-mentions k l =
       let v = variable-of (type_variables generic) unfilled k (distinct-IsDistinct name_eq (symmetric name_eq name_eq-Decides) (variable_places generic)) l in
-      type-mentions symbols (under_types (type_variables generic) unfilled) v.name k v.stands generic (IsIn-distinct_of name_eq name_eq-Decides (variable_places generic) v.name v.among)
+      type-mentions symbols (under_types (type_variables generic) unfilled) v.name k v.stands generic
+      (IsIn-distinct_of name_eq name_eq-Decides (variable_places generic) v.name v.among)
 
   -- what is wanted for each binder in turn are the type arguments
   pub wants-arguments : map wants (below (length (type_variables generic))) ≡ type_arguments generic t

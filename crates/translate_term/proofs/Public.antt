@@ -26,15 +26,18 @@ given_to symbols m types names variables = record {
   terms = terms_in types m.table variables;
 }
 
-pub type-start : (symbols : SymbolMap) (m : Module) (types : List HolType) (names : List (Name × LpId)) (id : TypeId) (made : List (TypeId × LpId)) → IsHeld m → id.0 < length types → AreTypesKnown m.table names
-    → TellsType (declarations_of m) symbols (type.tree_at types id.0) → ((k : TypeId) (r : LpId) → IsNoted made k r → ⊥) → IsTypeStart (given_to symbols m types names []) id m types names made
+pub type-start : (symbols : SymbolMap) (m : Module) (types : List HolType) (names : List (Name × LpId)) (id : TypeId) (made : List (TypeId × LpId)) → IsHeld m
+    → id.0 < length types → AreTypesKnown m.table names
+    → TellsType (declarations_of m) symbols (type.tree_at types id.0) → ((k : TypeId) (r : LpId) → IsNoted made k r → ⊥)
+    → IsTypeStart (given_to symbols m types names []) id m types names made
 type-start symbols m types names id made held known names_known told none = record {
   reads = record { held = held; declared = refl; known = names_known; told = refl };
   noted = λ k r n. absurd (none k r n);
   known = record { known = known; told = told };
 }
 
-pub term-start : (symbols : SymbolMap) (m : Module) (trees : Trees) (names : List (Name × LpId)) (variables : List (Variable × LpId)) (id : TermId) → IsHeld m → id.0 < length trees.terms → id.0 < 2 ^ 64 → AreTypesKnown m.table names
+pub term-start : (symbols : SymbolMap) (m : Module) (trees : Trees) (names : List (Name × LpId)) (variables : List (Variable × LpId)) (id : TermId) → IsHeld m
+    → id.0 < length trees.terms → id.0 < 2 ^ 64 → AreTypesKnown m.table names
     → AreTermsKnown trees.types m.table variables → TellsTerm (declarations_of m) symbols (term_at trees id.0)
     → IsTermStart (given_to symbols m trees.types names variables) (record { id = id; depth = 0 }) m trees names variables
 term-start symbols m trees names variables id held known small names_known variables_known told = record {

@@ -23,16 +23,19 @@ use Rattle.translate_laws.specs.ListedScopes.{told_types}
 use Rattle.sequent.specs.Params.{same_variable}
 use Rattle.translate_term.specs.Told.{types_in, terms_in, AreTypesKnown, AreTermsKnown}
 
-lookup-types_in : (trees : List Tree) (n : Name) (es : List (Name × LpId)) → lookup (name_eq n) (types_in trees es) ≡ option_map (λ id. tree_at trees id.0) (lookup (name_eq n) es)
+lookup-types_in : (trees : List Tree) (n : Name) (es : List (Name × LpId)) → lookup (name_eq n) (types_in trees es)
+    ≡ option_map (λ id. tree_at trees id.0) (lookup (name_eq n) es)
 lookup-types_in trees n [] = refl
 lookup-types_in trees n (e ∷ es) = go (name_eq n e.0) (lookup-types_in trees n es)
   where
     go : (b : Bool) → lookup (name_eq n) (types_in trees es) ≡ option_map (λ id. tree_at trees id.0) (lookup (name_eq n) es)
-        → cond b (Some (tree_at trees e.1.0)) (lookup (name_eq n) (types_in trees es)) ≡ option_map (λ id. tree_at trees id.0) (cond b (Some e.1) (lookup (name_eq n) es))
+        → cond b (Some (tree_at trees e.1.0)) (lookup (name_eq n) (types_in trees es))
+        ≡ option_map (λ id. tree_at trees id.0) (cond b (Some e.1) (lookup (name_eq n) es))
     go true h = refl
     go false h = h
 
-found-known : (trees : List Tree) (n : Name) (es : List (Name × LpId)) (id : LpId) → AreTypesKnown trees es → lookup (name_eq n) es ≡ Some id → id.0 < length trees
+found-known : (trees : List Tree) (n : Name) (es : List (Name × LpId)) (id : LpId) → AreTypesKnown trees es → lookup (name_eq n) es ≡ Some id
+    → id.0 < length trees
 found-known trees n [] id k h = absurd (cc)
 found-known trees n (e ∷ es) id k h = go (name_eq n e.0) h (found-known trees n es id k.1)
   where
@@ -45,7 +48,8 @@ found-known trees n (e ∷ es) id k h = go (name_eq n e.0) h (found-known trees 
     go false q on = on q
 
 -- a type variable that is told
-pub told-found : (trees : List Tree) (es : List (Name × LpId)) (n : Name) (id : LpId) → AreTypesKnown trees es → lookup (name_eq n) es ≡ Some id → Holds trees id.0 (told_types (types_in trees es) n)
+pub told-found : (trees : List Tree) (es : List (Name × LpId)) (n : Name) (id : LpId) → AreTypesKnown trees es → lookup (name_eq n) es ≡ Some id
+    → Holds trees id.0 (told_types (types_in trees es) n)
 told-found trees es n id k h =
     tree_at-Holds trees id.0 (found-known trees n es id k h)
     ∙ sym (ap (λ o. Some (unwrap_or o bools)) (lookup-types_in trees n es ∙ ap (option_map (λ i. tree_at trees i.0)) h))
@@ -57,7 +61,8 @@ told-absent trees es n h = ap (λ o. unwrap_or o bools) (lookup-types_in trees n
 -- free variables have one name and one type where they have one name and one number of a type
 module _ (types : List HolType) (distinct : type.IsDistinct types) (trees : List Tree) (n : Name) (ty : TypeId) (known : ty.0 < length types) where
   same-type : (u : TypeId) → u.0 < length types → type_eq (type.tree_at types ty.0) (type.tree_at types u.0) ≡ nat_eq ty.0 u.0
-  same-type u k = go (type_eq (type.tree_at types ty.0) (type.tree_at types u.0)) (nat_eq ty.0 u.0) (type_eq-Decides (type.tree_at types ty.0) (type.tree_at types u.0)) (unsigned_Decides ty.0 u.0)
+  same-type u k = go (type_eq (type.tree_at types ty.0) (type.tree_at types u.0)) (nat_eq ty.0 u.0)
+      (type_eq-Decides (type.tree_at types ty.0) (type.tree_at types u.0)) (unsigned_Decides ty.0 u.0)
     where
       go : (a b : Bool) → Decides a (type.tree_at types ty.0 ≡ type.tree_at types u.0) → Decides b (ty.0 ≡ u.0) → a ≡ b
       go true true d e = refl
@@ -68,14 +73,18 @@ module _ (types : List HolType) (distinct : type.IsDistinct types) (trees : List
   abbrev wanted : Variable
   wanted = record { name = n; ty = ty }
 
-  lookup-terms_in : (es : List (Variable × LpId)) → AreTermsKnown types trees es → lookup (variable_eq (n, type.tree_at types ty.0)) (terms_in types trees es) ≡ option_map (λ id. tree_at trees id.0) (lookup (same_variable wanted) es)
+  lookup-terms_in : (es : List (Variable × LpId)) → AreTermsKnown types trees es → lookup (variable_eq (n, type.tree_at types ty.0)) (terms_in types trees es)
+      ≡ option_map (λ id. tree_at trees id.0) (lookup (same_variable wanted) es)
   lookup-terms_in [] k = refl
   lookup-terms_in (e ∷ es) k =
-      ap (λ b. cond (name_eq n e.0.name && b) (Some (tree_at trees e.1.0)) (lookup (variable_eq (n, type.tree_at types ty.0)) (terms_in types trees es))) (same-type e.0.ty k.0)
+      ap (λ b. cond (name_eq n e.0.name && b) (Some (tree_at trees e.1.0)) (lookup (variable_eq (n, type.tree_at types ty.0)) (terms_in types trees es)))
+      (same-type e.0.ty k.0)
       ∙ go (name_eq n e.0.name && nat_eq ty.0 e.0.ty.0) (lookup-terms_in es k.2)
     where
-      go : (b : Bool) → lookup (variable_eq (n, type.tree_at types ty.0)) (terms_in types trees es) ≡ option_map (λ id. tree_at trees id.0) (lookup (same_variable wanted) es)
-          → cond b (Some (tree_at trees e.1.0)) (lookup (variable_eq (n, type.tree_at types ty.0)) (terms_in types trees es)) ≡ option_map (λ id. tree_at trees id.0) (cond b (Some e.1) (lookup (same_variable wanted) es))
+      go : (b : Bool) → lookup (variable_eq (n, type.tree_at types ty.0)) (terms_in types trees es)
+          ≡ option_map (λ id. tree_at trees id.0) (lookup (same_variable wanted) es)
+          → cond b (Some (tree_at trees e.1.0)) (lookup (variable_eq (n, type.tree_at types ty.0)) (terms_in types trees es))
+          ≡ option_map (λ id. tree_at trees id.0) (cond b (Some e.1) (lookup (same_variable wanted) es))
       go true h = refl
       go false h = h
 
@@ -87,7 +96,8 @@ module _ (types : List HolType) (distinct : type.IsDistinct types) (trees : List
       some None = e.1
       some (Some x) = x
 
-      go : (b : Bool) → cond b (Some e.1) (lookup (same_variable wanted) es) ≡ Some id → (lookup (same_variable wanted) es ≡ Some id → id.0 < length trees) → id.0 < length trees
+      go : (b : Bool) → cond b (Some e.1) (lookup (same_variable wanted) es) ≡ Some id → (lookup (same_variable wanted) es ≡ Some id → id.0 < length trees)
+          → id.0 < length trees
       go true q on = subst (λ i. i.0 < length trees) (ap some q) k.1
       go false q on = on q
 

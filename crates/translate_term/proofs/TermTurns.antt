@@ -36,15 +36,18 @@ use Rattle.std.proofs.lemmas.Option.{same_Some}
 lift-sub : (d : ℕ) (t : Tree) → lift d t ≡ sub (λ n. Var (n + d)) t
 lift-sub d t = lift_is d t ∙ ren_is_sub (λ n. n + d) t
 
-pub type-lift : (symbols : SymbolMap) (scope : Name → Tree) (d : ℕ) (t : HolType) → lift d (type_tree symbols scope t) ≡ type_tree symbols (λ n. lift d (scope n)) t
-type-lift symbols scope d t = lift-sub d (type_tree symbols scope t) ∙ type_tree-sub symbols (λ n. Var (n + d)) scope t ∙ ap (λ w. type_tree symbols w t) (fun_ext (λ n. sym (lift-sub d (scope n))))
+pub type-lift : (symbols : SymbolMap) (scope : Name → Tree) (d : ℕ) (t : HolType) → lift d (type_tree symbols scope t)
+    ≡ type_tree symbols (λ n. lift d (scope n)) t
+type-lift symbols scope d t = lift-sub d (type_tree symbols scope t) ∙ type_tree-sub symbols (λ n. Var (n + d)) scope t ∙ ap (λ w. type_tree symbols w t)
+    (fun_ext (λ n. sym (lift-sub d (scope n))))
 
 -- a constant and a free variable under binders are lifted from under none
 pub constant-lift : (given : Given) (d : ℕ) (n : Name) (t : HolType) → lift d (term_wanted given 0 (constant n t)) ≡ term_wanted given d (constant n t)
 constant-lift given d n t =
     lift-sub d (term_wanted given 0 (constant n t))
     ∙ term_tree-sub given.symbols (λ k. Var (k + d)) (deep 0 (told given.symbols given.types given.terms)) (constant n t)
-    ∙ ap (λ w. constant_tree given.symbols w n t) (fun_ext (λ m. sym (lift-sub d (lift 0 (told_types given.types m))) ∙ ap (lift d) (lift_zero (told_types given.types m))))
+    ∙ ap (λ w. constant_tree given.symbols w n t)
+    (fun_ext (λ m. sym (lift-sub d (lift 0 (told_types given.types m))) ∙ ap (lift d) (lift_zero (told_types given.types m))))
 
 pub free-lift : (given : Given) (d : ℕ) (n : Name) (t : HolType) → lift d (term_wanted given 0 (free n t)) ≡ term_wanted given d (free n t)
 free-lift given d n t = ap (lift d) (lift_zero ((told given.symbols given.types given.terms).terms (n, t)))
@@ -61,14 +64,18 @@ bound-wanted given d k = go (nat_lt k d) refl
     go false e = lift_is d (Var (k - d)) ∙ ap Var (back e)
 
 -- an abstraction's domain and body
-pub lam-wanted : (given : Given) (d : ℕ) (t : HolType) (b : Term) → term_wanted given d (lam t b) ≡ Lam (term_of (lift d (type_wanted given t))) (term_wanted given (d + 1) b)
+pub lam-wanted : (given : Given) (d : ℕ) (t : HolType) (b : Term) → term_wanted given d (lam t b)
+    ≡ Lam (term_of (lift d (type_wanted given t))) (term_wanted given (d + 1) b)
 lam-wanted given d t b =
     ap₂ (λ a c. Lam (term_of a) c) (sym (type-lift given.symbols (told_types given.types) d t))
-    (ap (λ w. term_tree given.symbols w b) (deep-suc d (told given.symbols given.types given.terms)) ∙ ap (λ j. term_wanted given j b) (let e : suc d ≡ d + 1 = omega arith in e))
+    (ap (λ w. term_tree given.symbols w b) (deep-suc d (told given.symbols given.types given.terms))
+    ∙ ap (λ j. term_wanted given j b) (let e : suc d ≡ d + 1 = omega arith in e))
 
 -- a walk at its beginning
-pub term_begins : (given : Given) (root : Place) (m : Module) (trees : Trees) (names : List (Name × LpId)) (variables : List (AVariable × LpId)) (made : List (Place × LpId)) (types : List (TypeId × LpId))
-    → ((k : Place) (r : LpId) → IsNoted made k r → ⊥) → ((k : TypeId) (r : LpId) → IsNoted types k r → ⊥) → IsTermStart given root m trees names variables → IsTermWalk given root m trees names variables (Visit root ∷ []) made types
+pub term_begins : (given : Given) (root : Place) (m : Module) (trees : Trees) (names : List (Name × LpId)) (variables : List (AVariable × LpId))
+    (made : List (Place × LpId)) (types : List (TypeId × LpId))
+    → ((k : Place) (r : LpId) → IsNoted made k r → ⊥) → ((k : TypeId) (r : LpId) → IsNoted types k r → ⊥) → IsTermStart given root m trees names variables
+    → IsTermWalk given root m trees names variables (Visit root ∷ []) made types
 term_begins given root m trees names variables made types a b s = record {
   reads = s.reads;
   variables_told = s.variables_told;
@@ -77,9 +84,11 @@ term_begins given root m trees names variables made types a b s = record {
   ends = (s.known, inr refl);
 }
 
-module _ (given : Given) (root : Place) (m : Module) (trees : Trees) (names : List (Name × LpId)) (variables : List (AVariable × LpId)) (place : Place) (tasks : List (Task Place)) (made : List (Place × LpId)) (types : List (TypeId × LpId)) where
+module _ (given : Given) (root : Place) (m : Module) (trees : Trees) (names : List (Name × LpId)) (variables : List (AVariable × LpId)) (place : Place)
+    (tasks : List (Task Place)) (made : List (Place × LpId)) (types : List (TypeId × LpId)) where
   -- a term that was made already
-  pub term_done : (r : LpId) → IsNoted made place r → IsTermWalk given root m trees names variables (Visit place ∷ tasks) made types → IsTermWalk given root m trees names variables tasks made types
+  pub term_done : (r : LpId) → IsNoted made place r → IsTermWalk given root m trees names variables (Visit place ∷ tasks) made types
+      → IsTermWalk given root m trees names variables tasks made types
   term_done r n w = record {
     reads = w.reads;
     variables_told = w.variables_told;
@@ -89,7 +98,8 @@ module _ (given : Given) (root : Place) (m : Module) (trees : Trees) (names : Li
   }
 
   -- a term with parts
-  term_set_out : (parts : List Place) → AreAll (IsTermKnown given trees) parts → HasParts trees place parts → IsTermWalk given root m trees names variables (Visit place ∷ tasks) made types
+  term_set_out : (parts : List Place) → AreAll (IsTermKnown given trees) parts → HasParts trees place parts
+      → IsTermWalk given root m trees names variables (Visit place ∷ tasks) made types
       → IsTermWalk given root m trees names variables (visits parts (Join place ∷ tasks)) made types
   term_set_out parts k h w = record {
     reads = w.reads;
@@ -102,8 +112,10 @@ module _ (given : Given) (root : Place) (m : Module) (trees : Trees) (names : Li
   told-as : (t : Term) → Holds trees place.id.0 t → IsTermKnown given trees place → TellsTerm given.declarations given.symbols t
   told-as t h k = subst (TellsTerm given.declarations given.symbols) (Some-term_in trees.terms place.id.0 t h) k.told
 
-  pub term_application : (f x : TermId) → f.0 < place.id.0 → x.0 < place.id.0 → Holds trees place.id.0 (app (term_at trees f.0) (term_at trees x.0)) → IsTermWalk given root m trees names variables (Visit place ∷ tasks) made types
-      → IsTermWalk given root m trees names variables (Visit (record { id = f; depth = place.depth }) ∷ Visit (record { id = x; depth = place.depth }) ∷ Join place ∷ tasks) made types
+  pub term_application : (f x : TermId) → f.0 < place.id.0 → x.0 < place.id.0 → Holds trees place.id.0 (app (term_at trees f.0) (term_at trees x.0))
+      → IsTermWalk given root m trees names variables (Visit place ∷ tasks) made types
+      → IsTermWalk given root m trees names variables
+      (Visit (record { id = f; depth = place.depth }) ∷ Visit (record { id = x; depth = place.depth }) ∷ Join place ∷ tasks) made types
   term_application f x lf lx h w =
       let k = w.ends.0 in
       let t = told-as _ h k in
@@ -114,7 +126,8 @@ module _ (given : Given) (root : Place) (m : Module) (trees : Trees) (names : Li
         (record { known = kx; countable = omega (arith, lx, k.countable); told = t.1 }, tt {0}),
       ) (inl (record { function = f; argument = x; function_known = kf; argument_known = kx; is = h; parts_are = refl })) w
 
-  pub term_abstraction : (ty : TypeId) (b : TermId) → b.0 < place.id.0 → Holds trees place.id.0 (lam (type_at trees ty.0) (term_at trees b.0)) → IsTermWalk given root m trees names variables (Visit place ∷ tasks) made types
+  pub term_abstraction : (ty : TypeId) (b : TermId) → b.0 < place.id.0 → Holds trees place.id.0 (lam (type_at trees ty.0) (term_at trees b.0))
+      → IsTermWalk given root m trees names variables (Visit place ∷ tasks) made types
       → IsTermWalk given root m trees names variables (Visit (record { id = b; depth = place.depth + 1 }) ∷ Join place ∷ tasks) made types
   term_abstraction ty b lb h w =
       let k = w.ends.0 in
@@ -124,22 +137,26 @@ module _ (given : Given) (root : Place) (m : Module) (trees : Trees) (names : Li
       (inr (record { ty = ty; body = b; body_known = kb; is = h; parts_are = refl })) w
 
   -- what a walk is given for the type in a term's head
-  pub start-of : (k : IsTermKnown given trees place) (t : Term) → Holds trees place.id.0 t → (ty : TypeId) → ty.0 < length trees.types → (TellsTerm given.declarations given.symbols t → TellsType given.declarations given.symbols (type_at trees ty.0))
+  pub start-of : (k : IsTermKnown given trees place) (t : Term) → Holds trees place.id.0 t → (ty : TypeId) → ty.0 < length trees.types
+      → (TellsTerm given.declarations given.symbols t → TellsType given.declarations given.symbols (type_at trees ty.0))
       → IsGiven given m names → IsTypeMemo given trees.types m.table types → IsTypeStart given ty m trees.types names types
   start-of k t h ty l tells reads noted = record { reads = reads; noted = noted; known = record { known = l; told = tells (told-as t h k) } }
 
   pub told-in : (t : Term) → Holds trees place.id.0 t → IsTermKnown given trees place → TellsTerm given.declarations given.symbols t
   told-in t h k = told-as t h k
 
-  module _ (now : Module) (grows : Grows m now) (after : List (Place × LpId)) (types_after : List (TypeId × LpId)) (t : Term) (h : Holds trees place.id.0 t) (is : IsMadeAt place made after now.table (term_wanted given place.depth t))
+  module _ (now : Module) (grows : Grows m now) (after : List (Place × LpId)) (types_after : List (TypeId × LpId)) (t : Term) (h : Holds trees place.id.0 t)
+      (is : IsMadeAt place made after now.table (term_wanted given place.depth t))
       (types_noted : IsTypeMemo given trees.types now.table types_after) where
     term_noted : IsTermMemo given trees m.table made → IsTermMemo given trees now.table after
     term_noted old =
         noted-sound (λ i r. lp.Holds now.table r.0 (term_wanted given i.depth (term_at trees i.id.0))) made after place is.mark is.only
-        (subst (λ u. lp.Holds now.table is.mark.0 (term_wanted given place.depth u)) (sym (Some-term_in trees.terms place.id.0 t h)) is.holds) (IsTermMemo-Keeps grows.table given trees made old)
+        (subst (λ u. lp.Holds now.table is.mark.0 (term_wanted given place.depth u)) (sym (Some-term_in trees.terms place.id.0 t h)) is.holds)
+        (IsTermMemo-Keeps grows.table given trees made old)
 
     -- a term without parts
-    pub term_leaf : IsTermWalk given root m trees names variables (Visit place ∷ tasks) made types → IsTermWalk given root now trees names variables tasks after types_after
+    pub term_leaf : IsTermWalk given root m trees names variables (Visit place ∷ tasks) made types
+        → IsTermWalk given root now trees names variables tasks after types_after
     term_leaf w = record {
       reads = IsGiven-Grows grows given names w.reads;
       variables_told = AreGiven-Grows grows given trees.types variables w.variables_told;
@@ -149,7 +166,8 @@ module _ (given : Given) (root : Place) (m : Module) (trees : Trees) (names : Li
     }
 
     -- a term whose parts were made
-    pub term_joined : IsTermWalk given root m trees names variables (Join place ∷ tasks) made types → IsTermWalk given root now trees names variables tasks after types_after
+    pub term_joined : IsTermWalk given root m trees names variables (Join place ∷ tasks) made types
+        → IsTermWalk given root now trees names variables tasks after types_after
     term_joined w = record {
       reads = IsGiven-Grows grows given names w.reads;
       variables_told = AreGiven-Grows grows given trees.types variables w.variables_told;
@@ -184,28 +202,38 @@ unfolding body_of
 same-body t u b c e = ap body_of e
 
 module _ (trees : Trees) (place : Place) (P : Place → Type 0) (distinct : IsDistinct trees.terms) where
-  pub application-done : (f x : TermId) → f.0 < length trees.terms → x.0 < length trees.terms → Holds trees place.id.0 (app (term_at trees f.0) (term_at trees x.0)) → PartsAre (HasParts trees) P place
+  pub application-done : (f x : TermId) → f.0 < length trees.terms → x.0 < length trees.terms
+      → Holds trees place.id.0 (app (term_at trees f.0) (term_at trees x.0)) → PartsAre (HasParts trees) P place
       → P (record { id = f; depth = place.depth }) × P (record { id = x; depth = place.depth })
-  application-done f x kf kx h p = ⊎_elim (λ a. own a (subst (AreAll P) a.parts_are p.all)) (λ a. absurd (let e : app (term_at trees f.0) (term_at trees x.0) ≡ lam (type_at trees a.ty.0) (term_at trees a.body.0) = same_Some _ _ (sym h ∙ a.is) in cc)) p.of
+  application-done f x kf kx h p = ⊎_elim (λ a. own a (subst (AreAll P) a.parts_are p.all))
+      (λ a. absurd (let e : app (term_at trees f.0) (term_at trees x.0) ≡ lam (type_at trees a.ty.0) (term_at trees a.body.0) =
+      same_Some _ _ (sym h ∙ a.is) in cc)) p.of
     where
-      own : (a : IsApplication trees place p.parts) → AreAll P (record { id = a.function; depth = place.depth } ∷ record { id = a.argument; depth = place.depth } ∷ []) → P (record { id = f; depth = place.depth }) × P (record { id = x; depth = place.depth })
+      own : (a : IsApplication trees place p.parts)
+          → AreAll P (record { id = a.function; depth = place.depth } ∷ record { id = a.argument; depth = place.depth } ∷ [])
+          → P (record { id = f; depth = place.depth }) × P (record { id = x; depth = place.depth })
       own a all =
           let e = same_Some _ _ (sym a.is ∙ h) in
           let ef = term_in-same distinct a.function f a.function_known kf (same-function _ _ _ _ e) in
           let ex = term_in-same distinct a.argument x a.argument_known kx (same-argument _ _ _ _ e) in
           (subst (λ i. P (record { id = i; depth = place.depth })) ef all.0, subst (λ i. P (record { id = i; depth = place.depth })) ex all.1.0)
 
-  pub abstraction-done : (ty : TypeId) (b : TermId) → b.0 < length trees.terms → Holds trees place.id.0 (lam (type_at trees ty.0) (term_at trees b.0)) → PartsAre (HasParts trees) P place → P (record { id = b; depth = place.depth + 1 })
-  abstraction-done ty b kb h p = ⊎_elim (λ a. absurd (let e : lam (type_at trees ty.0) (term_at trees b.0) ≡ app (term_at trees a.function.0) (term_at trees a.argument.0) = same_Some _ _ (sym h ∙ a.is) in cc)) (λ a. own a (subst (AreAll P) a.parts_are p.all)) p.of
+  pub abstraction-done : (ty : TypeId) (b : TermId) → b.0 < length trees.terms → Holds trees place.id.0 (lam (type_at trees ty.0) (term_at trees b.0))
+      → PartsAre (HasParts trees) P place → P (record { id = b; depth = place.depth + 1 })
+  abstraction-done ty b kb h p = ⊎_elim
+      (λ a. absurd (let e : lam (type_at trees ty.0) (term_at trees b.0) ≡ app (term_at trees a.function.0) (term_at trees a.argument.0) =
+      same_Some _ _ (sym h ∙ a.is) in cc)) (λ a. own a (subst (AreAll P) a.parts_are p.all)) p.of
     where
-      own : (a : IsAbstraction trees place p.parts) → AreAll P (record { id = a.body; depth = place.depth + 1 } ∷ []) → P (record { id = b; depth = place.depth + 1 })
+      own : (a : IsAbstraction trees place p.parts) → AreAll P (record { id = a.body; depth = place.depth + 1 } ∷ [])
+          → P (record { id = b; depth = place.depth + 1 })
       own a all =
           let e = same_Some _ _ (sym a.is ∙ h) in
           let eb = term_in-same distinct a.body b a.body_known kb (same-body _ _ _ _ e) in
           subst (λ i. P (record { id = i; depth = place.depth + 1 })) eb all.0
 
   -- no walk comes back to a term without parts
-  pub no-parts : (t : Term) → Holds trees place.id.0 t → ((f x : Term) → t ≡ app f x → ⊥) → ((a : HolType) (b : Term) → t ≡ lam a b → ⊥) → PartsAre (HasParts trees) P place → ⊥
+  pub no-parts : (t : Term) → Holds trees place.id.0 t → ((f x : Term) → t ≡ app f x → ⊥) → ((a : HolType) (b : Term) → t ≡ lam a b → ⊥)
+      → PartsAre (HasParts trees) P place → ⊥
   no-parts t h a b p = ⊎_elim (λ c. a _ _ (same_Some _ _ (sym h ∙ c.is))) (λ c. b _ _ (same_Some _ _ (sym h ∙ c.is))) p.of
 
 size-positive : (t : Term) → 0 < term_size t
@@ -219,10 +247,13 @@ pub place_size-positive : (trees : Trees) (place : Place) → 0 < place_size tre
 place_size-positive trees place = size-positive (term_at trees place.id.0)
 
 -- the parts of a term and the way back are less work than the whole
-pub application-less : (trees : Trees) (place : Place) (tasks : List (Task Place)) (f x : TermId) → Holds trees place.id.0 (app (term_at trees f.0) (term_at trees x.0))
-    → work (place_size trees) (Visit (record { id = f; depth = place.depth }) ∷ Visit (record { id = x; depth = place.depth }) ∷ Join place ∷ tasks) < work (place_size trees) (Visit place ∷ tasks)
+pub application-less : (trees : Trees) (place : Place) (tasks : List (Task Place)) (f x : TermId)
+    → Holds trees place.id.0 (app (term_at trees f.0) (term_at trees x.0))
+    → work (place_size trees) (Visit (record { id = f; depth = place.depth }) ∷ Visit (record { id = x; depth = place.depth }) ∷ Join place ∷ tasks) < work
+    (place_size trees) (Visit place ∷ tasks)
 application-less trees place tasks f x h = let e = ap term_size (Some-term_in trees.terms place.id.0 _ h) in omega (arith, e)
 
-pub abstraction-less : (trees : Trees) (place : Place) (tasks : List (Task Place)) (ty : TypeId) (b : TermId) → Holds trees place.id.0 (lam (type_at trees ty.0) (term_at trees b.0))
+pub abstraction-less : (trees : Trees) (place : Place) (tasks : List (Task Place)) (ty : TypeId) (b : TermId)
+    → Holds trees place.id.0 (lam (type_at trees ty.0) (term_at trees b.0))
     → work (place_size trees) (Visit (record { id = b; depth = place.depth + 1 }) ∷ Join place ∷ tasks) < work (place_size trees) (Visit place ∷ tasks)
 abstraction-less trees place tasks ty b h = let e = ap term_size (Some-term_in trees.terms place.id.0 _ h) in omega (arith, e)

@@ -21,26 +21,39 @@ differs b n m t e = go (name_eq n m) (name_eq-Decides n m)
 
 module _ (declarations : List Declaration) (n : Name) where
   module _ (k : ℕ) (a : name_eq n arrow_name ≡ false) (b : name_eq n bool_name ≡ false) (c : name_eq n ind_name ≡ false) where
-    operator-rest : told_operator declarations n k ≡ either_number (symbol_number declarations (input_operator_name k n)) (symbol_number declarations (operator_name n))
+    operator-rest : told_operator declarations n k
+        ≡ either_number (symbol_number declarations (input_operator_name k n)) (symbol_number declarations (operator_name n))
     operator-rest =
-        ap (λ x. cond x (Some arr_symbol) (cond (name_eq n bool_name) (Some bool_symbol) (cond (name_eq n ind_name) (Some ind_symbol) (either_number (symbol_number declarations (input_operator_name k n)) (symbol_number declarations (operator_name n)))))) a
-        ∙ ap (λ x. cond x (Some bool_symbol) (cond (name_eq n ind_name) (Some ind_symbol) (either_number (symbol_number declarations (input_operator_name k n)) (symbol_number declarations (operator_name n))))) b
-        ∙ ap (λ x. cond x (Some ind_symbol) (either_number (symbol_number declarations (input_operator_name k n)) (symbol_number declarations (operator_name n)))) c
+        ap (λ x. cond x (Some arr_symbol)
+        (cond (name_eq n bool_name) (Some bool_symbol)
+        (cond (name_eq n ind_name) (Some ind_symbol)
+        (either_number (symbol_number declarations (input_operator_name k n)) (symbol_number declarations (operator_name n)))))) a
+        ∙ ap (λ x. cond x (Some bool_symbol)
+        (cond (name_eq n ind_name) (Some ind_symbol)
+        (either_number (symbol_number declarations (input_operator_name k n)) (symbol_number declarations (operator_name n))))) b
+        ∙ ap (λ x. cond x (Some ind_symbol)
+        (either_number (symbol_number declarations (input_operator_name k n)) (symbol_number declarations (operator_name n)))) c
 
     pub operator-input : (s : ℕ) → symbol_number declarations (input_operator_name k n) ≡ Some s → Some s ≡ told_operator declarations n k
     operator-input s e = sym (operator-rest ∙ ap (λ o. either_number o (symbol_number declarations (operator_name n))) e)
 
-    pub operator-defined : symbol_number declarations (input_operator_name k n) ≡ None → symbol_number declarations (operator_name n) ≡ told_operator declarations n k
+    pub operator-defined : symbol_number declarations (input_operator_name k n) ≡ None → symbol_number declarations (operator_name n)
+        ≡ told_operator declarations n k
     operator-defined e = sym (operator-rest ∙ ap (λ o. either_number o (symbol_number declarations (operator_name n))) e)
 
   module _ (a : name_eq n equality_name ≡ false) (b : name_eq n select_name ≡ false) where
-    constant-rest : told_constant declarations n ≡ either_number (symbol_number declarations (input_constant_name n)) (symbol_number declarations (constant_name n))
+    constant-rest : told_constant declarations n ≡ either_number (symbol_number declarations (input_constant_name n))
+        (symbol_number declarations (constant_name n))
     constant-rest =
-        ap (λ x. cond x (Some eq_symbol) (cond (name_eq n select_name) (Some select_symbol) (either_number (symbol_number declarations (input_constant_name n)) (symbol_number declarations (constant_name n))))) a
-        ∙ ap (λ x. cond x (Some select_symbol) (either_number (symbol_number declarations (input_constant_name n)) (symbol_number declarations (constant_name n)))) b
+        ap (λ x. cond x (Some eq_symbol)
+        (cond (name_eq n select_name) (Some select_symbol)
+        (either_number (symbol_number declarations (input_constant_name n)) (symbol_number declarations (constant_name n))))) a
+        ∙ ap (λ x. cond x (Some select_symbol)
+        (either_number (symbol_number declarations (input_constant_name n)) (symbol_number declarations (constant_name n)))) b
 
     pub constant-input : (s : ℕ) → symbol_number declarations (input_constant_name n) ≡ Some s → Some s ≡ told_constant declarations n
     constant-input s e = sym (constant-rest ∙ ap (λ o. either_number o (symbol_number declarations (constant_name n))) e)
 
-    pub constant-defined : symbol_number declarations (input_constant_name n) ≡ None → symbol_number declarations (constant_name n) ≡ told_constant declarations n
+    pub constant-defined : symbol_number declarations (input_constant_name n) ≡ None → symbol_number declarations (constant_name n)
+        ≡ told_constant declarations n
     constant-defined e = sym (constant-rest ∙ ap (λ o. either_number o (symbol_number declarations (constant_name n))) e)

@@ -12,5 +12,7 @@ module _ {K : Type 0} where
   visits-last [] key tasks = refl
   visits-last (x ∷ keys) key tasks = ap (λ l. Visit x ∷ l) (visits-last keys key tasks)
 
-  pub visits-front : (keys : List K) (d : K) (tasks : List (Task K)) → 1 ≤ length keys → visits (take (length keys - 1) keys) (Visit (get_or keys (length keys - 1) d) ∷ tasks) ≡ visits keys tasks
-  visits-front keys d tasks h = sym (visits-last (take (length keys - 1) keys) (get_or keys (length keys - 1) d) tasks) ∙ ap (λ l. visits l tasks) (front-last keys d h)
+  pub visits-front : (keys : List K) (d : K) (tasks : List (Task K)) → 1 ≤ length keys
+      → visits (take (length keys - 1) keys) (Visit (get_or keys (length keys - 1) d) ∷ tasks) ≡ visits keys tasks
+  visits-front keys d tasks h = sym (visits-last (take (length keys - 1) keys) (get_or keys (length keys - 1) d) tasks) ∙ ap (λ l. visits l tasks)
+      (front-last keys d h)

@@ -37,25 +37,33 @@ type_held types id t k h p = record { known = k; plain = subst IsPlainType (sym 
 tree_held : (trees : Trees) (id : ℕ) (t : Term) → id < length trees.terms → Holds trees id t → IsPlainTerm t → HasPlainTree trees id
 tree_held trees id t k h p = record { known = k; plain = subst IsPlainTerm (sym (Some-term_in trees.terms id t h)) p }
 
-pub variable_held : (types : List HolType) (made : Result TypeId Fault) (n : Name) → IfOk made (λ id. id.0 < length types) → IfOk made (λ id. type.Holds types id.0 (variable n)) → IfOk made (λ id. HasPlainType types id.0)
+pub variable_held : (types : List HolType) (made : Result TypeId Fault) (n : Name) → IfOk made (λ id. id.0 < length types)
+    → IfOk made (λ id. type.Holds types id.0 (variable n)) → IfOk made (λ id. HasPlainType types id.0)
 variable_held types (Ok id) n k h = type_held types id.0 (variable n) k h (record { told = λ m. tt {0} })
 variable_held types (Err fault) n k h = h
 
-pub bool_held : (types : List HolType) (made : Result TypeId Fault) (n : Name) → n ≡ bool_name → IfOk made (λ id. id.0 < length types) → IfOk made (λ id. type.Holds types id.0 (operator n none)) → IfOk made (λ id. HasPlainType types id.0)
+pub bool_held : (types : List HolType) (made : Result TypeId Fault) (n : Name) → n ≡ bool_name → IfOk made (λ id. id.0 < length types)
+    → IfOk made (λ id. type.Holds types id.0 (operator n none)) → IfOk made (λ id. HasPlainType types id.0)
 bool_held types (Ok id) n e k h = type_held types id.0 (operator n none) k h (subst (λ m. IsPlainType (operator m none)) (sym e) plain_bool)
 bool_held types (Err fault) n e k h = h
 
-pub function_held : (old types : List HolType) (made : Result TypeId Fault) (n : Name) (a b : ℕ) → n ≡ arrow_name → HasPlainType old a → HasPlainType old b → IfOk made (λ id. id.0 < length types)
-    → IfOk made (λ id. type.Holds types id.0 (operator n (more (type.tree_at old a) (more (type.tree_at old b) none)))) → IfOk made (λ id. HasPlainType types id.0)
+pub function_held : (old types : List HolType) (made : Result TypeId Fault) (n : Name) (a b : ℕ) → n ≡ arrow_name → HasPlainType old a → HasPlainType old b
+    → IfOk made (λ id. id.0 < length types)
+    → IfOk made (λ id. type.Holds types id.0 (operator n (more (type.tree_at old a) (more (type.tree_at old b) none))))
+    → IfOk made (λ id. HasPlainType types id.0)
 function_held old types (Ok id) n a b e p q k h =
-    type_held types id.0 _ k h (subst (λ m. IsPlainType (operator m (more (type.tree_at old a) (more (type.tree_at old b) none)))) (sym e) (plain_function _ _ p.plain q.plain))
+    type_held types id.0 _ k h
+    (subst (λ m. IsPlainType (operator m (more (type.tree_at old a) (more (type.tree_at old b) none)))) (sym e) (plain_function _ _ p.plain q.plain))
 function_held old types (Err fault) n a b e p q k h = h
 
-pub free_held : (old trees : Trees) (made : Result TermId Fault) (ty : ℕ) (n : Name) → HasPlainType old.types ty → IfOk made (λ id. id.0 < length trees.terms) → IfOk made (λ id. Holds trees id.0 (free n (type_at old ty))) → IfOk made (λ id. HasPlainTree trees id.0)
+pub free_held : (old trees : Trees) (made : Result TermId Fault) (ty : ℕ) (n : Name) → HasPlainType old.types ty → IfOk made (λ id. id.0 < length trees.terms)
+    → IfOk made (λ id. Holds trees id.0 (free n (type_at old ty))) → IfOk made (λ id. HasPlainTree trees id.0)
 free_held old trees (Ok id) ty n p k h = tree_held trees id.0 _ k h (record { told = p.plain.told })
 free_held old trees (Err fault) ty n p k h = h
 
-pub app_held : (old trees : Trees) (made : Result TermId Memory) (f x : ℕ) → HasPlainTree old f → HasPlainTree old x → IfOk made (λ id. id.0 < length trees.terms) → IfOk made (λ id. Holds trees id.0 (app (term_at old f) (term_at old x))) → IfOk made (λ id. HasPlainTree trees id.0)
+pub app_held : (old trees : Trees) (made : Result TermId Memory) (f x : ℕ) → HasPlainTree old f → HasPlainTree old x
+    → IfOk made (λ id. id.0 < length trees.terms) → IfOk made (λ id. Holds trees id.0 (app (term_at old f) (term_at old x)))
+    → IfOk made (λ id. HasPlainTree trees id.0)
 app_held old trees (Ok id) f x p q k h = tree_held trees id.0 _ k h (record { told = λ m. (p.plain.told m, q.plain.told m) })
 app_held old trees (Err fault) f x p q k h = h
 
@@ -70,21 +78,28 @@ pub plain_kept : (old new : Trees) → Keeps old new → KeepsPlain old new
 plain_kept old new k = record { types = λ id h. type_stays old.types new.types id k.types h; terms = λ id h. tree_stays old new id k h }
 
 -- what a translation asks of a type, and of a term
-pub type_told : (m : List Declaration) (types : List HolType) (id : ℕ) → HasPlainType types id → (symbols : SymbolMap) × TellsType m symbols (type.tree_at types id)
+pub type_told : (m : List Declaration) (types : List HolType) (id : ℕ) → HasPlainType types id → (symbols : SymbolMap)
+    × TellsType m symbols (type.tree_at types id)
 type_told m types id h = (input_symbols, h.plain.told m)
 
 pub term_told : (m : List Declaration) (trees : Trees) (id : ℕ) → HasPlainTree trees id → (symbols : SymbolMap) × TellsTerm m symbols (term_at trees id)
 term_told m trees id h = (input_symbols, h.plain.told m)
 
 -- and of the input constant, in a module that declares it
-pub input_told : (m : List Declaration) (types : List HolType) (id : ℕ) (n : Name) → m ≡ input_module → n ≡ codes "u" ∷ [] → HasPlainType types id → (symbols : SymbolMap) × TellsConstant m symbols n (type.tree_at types id)
+pub input_told : (m : List Declaration) (types : List HolType) (id : ℕ) (n : Name) → m ≡ input_module → n ≡ codes "u" ∷ [] → HasPlainType types id
+    → (symbols : SymbolMap) × TellsConstant m symbols n (type.tree_at types id)
 input_told m types id n e f h =
-    let told : TellsConstant input_module input_symbols (codes "u" ∷ []) (type.tree_at types id) = record { named = refl; declared = refl; instance = ((codes "A" ∷ [], type.tree_at types id) ∷ [], refl); ty = h.plain.told input_module } in
-    (input_symbols, subst (λ k. TellsConstant m input_symbols k (type.tree_at types id)) (sym f) (subst (λ ds. TellsConstant ds input_symbols (codes "u" ∷ []) (type.tree_at types id)) (sym e) told))
+    let told : TellsConstant input_module input_symbols (codes "u" ∷ []) (type.tree_at types id) =
+    record { named = refl; declared = refl; instance = ((codes "A" ∷ [], type.tree_at types id) ∷ [], refl); ty = h.plain.told input_module } in (
+      input_symbols,
+      subst (λ k. TellsConstant m input_symbols k (type.tree_at types id)) (sym f)
+          (subst (λ ds. TellsConstant ds input_symbols (codes "u" ∷ []) (type.tree_at types id)) (sym e) told),
+    )
 
 -- a module's table may grow
 pub held_keeps : (m : Module) (trees : List Tree) → lp.Keeps m.table trees → IsHeld m → IsHeld (record { table = trees; decls = m.decls })
 held_keeps m trees k h = IsHeld-Keeps m trees k h
 
-pub declared_keeps : (m : Module) (trees : List Tree) → lp.Keeps m.table trees → IsHeld m → declarations_of (record { table = trees; decls = m.decls }) ≡ declarations_of m
+pub declared_keeps : (m : Module) (trees : List Tree) → lp.Keeps m.table trees → IsHeld m → declarations_of (record { table = trees; decls = m.decls })
+    ≡ declarations_of m
 declared_keeps m trees k h = declarations_of-Keeps m trees k h

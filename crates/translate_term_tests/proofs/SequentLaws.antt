@@ -75,7 +75,16 @@ quantified_told = record {
   told = record {
     is_sequent = record { no_repeats = no_repeats []; hypotheses = tt {0}; conclusion = refl };
     hypotheses = tt {0};
-    conclusion = (record { named = refl; declared = refl; instance = ((codes "A" ∷ [], function (function bool bool) bool) ∷ [], refl); ty = (refl, ((refl, ((refl, tt {0}), ((refl, tt {0}), tt {0}))), ((refl, tt {0}), tt {0}))) }, ((refl, tt {0}), (refl, tt {0})));
+    conclusion = (
+      record {
+        named = refl;
+        declared = refl;
+        instance = ((codes "A" ∷ [], function (function bool bool) bool) ∷ [], refl);
+        ty =
+            (refl, ((refl, ((refl, tt {0}), ((refl, tt {0}), tt {0}))), ((refl, tt {0}), tt {0})));
+      },
+      ((refl, tt {0}), (refl, tt {0})),
+    );
     closed = refl;
   };
 }
@@ -83,9 +92,12 @@ quantified_told = record {
 pub quantified_is : (c : ClosedSequent) → c ≡ quantified → IsToldClosed c
 quantified_is c e = subst IsToldClosed (sym e) quantified_told
 
-pub closed_told : (m : List Declaration) (c : ClosedSequent) → m ≡ input_module → IsToldClosed c → (symbols : SymbolMap) × (s : Sequent) × TellsClosed m symbols s c
+pub closed_told : (m : List Declaration) (c : ClosedSequent) → m ≡ input_module → IsToldClosed c → (symbols : SymbolMap) × (s : Sequent)
+    × TellsClosed m symbols s c
 closed_told m c e p = (input_symbols, p.sequent, subst (λ ds. TellsClosed ds input_symbols p.sequent c) (sym e) p.told)
 
 -- with one free variable more
-pub parameters_next : (xs ys : List ClosedTerm) (t : ClosedTerm) (n : ℕ) → ys ≡ xs ++ t ∷ [] → closed_term_view t ≡ parameter n → map closed_term_view xs ≡ parameters n → map closed_term_view ys ≡ parameters (n + 1)
-parameters_next xs ys t n e is h = rw add-one (ap (map closed_term_view) e ∙ map-append closed_term_view xs (t ∷ []) ∙ ap₂ (λ (us : List form.ClosedTerm) (u : form.ClosedTerm). us ++ u ∷ []) h is)
+pub parameters_next : (xs ys : List ClosedTerm) (t : ClosedTerm) (n : ℕ) → ys ≡ xs ++ t ∷ [] → closed_term_view t ≡ parameter n → map closed_term_view xs
+    ≡ parameters n → map closed_term_view ys ≡ parameters (n + 1)
+parameters_next xs ys t n e is h = rw add-one
+    (ap (map closed_term_view) e ∙ map-append closed_term_view xs (t ∷ []) ∙ ap₂ (λ (us : List form.ClosedTerm) (u : form.ClosedTerm). us ++ u ∷ []) h is)

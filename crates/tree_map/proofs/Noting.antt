@@ -14,7 +14,8 @@ module _ {K V : Type 0} where
   -- what is noted in a first part is noted
   pub IsNoted-left : (es fs : List (K × V)) (p : K) (r : V) → IsNoted es p r → IsNoted (es ++ fs) p r
   IsNoted-left [] fs p r h = absurd (IsNoted-none [] refl p r h)
-  IsNoted-left (e ∷ es) fs p r h = ⊎_elim (λ a. IsNoted-front e (es ++ fs) p r a) (λ a. IsNoted-behind e (es ++ fs) p r (IsNoted-left es fs p r a)) (IsNoted-cons e es p r h)
+  IsNoted-left (e ∷ es) fs p r h = ⊎_elim (λ a. IsNoted-front e (es ++ fs) p r a) (λ a. IsNoted-behind e (es ++ fs) p r (IsNoted-left es fs p r a))
+      (IsNoted-cons e es p r h)
 
   -- what is noted in a last part is noted
   pub IsNoted-right : (es fs : List (K × V)) (p : K) (r : V) → IsNoted fs p r → IsNoted (es ++ fs) p r
@@ -25,7 +26,8 @@ module _ {K V : Type 0} where
   pub IsNoted-append : (es fs : List (K × V)) (p : K) (r : V) → IsNoted (es ++ fs) p r → IsNoted es p r ⊎ IsNoted fs p r
   IsNoted-append [] fs p r h = inr h
   IsNoted-append (e ∷ es) fs p r h =
-      ⊎_elim (λ a. inl (IsNoted-front e es p r a)) (λ a. ⊎_elim (λ b. inl (IsNoted-behind e es p r b)) (λ b. inr b) (IsNoted-append es fs p r a)) (IsNoted-cons e (es ++ fs) p r h)
+      ⊎_elim (λ a. inl (IsNoted-front e es p r a)) (λ a. ⊎_elim (λ b. inl (IsNoted-behind e es p r b)) (λ b. inr b) (IsNoted-append es fs p r a))
+      (IsNoted-cons e (es ++ fs) p r h)
 
 -- keys with a test that is exact
 module _ {K V : Type 0} (eq : K → K → Bool) (exact : (x y : K) → eq x y ≡ true → x ≡ y) (own : (x : K) → eq x x ≡ true) (p : K) where
@@ -34,7 +36,8 @@ module _ {K V : Type 0} (eq : K → K → Bool) (exact : (x y : K) → eq x y �
   lookup-find [] = refl
   lookup-find (e ∷ es) = go (lookup-find es) (eq p e.0)
     where
-      go : lookup (eq p) es ≡ option_map (λ x. x.1) (find (λ x. eq p x.0) es) → (b : Bool) → (if b then Some e.1 else lookup (eq p) es) ≡ option_map (λ x. x.1) (if b then Some e else find (λ x. eq p x.0) es)
+      go : lookup (eq p) es ≡ option_map (λ x. x.1) (find (λ x. eq p x.0) es) → (b : Bool) → (if b then Some e.1 else lookup (eq p) es)
+          ≡ option_map (λ x. x.1) (if b then Some e else find (λ x. eq p x.0) es)
       go on true = refl
       go on false = on
 
@@ -56,7 +59,8 @@ module _ {K V : Type 0} (cmp : K → K → Ordering) (exact : (x y : K) → eq_b
       go : (IsNoted (insert_entry cmp es k v) p r → IsNoted es p r ⊎ ((p ≡ k) × (r ≡ v))) → (o : Ordering) → cmp k e.0 ≡ o
           → IsNoted (match_ordering o ((k, v) ∷ e ∷ es) ((e.0, v) ∷ es) (e ∷ insert_entry cmp es k v)) p r → IsNoted (e ∷ es) p r ⊎ ((p ≡ k) × (r ≡ v))
       go on Less q w = ⊎_elim (λ a. inr (sym a.0, sym a.1)) (λ a. inl a) (IsNoted-cons (k, v) (e ∷ es) p r w)
-      go on Equal q w = ⊎_elim (λ a. inr (sym (exact k e.0 (ap is_eq q) ∙ a.0), sym a.1)) (λ a. inl (IsNoted-behind e es p r a)) (IsNoted-cons (e.0, v) es p r w)
+      go on Equal q w = ⊎_elim (λ a. inr (sym (exact k e.0 (ap is_eq q) ∙ a.0), sym a.1)) (λ a. inl (IsNoted-behind e es p r a))
+          (IsNoted-cons (e.0, v) es p r w)
       go on Greater q w = ⊎_elim
           (λ a. inl (IsNoted-front e es p r a))
           (λ a. ⊎_elim (λ b. inl (IsNoted-behind e es p r b)) (λ b. inr b) (on a))
@@ -67,7 +71,8 @@ module _ {K V : Type 0} (cmp : K → K → Ordering) (exact : (x y : K) → eq_b
   insert_entry-new [] = (0, refl)
   insert_entry-new (e ∷ es) = go (insert_entry-new es) (cmp k e.0) refl
     where
-      go : IsNoted (insert_entry cmp es k v) k v → (o : Ordering) → cmp k e.0 ≡ o → IsNoted (match_ordering o ((k, v) ∷ e ∷ es) ((e.0, v) ∷ es) (e ∷ insert_entry cmp es k v)) k v
+      go : IsNoted (insert_entry cmp es k v) k v → (o : Ordering) → cmp k e.0 ≡ o
+          → IsNoted (match_ordering o ((k, v) ∷ e ∷ es) ((e.0, v) ∷ es) (e ∷ insert_entry cmp es k v)) k v
       go on Less q = (0, refl)
       go on Equal q = IsNoted-front (e.0, v) es k v (sym (exact k e.0 (ap is_eq q)), refl)
       go on Greater q = IsNoted-behind e (insert_entry cmp es k v) k v on
@@ -110,7 +115,8 @@ module _ {K V : Type 0} (cmp : K → K → Ordering) (exact : (x y : K) → eq_b
     (es fs gs old : List (K × V)) (k : K) (v : V) (was : es ++ fs ≡ old) (is : gs ≡ insert_entry cmp es k v) where
   pub put-noted : (p : K) (r : V) → IsNoted (gs ++ fs) p r → IsNoted old p r ⊎ ((p ≡ k) × (r ≡ v))
   put-noted p r h = ⊎_elim
-      (λ a. ⊎_elim (λ b. inl (subst (λ l. IsNoted l p r) was (IsNoted-left es fs p r b))) (λ b. inr b) (insert_entry-noted cmp exact k v es p r (subst (λ l. IsNoted l p r) is a)))
+      (λ a. ⊎_elim (λ b. inl (subst (λ l. IsNoted l p r) was (IsNoted-left es fs p r b))) (λ b. inr b)
+      (insert_entry-noted cmp exact k v es p r (subst (λ l. IsNoted l p r) is a)))
       (λ a. inl (subst (λ l. IsNoted l p r) was (IsNoted-right es fs p r a)))
       (IsNoted-append gs fs p r h)
 

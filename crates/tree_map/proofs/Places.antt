@@ -69,7 +69,8 @@ module _ {T : Type 0} (p : T → Bool) where
   none_more None = refl
   none_more (Some n) = let e : n ≡ 0 + n = omega arith in ap Some e
 
-  later : (x : T) (xs ys : List T) (n : ℕ) (b : Bool) → p x ≡ b → (o : Option ℕ) → place p xs ≡ o → ((m : ℕ) → place p xs ≡ Some m → place p (xs ++ ys) ≡ Some m)
+  later : (x : T) (xs ys : List T) (n : ℕ) (b : Bool) → p x ≡ b → (o : Option ℕ) → place p xs ≡ o
+      → ((m : ℕ) → place p xs ≡ Some m → place p (xs ++ ys) ≡ Some m)
       → place p (x ∷ xs) ≡ Some n → place p (x ∷ (xs ++ ys)) ≡ Some n
   later x xs ys n true h o _ _ e = place-yes x (xs ++ ys) h ∙ sym (place-yes x xs h) ∙ e
   later x xs ys n false h (Some m) g more e = place-no x (xs ++ ys) h ∙ ap (option_map suc) (more m g ∙ sym g) ∙ sym (place-no x xs h) ∙ e
@@ -80,7 +81,8 @@ module _ {T : Type 0} (p : T → Bool) where
   place-append-Some [] ys n e = absurd (cc)
   place-append-Some (x ∷ xs) ys n e = later x xs ys n (p x) refl (place p xs) refl (λ m g. place-append-Some xs ys m g) e
 
-  behind : (x : T) (xs ys : List T) (b : Bool) → p x ≡ b → (o : Option ℕ) → place p xs ≡ o → (place p xs ≡ None → place p (xs ++ ys) ≡ option_map (λ n. length xs + n) (place p ys))
+  behind : (x : T) (xs ys : List T) (b : Bool) → p x ≡ b → (o : Option ℕ) → place p xs ≡ o
+      → (place p xs ≡ None → place p (xs ++ ys) ≡ option_map (λ n. length xs + n) (place p ys))
       → place p (x ∷ xs) ≡ None → place p (x ∷ (xs ++ ys)) ≡ option_map (λ n. suc (length xs) + n) (place p ys)
   behind x xs ys true h o _ _ e = absurd (let bad : Some 0 ≡ None = sym (place-yes x xs h) ∙ e in cc)
   behind x xs ys false h (Some m) g more e = absurd (let bad : Some (suc m) ≡ None = sym (ap (option_map suc) g) ∙ sym (place-no x xs h) ∙ e in cc)
@@ -125,7 +127,8 @@ module _ {T : Type 0} (p : T → Bool) where
 -- tests that answer alike have one place
 pub place-same : {T : Type 0} (p q : T → Bool) → ((x : T) → p x ≡ q x) → (xs : List T) → place p xs ≡ place q xs
 place-same p q h [] = refl
-place-same p q h (x ∷ xs) = ap (λ b. cond b (Some 0) (option_map suc (place p xs))) (h x) ∙ ap (λ o. cond (q x) (Some 0) (option_map suc o)) (place-same p q h xs)
+place-same p q h (x ∷ xs) = ap (λ b. cond b (Some 0) (option_map suc (place p xs))) (h x) ∙ ap (λ o. cond (q x) (Some 0) (option_map suc o))
+    (place-same p q h xs)
 
 -- an item of a list with one more
 push_at : {X : Type 0} (xs : List X) (y x : X) (n : ℕ) → slice_get (xs ++ y ∷ []) n ≡ Some x → (slice_get xs n ≡ Some x) ⊎ ((n ≡ length xs) × (y ≡ x))
@@ -161,7 +164,8 @@ module _ {T : Type 0} {eq : T → T → Bool} (laws : IsEquivalence eq) where
       at q false e = u q ∙ ap (λ b. cond b (Some (length keys)) (place (eq q) keys)) e ∙ sym (place-push_other (eq q) keys y (laws.symm q y ∙ e))
 
   -- where a new key comes, each key is found
-  pub ArePlaced-push : (old new : T → Option ℕ) (keys : List T) (y : T) → ArePlaced eq old keys → place (eq y) keys ≡ None → (8 ≤ length keys → FindsWith eq new keys y) → ArePlaced eq new (keys ++ y ∷ [])
+  pub ArePlaced-push : (old new : T → Option ℕ) (keys : List T) (y : T) → ArePlaced eq old keys → place (eq y) keys ≡ None
+      → (8 ≤ length keys → FindsWith eq new keys y) → ArePlaced eq new (keys ++ y ∷ [])
   ArePlaced-push old new keys y a nowhere u = record {
     at = λ h. Finds-push new keys y nowhere (u (let l = length-append keys (y ∷ []) in omega (arith, h, l)));
     once = λ n x e. ⊎_elim (λ f. place-append-Some (eq x) keys (y ∷ []) n (a.once n x f)) (λ f. last_one n x f.0 f.1) (push_at keys y x n e);
@@ -171,7 +175,8 @@ module _ {T : Type 0} {eq : T → T → Bool} (laws : IsEquivalence eq) where
       last_one n x m e = subst (λ z. place (eq z) (keys ++ y ∷ []) ≡ Some n) e (place-push_new (eq y) keys y nowhere (laws.refl y) ∙ ap Some (sym m))
 
   -- a key is none of those before its place
-  before : (front back : List T) (y : T) (o : Option ℕ) → place (eq y) front ≡ o → place (eq y) (front ++ back) ≡ Some (length front) → place (eq y) front ≡ None
+  before : (front back : List T) (y : T) (o : Option ℕ) → place (eq y) front ≡ o → place (eq y) (front ++ back) ≡ Some (length front) → place (eq y) front
+      ≡ None
   before front back y None h e = h
   before front back y (Some n) h e =
       let s = same_Some n (length front) (sym (place-append-Some (eq y) front back n h) ∙ e) in
@@ -179,7 +184,8 @@ module _ {T : Type 0} {eq : T → T → Bool} (laws : IsEquivalence eq) where
       absurd (omega (arith, s, less))
 
   -- where the last key goes, each key that stays is found
-  pub ArePlaced-pop : (old new : T → Option ℕ) (keys : List T) (y : T) → ArePlaced eq old (keys ++ y ∷ []) → ((q : T) → new q ≡ cond (eq y q) None (old q)) → ArePlaced eq new keys
+  pub ArePlaced-pop : (old new : T → Option ℕ) (keys : List T) (y : T) → ArePlaced eq old (keys ++ y ∷ []) → ((q : T) → new q ≡ cond (eq y q) None (old q))
+      → ArePlaced eq new keys
   ArePlaced-pop old new keys y a u = record {
     at = λ h q. found q (a.at (let l = length-append keys (y ∷ []) in omega (arith, h, l)) q) (eq y q) refl;
     once = λ n x e. stays n x e (place (eq x) keys) refl;
@@ -201,17 +207,22 @@ module _ {T : Type 0} {eq : T → T → Bool} (laws : IsEquivalence eq) where
           past (Some k) f = let s = same_Some (length keys + k) n f in let less = at-within keys x n e in omega (arith, s, less)
 
   -- one more key in the tree that is made anew
-  pub Finds-more : (old new : T → Option ℕ) (keys : List T) (i : ℕ) (y : T) → ((n : ℕ) (x : T) → slice_get keys n ≡ Some x → place (eq x) keys ≡ Some n) → i < length keys → y ≡ get_or keys i y
+  pub Finds-more : (old new : T → Option ℕ) (keys : List T) (i : ℕ) (y : T) → ((n : ℕ) (x : T) → slice_get keys n ≡ Some x → place (eq x) keys ≡ Some n)
+      → i < length keys → y ≡ get_or keys i y
       → Finds eq old (take i keys) → ((q : T) → new q ≡ cond (eq y q) (Some i) (old q)) → Finds eq new (take (i + 1) keys)
   Finds-more old new keys i y once h e f u =
       let len : length (take i keys) ≡ i = length-take-le i keys (omega (arith, h)) in
       let at : place (eq y) keys ≡ Some i = once i y (slice_get-get_or keys i y h ∙ ap Some (sym e)) in
-      let nowhere = before (take i keys) (drop i keys) y (place (eq y) (take i keys)) refl (ap (place (eq y)) (take-append-drop i keys) ∙ at ∙ ap Some (sym len)) in
-      let both : FindsWith eq new (take i keys) y = λ q. u q ∙ ap (cond (eq y q) (Some i)) (f q) ∙ ap (λ n. cond (eq y q) (Some n) (place (eq q) (take i keys))) (sym len) in
-      subst (Finds eq new) (sym (ap (λ n. take n keys) (add-one i) ∙ take-suc keys i y h ∙ ap (λ x. take i keys ++ x ∷ []) (sym e))) (Finds-push new (take i keys) y nowhere both)
+      let nowhere = before (take i keys) (drop i keys) y (place (eq y) (take i keys)) refl
+      (ap (place (eq y)) (take-append-drop i keys) ∙ at ∙ ap Some (sym len)) in
+      let both : FindsWith eq new (take i keys) y =
+      λ q. u q ∙ ap (cond (eq y q) (Some i)) (f q) ∙ ap (λ n. cond (eq y q) (Some n) (place (eq q) (take i keys))) (sym len) in
+      subst (Finds eq new) (sym (ap (λ n. take n keys) (add-one i) ∙ take-suc keys i y h ∙ ap (λ x. take i keys ++ x ∷ []) (sym e)))
+      (Finds-push new (take i keys) y nowhere both)
 
 -- where each key is found still, the keys are placed still
-pub ArePlaced-still : {T : Type 0} (eq : T → T → Bool) (old new : T → Option ℕ) (keys : List T) → ArePlaced eq old keys → (8 < length keys → Finds eq new keys) → ArePlaced eq new keys
+pub ArePlaced-still : {T : Type 0} (eq : T → T → Bool) (old new : T → Option ℕ) (keys : List T) → ArePlaced eq old keys → (8 < length keys → Finds eq new keys)
+    → ArePlaced eq new keys
 ArePlaced-still eq old new keys a f = record { at = f; once = a.once }
 
 -- a shorter first part of a first part
@@ -251,7 +262,8 @@ module _ {T E : Type 0} (eq : T → T → Bool) (old new : List T) (k : T) where
   entered_keys (Ok n) none h = h ∙ insert_key-new eq k old none
   entered_keys (Err e) none h = tt
 
-  pub entered_index : (r : Result (ℕ × Bool) E) → place (eq k) old ≡ None → IfOk r (λ n. n ≡ (length old, true)) → IfOk r (λ n. n.0 ≡ position_or_len (eq k) old)
+  pub entered_index : (r : Result (ℕ × Bool) E) → place (eq k) old ≡ None → IfOk r (λ n. n ≡ (length old, true))
+      → IfOk r (λ n. n.0 ≡ position_or_len (eq k) old)
   entered_index (Ok n) none h = ap (λ m. m.0) h ∙ position-new eq k old none
   entered_index (Err e) none h = tt
 
@@ -266,6 +278,7 @@ module _ {T E : Type 0} (eq : T → T → Bool) (old new : List T) (k : T) where
   entered_added (Ok n) none h = ap (λ m. m.1) h ∙ added-new eq k old none
   entered_added (Err e) none h = tt
 
-  pub entered_places : (P : List T → Type 0) (r : Result (ℕ × Bool) E) {A : Type 0} {B : Type 0} → OnOk r (new ≡ old ++ k ∷ []) → OnOk r A → OnErr r ((new ≡ old) × B) → (A → P (old ++ k ∷ [])) → (B → P old) → P new
+  pub entered_places : (P : List T → Type 0) (r : Result (ℕ × Bool) E) {A : Type 0} {B : Type 0} → OnOk r (new ≡ old ++ k ∷ []) → OnOk r A
+      → OnErr r ((new ≡ old) × B) → (A → P (old ++ k ∷ [])) → (B → P old) → P new
   entered_places P (Ok n) h a b f g = subst P (sym h) (f a)
   entered_places P (Err e) h a b f g = subst P (sym b.0) (g b.1)

@@ -47,7 +47,8 @@ module _ {K V : Type 0} (eq : K → K → Bool) (exact : (x y : K) → eq x y �
   lookup-absent [] h r n = IsNoted-none [] refl p r n
   lookup-absent (e ∷ es) h r n = go (λ w. lookup-absent es w r) (eq p e.0) refl h (IsNoted-cons e es p r n)
     where
-      go : (lookup (eq p) es ≡ None → IsNoted es p r → ⊥) → (b : Bool) → eq p e.0 ≡ b → (if b then Some e.1 else lookup (eq p) es) ≡ None → ((e.0 ≡ p) × (e.1 ≡ r)) ⊎ IsNoted es p r → ⊥
+      go : (lookup (eq p) es ≡ None → IsNoted es p r → ⊥) → (b : Bool) → eq p e.0 ≡ b → (if b then Some e.1 else lookup (eq p) es) ≡ None
+          → ((e.0 ≡ p) × (e.1 ≡ r)) ⊎ IsNoted es p r → ⊥
       go on true q w n = cc
       go on false q w (inl a) = let k : true ≡ false = sym (own p) ∙ ap (eq p) (sym a.0) ∙ q in cc
       go on false q w (inr a) = on w a

@@ -18,7 +18,8 @@ name_apart : (d r : List ℕ) → ((34 ∷ 99 ∷ (d ++ 34 ∷ [])) ++ 10 ∷ []
 name_apart d r = ap (λ l. 34 ∷ 99 ∷ l) (append_assoc (d ++ 34 ∷ []) (10 ∷ []) r ∙ append_assoc d (34 ∷ []) (10 ∷ r))
 
 -- a block by its parts, with the number that it writes
-pub block_parts : (i : ℕ) (number : List ℕ) → number ≡ decimal i → lines (block i) ≡ codes "\"c" ++ (number ++ ((codes "\"\n" ++ lines defined) ++ (lines (chained i) ++ lines kept)))
+pub block_parts : (i : ℕ) (number : List ℕ) → number ≡ decimal i → lines (block i) ≡ codes "\"c"
+    ++ (number ++ ((codes "\"\n" ++ lines defined) ++ (lines (chained i) ++ lines kept)))
 block_parts i number is =
     ap (λ l. (name_line i ++ codes "\n") ++ (lines defined ++ l)) (lines-append (chained i) kept)
     ∙ name_apart (decimal i) (lines defined ++ (lines (chained i) ++ lines kept))
@@ -29,7 +30,8 @@ trial_parts n = ap (λ l. lines beginning ++ l) (lines-append (blocks n) ending)
 
 -- one block more
 pub next_block : (k : ℕ) → lines (blocks (k + 1)) ≡ lines (blocks k) ++ lines (block (k + 1))
-next_block k = ap (λ m. lines (blocks m)) (add-one k) ∙ lines-append (blocks k) (block (suc k)) ∙ ap (λ m. lines (blocks k) ++ lines (block m)) (sym (add-one k))
+next_block k = ap (λ m. lines (blocks m)) (add-one k) ∙ lines-append (blocks k) (block (suc k))
+    ∙ ap (λ m. lines (blocks k) ++ lines (block m)) (sym (add-one k))
 
 -- all blocks begin with the first k of them
 blocks_from : (k d : ℕ) → (rest : List ℕ) × (lines (blocks (k + d)) ≡ lines (blocks k) ++ rest)

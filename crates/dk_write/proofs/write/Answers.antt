@@ -11,7 +11,8 @@ returns-in_err-write_prelude-clause-err g c = on_err _ (front_part _ _ [] _ _ _ 
 pub returns-in_err-write_decl-clause-err : goal.returns-in_err-write_decl-clause-err
 returns-in_err-write_decl-clause-err g c =
     let m = declarations_of c.args.source.now in
-    on_err _ (gained_front _ _ _ _ _ c.loop-i.invariant.text (front_part _ _ [] _ _ _ (drop-line_at m c.args.bounds.now c.loop-i.i) c.in_err-write_decl.ensures.err))
+    on_err _ (gained_front _ _ _ _ _ c.loop-i.invariant.text
+    (front_part _ _ [] _ _ _ (drop-line_at m c.args.bounds.now c.loop-i.i) c.in_err-write_decl.ensures.err))
 
 pub loop-i-preserved : goal.loop-i-preserved
 loop-i-preserved g c =
@@ -25,7 +26,10 @@ loop-i-preserved g c =
 pub returns-clause-ok : goal.returns-clause-ok
 returns-clause-ok g c =
     let m = declarations_of c.args.source.now in
-    gained_all _ _ _ _ (drop-end m c.args.bounds.now c.loop-i.i (omega (arith, c.loop-i-test.false, c.requires.bounds, length-map c.args.source.now.decls (declaration_in c.args.source.now.table)))) c.loop-i.invariant.text
+    gained_all _ _ _ _
+    (drop-end m c.args.bounds.now c.loop-i.i
+    (omega (arith, c.loop-i-test.false, c.requires.bounds, length-map c.args.source.now.decls (declaration_in c.args.source.now.table))))
+    c.loop-i.invariant.text
 
 pub write_decl-requires-clause-room : goal.write_decl-requires-clause-room
 write_decl-requires-clause-room g c = rw c.loop-i.invariant.room c.requires.room

@@ -22,7 +22,8 @@ loop-item-init c =
     let n = needs-length p c.in_ok-items.items c.in_ok-items.ensures in
     let first = c.in_ok-walk.walk in
     let flags = c.in_ok-flags.flags.items in
-    let begun = looked-first p order c.args.exports.now first c.want_steps.new.self flags c.in_ok-walk.ensures.marks c.in_ok-walk.ensures.tasks c.want_steps.ensures.walk c.want_steps.ensures.wants
+    let begun = looked-first p order c.args.exports.now first c.want_steps.new.self flags c.in_ok-walk.ensures.marks c.in_ok-walk.ensures.tasks
+    c.want_steps.ensures.walk c.want_steps.ensures.wants
     (c.want_steps.ensures.tasks ∙ c.in_ok-walk.ensures.tasks) (c.in_ok-flags.ensures.count ∙ c.count.ensures ∙ n) c.in_ok-flags.ensures.unset in
     subst (IsLooked p c.args.exports.now c.want_steps.new.self flags) (sym (c.count-item.ensures ∙ n)) begun
 
@@ -39,7 +40,8 @@ loop-item-preserved c =
     let e : j ≡ suc i = omega (arith, c.loop-item-test.true) in
     let ends = c.in_ok-flags-2.ensures in
     subst (λ b. IsLooked p c.args.exports.now v (slice_set flags i b) i) (sym ends.is)
-    (looked-next p order c.args.exports.now w v flags i j c.loop-item.invariant e (need_keys p (need_at items i)) (λ x at. needs-at p items c.in_ok-items.ensures i need.Nothing x at) ends.walk ends.tasks ends.wants)
+    (looked-next p order c.args.exports.now w v flags i j c.loop-item.invariant e (need_keys p (need_at items i))
+    (λ x at. needs-at p items c.in_ok-items.ensures i need.Nothing x at) ends.walk ends.tasks ends.wants)
 
 pub returns : goal.returns
 returns c =

@@ -16,7 +16,8 @@ returns-clause-encoded c =
     IfOk-weaker c.closed_type.result _ _
     (λ r h symbols s told within meant.
     subst (Enc d (closed_view c.args.closed.now)) (sym (Holds-tree_at _ r.0 _ (h symbols s told)))
-    (subst (λ f. Enc d f (sequent_tree symbols s)) told.closed (sequent_tree-Enc d symbols s told.is_sequent within (TellsClosed-HasInstances d symbols s (closed_view c.args.closed.now) told) meant)))
+    (subst (λ f. Enc d f (sequent_tree symbols s)) told.closed
+    (sequent_tree-Enc d symbols s told.is_sequent within (TellsClosed-HasInstances d symbols s (closed_view c.args.closed.now) told) meant)))
     c.closed_type.ensures.made
 
 pub returns-clause-known : goal.returns-clause-known

@@ -16,5 +16,7 @@ returns-in_err-write_blocks g c =
 
 pub returns : goal.returns
 returns g c =
-    let w = writes_same _ _ (trial_parts c.args.n) (writes_then _ _ _ _ _ _ _ _ _ _ _ c.in_ok-put.was c.put.ensures (writes_then _ _ _ _ _ _ _ _ _ _ _ c.in_ok-write_blocks.was c.write_blocks.ensures c.put-2.ensures)) in
+    let w = writes_same _ _ (trial_parts c.args.n)
+    (writes_then _ _ _ _ _ _ _ _ _ _ _ c.in_ok-put.was c.put.ensures
+    (writes_then _ _ _ _ _ _ _ _ _ _ _ c.in_ok-write_blocks.was c.write_blocks.ensures c.put-2.ensures)) in
     record { ok = w.ok; err = w.err; cause = w.cause }

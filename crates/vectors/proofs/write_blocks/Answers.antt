@@ -7,7 +7,8 @@ use Rattle.vectors.proofs.write_blocks.Goals as goal
 
 pub returns-in_err-write_block : goal.returns-in_err-write_block
 returns-in_err-write_block g c =
-    writes_failed _ _ _ _ _ _ _ _ _ _ _ _ _ c.in_err-write_block.was c.from_residual.ensures.0 (blocks_at c.loop-before.before c.args.n c.loop-before-test.true).1
+    writes_failed _ _ _ _ _ _ _ _ _ _ _ _ _ c.in_err-write_block.was c.from_residual.ensures.0
+    (blocks_at c.loop-before.before c.args.n c.loop-before-test.true).1
     c.loop-before.invariant.text c.loop-before.invariant.later c.write_block.ensures
 
 pub loop-before-preserved : goal.loop-before-preserved

@@ -17,7 +17,8 @@ pub loop-id-preserved : goal.loop-id-preserved
 loop-id-preserved c =
     let low : c.loop-id.id < step_count c.args.proof.now = omega (arith, c.loop-id-test.true, c.len-id-end.ensures) in
     elim c.if-told-id.branch [
-      | then-told-id+in_ok-count_step w ↦ next-counted c.if-told-id.counted w.count_step.new.self c.requires.pairs low w.if-told-id.true w.counted-is w.in_ok-count_step.ensures c.loop-id.invariant
+      | then-told-id+in_ok-count_step w ↦ next-counted c.if-told-id.counted w.count_step.new.self c.requires.pairs low w.if-told-id.true w.counted-is
+          w.in_ok-count_step.ensures c.loop-id.invariant
       | else-told-id w ↦ next-skipped c.if-told-id.counted low w.if-told-id.false w.counted-is c.loop-id.invariant
     ]
 
@@ -27,4 +28,5 @@ returns c = λ exports h.
     let all : length steps ≤ c.loop-id.id = omega (arith, c.loop-id-test.false, c.len-id-end.ensures) in
     let fits : 0 + length steps ≤ length c.args.is_export.now = omega (arith, c.requires.exports) in
     let done = walk-ends all c.loop-id.invariant in
-    done.tally.counted ∙ ap (λ (t : Tally). capped greatest_length t.length) (flagged-exports c.args.number c.args.told.now c.args.is_export.now exports 0 steps (tally_begun c.args.version) fits h)
+    done.tally.counted ∙ ap (λ (t : Tally). capped greatest_length t.length)
+    (flagged-exports c.args.number c.args.told.now c.args.is_export.now exports 0 steps (tally_begun c.args.version) fits h)

@@ -11,7 +11,8 @@ loop-task-init c =
     let trees = c.args.terms.now in
     let root = uses 0 (term_at trees c.args.id.0) in
     let w : UsesWalk = record { tasks = c.push.new.self; sums = c.new-2.result; memo = c.new-3.result } in
-    let tasks : c.push.new.self ≡ task.Visit (record { id = c.args.id; depth = 0 }) ∷ [] = c.in_ok-push.ensures.pushed ∙ ap (λ l. task.Visit (record { id = c.args.id; depth = 0 }) ∷ l) c.new.ensures.empty in
+    let tasks : c.push.new.self ≡ task.Visit (record { id = c.args.id; depth = 0 }) ∷ [] =
+    c.in_ok-push.ensures.pushed ∙ ap (λ l. task.Visit (record { id = c.args.id; depth = 0 }) ∷ l) c.new.ensures.empty in
     subst (λ l. IsUsesWalk trees root l w) (sym tasks)
     (record {
       sums = [];

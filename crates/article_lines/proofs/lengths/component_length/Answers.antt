@@ -11,5 +11,6 @@ loop-byte-preserved c =
     let i = c.loop-byte.byte-index in
     let b = slice_index_or bytes i 0 in
     let text : length (component_text (take (i + 1) bytes)) ≡ length (component_text (take i bytes)) + length (byte_text b) =
-    ap length (next-byte bytes i (omega (arith, c.loop-byte-test.true, c.loop-byte.auto.byte-index-end))) ∙ length-append (component_text (take i bytes)) (byte_text b) in
+    ap length (next-byte bytes i (omega (arith, c.loop-byte-test.true, c.loop-byte.auto.byte-index-end)))
+    ∙ length-append (component_text (take i bytes)) (byte_text b) in
     record { counted = omega (arith, c.loop-byte.invariant.counted, c.byte_length.ensures, c.saturating_add-length.ensures, text) }

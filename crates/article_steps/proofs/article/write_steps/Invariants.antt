@@ -10,6 +10,9 @@ use Rattle.article_steps.proofs.article.write_steps.Given as goal
 -- those up to here are written, and theorems from here on have no key
 abbrev pub invariant-loop-id : goal.invariant-loop-id
 invariant-loop-id g l = record {
-  adds : Adds {T = Unit {0}} {E = Unit {0}} l.source.proof.now.trees (write_each (told_writer (flag l.source.told.now) (flagged_writer l.source.number (flag l.source.is_export.now))) (take l.id (numbered_from 0 (steps_of l.source.proof.now.made)))) l.fn.keys (g.S.Sink.got l.fn.sink) (g.S.Sink.faults l.fn.sink) l.keys l.room.room (g.S.Sink.got l.sink) (g.S.Sink.faults l.sink) (Ok tt);
+  adds : Adds {T = Unit {0}} {E = Unit {0}} l.source.proof.now.trees
+      (write_each (told_writer (flag l.source.told.now) (flagged_writer l.source.number (flag l.source.is_export.now)))
+      (take l.id (numbered_from 0 (steps_of l.source.proof.now.made)))) l.fn.keys (g.S.Sink.got l.fn.sink) (g.S.Sink.faults l.fn.sink) l.keys l.room.room
+      (g.S.Sink.got l.sink) (g.S.Sink.faults l.sink) (Ok tt);
   new : AreNewFrom (steps_of l.source.proof.now.made) l.keys l.id;
 }

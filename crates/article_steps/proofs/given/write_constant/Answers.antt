@@ -8,10 +8,13 @@ use Rattle.article_steps.proofs.given.write_constant.Goals as goal
 
 pub returns-in_err-write_name : goal.returns-in_err-write_name
 returns-in_err-write_name g c =
-    adds-stop c.args.terms.now (say_name c.args.constant.name.now) (write_term c.args.number (term_at c.args.terms.now c.args.constant.id.0)) _ _ _ _ _ _ _ _ _ _ _ (appends-under c.args.number _ (term_at c.args.terms.now c.args.constant.id.0)) c.in_err-write_name.was c.from_residual.ensures.0
+    adds-stop c.args.terms.now (say_name c.args.constant.name.now) (write_term c.args.number (term_at c.args.terms.now c.args.constant.id.0)) _ _ _ _ _ _ _ _ _
+    _ _ (appends-under c.args.number _ (term_at c.args.terms.now c.args.constant.id.0)) c.in_err-write_name.was c.from_residual.ensures.0
     (adds-say c.args.terms.now (item.Name c.args.constant.name.now) c.args.keys.now c.args.room.now.room _ _ _ _ _ c.requires.ready c.write_name.ensures)
 
 pub returns : goal.returns
 returns g c =
-    adds-then c.args.terms.now (say_name c.args.constant.name.now) (write_term c.args.number (term_at c.args.terms.now c.args.constant.id.0)) _ _ _ _ _ _ _ _ _ _ _ _ _ _ (appends-under c.args.number _ (term_at c.args.terms.now c.args.constant.id.0)) c.in_ok-write_name.was
-    (adds-say c.args.terms.now (item.Name c.args.constant.name.now) c.args.keys.now c.args.room.now.room _ _ _ _ _ c.requires.ready c.write_name.ensures) c.write_term.ensures
+    adds-then c.args.terms.now (say_name c.args.constant.name.now) (write_term c.args.number (term_at c.args.terms.now c.args.constant.id.0)) _ _ _ _ _ _ _ _ _
+    _ _ _ _ _ (appends-under c.args.number _ (term_at c.args.terms.now c.args.constant.id.0)) c.in_ok-write_name.was
+    (adds-say c.args.terms.now (item.Name c.args.constant.name.now) c.args.keys.now c.args.room.now.room _ _ _ _ _ c.requires.ready c.write_name.ensures)
+    c.write_term.ensures

@@ -10,22 +10,36 @@ use Rattle.article_steps.proofs.EachLaws.{adds-same, each-first, each-next, each
 use Rattle.article_steps.proofs.given.write_constant_pairs.Goals as goal
 
 pub loop-pair-init : goal.loop-pair-init
-loop-pair-init g c = record { adds = each-first (λ p. constant_pair_writer (pair_at c.args.terms.now p)) (λ p. appends-constant_pair (pair_at c.args.terms.now p)) c.args.terms.now c.args.pairs.now c.args.keys.now c.args.room.now.room _ _ c.requires.ready }
+loop-pair-init g c = record {
+  adds = each-first (λ p. constant_pair_writer (pair_at c.args.terms.now p)) (λ p. appends-constant_pair (pair_at c.args.terms.now p)) c.args.terms.now
+      c.args.pairs.now c.args.keys.now c.args.room.now.room _ _ c.requires.ready;
+}
 
 pub write_constant_pair-requires-clause-known : goal.write_constant_pair-requires-clause-known
-write_constant_pair-requires-clause-known g c = constant_pair-known c.args.terms.now c.args.pairs.now c.loop-pair.pair-index _ (item-at c.args.pairs.now c.loop-pair.pair-index c.pair-item.result c.pair-item.is c.loop-pair-test.true) c.requires.known
+write_constant_pair-requires-clause-known g c = constant_pair-known c.args.terms.now c.args.pairs.now c.loop-pair.pair-index _
+    (item-at c.args.pairs.now c.loop-pair.pair-index c.pair-item.result c.pair-item.is c.loop-pair-test.true) c.requires.known
 
 pub loop-pair-preserved : goal.loop-pair-preserved
 loop-pair-preserved g c = record {
-  adds = each-next (λ p. constant_pair_writer (pair_at c.args.terms.now p)) (λ p. appends-constant_pair (pair_at c.args.terms.now p)) c.args.terms.now c.args.pairs.now c.loop-pair.pair-index c.pair-item.result _ _ _ _ _ _ _ _ _ _ _ _ _ (item-at c.args.pairs.now c.loop-pair.pair-index c.pair-item.result c.pair-item.is c.loop-pair-test.true) c.in_ok-write_constant_pair.was c.loop-pair.invariant.adds c.write_constant_pair.ensures;
+  adds = each-next (λ p. constant_pair_writer (pair_at c.args.terms.now p)) (λ p. appends-constant_pair (pair_at c.args.terms.now p)) c.args.terms.now
+      c.args.pairs.now c.loop-pair.pair-index c.pair-item.result _ _ _ _ _ _ _ _ _ _ _ _ _
+      (item-at c.args.pairs.now c.loop-pair.pair-index c.pair-item.result c.pair-item.is c.loop-pair-test.true) c.in_ok-write_constant_pair.was
+      c.loop-pair.invariant.adds c.write_constant_pair.ensures;
 }
 
 pub returns-in_err-write_constant_pair : goal.returns-in_err-write_constant_pair
 returns-in_err-write_constant_pair g c =
     adds-same c.args.terms.now _ _ _ _ _ _ _ _ _ _ (list-viewed constant_pair_writer (pair_at c.args.terms.now) c.args.pairs.now _ refl)
-    (each-failed (λ p. constant_pair_writer (pair_at c.args.terms.now p)) (λ p. appends-constant_pair (pair_at c.args.terms.now p)) c.args.terms.now c.args.pairs.now c.loop-pair.pair-index c.pair-item.result _ _ _ _ _ _ _ _ _ _ _ _ _ _ _ (λ (d : Draft). conses (length c.args.pairs.now) (say_word word.Nil d)) (appends-listed (length c.args.pairs.now)) (item-at c.args.pairs.now c.loop-pair.pair-index c.pair-item.result c.pair-item.is c.loop-pair-test.true) c.in_err-write_constant_pair.was c.from_residual.ensures.0 c.loop-pair.invariant.adds c.write_constant_pair.ensures)
+    (each-failed (λ p. constant_pair_writer (pair_at c.args.terms.now p)) (λ p. appends-constant_pair (pair_at c.args.terms.now p)) c.args.terms.now
+    c.args.pairs.now c.loop-pair.pair-index c.pair-item.result _ _ _ _ _ _ _ _ _ _ _ _ _ _ _
+    (λ (d : Draft). conses (length c.args.pairs.now) (say_word word.Nil d)) (appends-listed (length c.args.pairs.now))
+    (item-at c.args.pairs.now c.loop-pair.pair-index c.pair-item.result c.pair-item.is c.loop-pair-test.true) c.in_err-write_constant_pair.was
+    c.from_residual.ensures.0 c.loop-pair.invariant.adds c.write_constant_pair.ensures)
 
 pub returns : goal.returns
 returns g c =
     adds-same c.args.terms.now _ _ _ _ _ _ _ _ _ _ (list-viewed constant_pair_writer (pair_at c.args.terms.now) c.args.pairs.now _ refl)
-    (each-done (λ p. constant_pair_writer (pair_at c.args.terms.now p)) (λ p. appends-constant_pair (pair_at c.args.terms.now p)) c.args.terms.now c.args.pairs.now c.loop-pair.pair-index _ _ _ _ _ _ _ _ _ _ _ _ (λ (d : Draft). conses (length c.args.pairs.now) (say_word word.Nil d)) (appends-listed (length c.args.pairs.now)) (omega (arith, c.loop-pair-test.false, c.loop-pair.auto.pair-index-end)) c.loop-pair.invariant.adds c.end_list.ensures)
+    (each-done (λ p. constant_pair_writer (pair_at c.args.terms.now p)) (λ p. appends-constant_pair (pair_at c.args.terms.now p)) c.args.terms.now
+    c.args.pairs.now c.loop-pair.pair-index _ _ _ _ _ _ _ _ _ _ _ _ (λ (d : Draft). conses (length c.args.pairs.now) (say_word word.Nil d))
+    (appends-listed (length c.args.pairs.now)) (omega (arith, c.loop-pair-test.false, c.loop-pair.auto.pair-index-end)) c.loop-pair.invariant.adds
+    c.end_list.ensures)

@@ -9,34 +9,45 @@ use Rattle.article_steps.proofs.EachLaws.{adds-same}
 use Rattle.article_steps.proofs.given.write_given.Goals as goal
 
 pub returns-in-Nothing : goal.returns-in-Nothing
-returns-in-Nothing g c = adds-same c.args.terms.now _ _ _ _ _ _ _ _ _ _ (λ d. ap (λ x. write_given c.args.number (parameters_view c.args.terms.now x) d) (sym c.in-Nothing.is)) (adds-nothing c.args.terms.now c.args.keys.now c.args.room.now.room _ _ _ _ refl c.requires.ready)
+returns-in-Nothing g c = adds-same c.args.terms.now _ _ _ _ _ _ _ _ _ _
+    (λ d. ap (λ x. write_given c.args.number (parameters_view c.args.terms.now x) d) (sym c.in-Nothing.is))
+    (adds-nothing c.args.terms.now c.args.keys.now c.args.room.now.room _ _ _ _ refl c.requires.ready)
 
 pub returns-in-Term : goal.returns-in-Term
-returns-in-Term g c = adds-same c.args.terms.now _ _ _ _ _ _ _ _ _ _ (λ d. ap (λ x. write_given c.args.number (parameters_view c.args.terms.now x) d) (sym c.in-Term.is)) c.write_term.ensures
+returns-in-Term g c = adds-same c.args.terms.now _ _ _ _ _ _ _ _ _ _
+    (λ d. ap (λ x. write_given c.args.number (parameters_view c.args.terms.now x) d) (sym c.in-Term.is)) c.write_term.ensures
 
 pub returns-in-Variable : goal.returns-in-Variable
-returns-in-Variable g c = adds-same c.args.terms.now _ _ _ _ _ _ _ _ _ _ (λ d. ap (λ x. write_given c.args.number (parameters_view c.args.terms.now x) d) (sym c.in-Variable.is)) c.write_variable.ensures
+returns-in-Variable g c = adds-same c.args.terms.now _ _ _ _ _ _ _ _ _ _
+    (λ d. ap (λ x. write_given c.args.number (parameters_view c.args.terms.now x) d) (sym c.in-Variable.is)) c.write_variable.ensures
 
 pub returns-in-Subst : goal.returns-in-Subst
 returns-in-Subst g c =
     adds-same c.args.terms.now (put_writer c.args.terms.now c.args.number c.get.result.now) _ _ _ _ _ _ _ _ _
-    (λ d. ap (λ p. put_writer c.args.terms.now c.args.number p d) c.get.ensures ∙ ap (λ x. write_given c.args.number (parameters_view c.args.terms.now x) d) (sym c.in-Subst.is)) c.write_substitution.ensures
+    (λ d. ap (λ p. put_writer c.args.terms.now c.args.number p d) c.get.ensures
+    ∙ ap (λ x. write_given c.args.number (parameters_view c.args.terms.now x) d) (sym c.in-Subst.is)) c.write_substitution.ensures
 
 pub returns-in-Sequent : goal.returns-in-Sequent
-returns-in-Sequent g c = adds-same c.args.terms.now _ _ _ _ _ _ _ _ _ _ (λ d. ap (λ x. write_given c.args.number (parameters_view c.args.terms.now x) d) (sym c.in-Sequent.is)) c.write_sequent.ensures
+returns-in-Sequent g c = adds-same c.args.terms.now _ _ _ _ _ _ _ _ _ _
+    (λ d. ap (λ x. write_given c.args.number (parameters_view c.args.terms.now x) d) (sym c.in-Sequent.is)) c.write_sequent.ensures
 
 pub returns-in-Const : goal.returns-in-Const
-returns-in-Const g c = adds-same c.args.terms.now _ _ _ _ _ _ _ _ _ _ (λ d. ap (λ x. write_given c.args.number (parameters_view c.args.terms.now x) d) (sym c.in-Const.is)) c.write_constant.ensures
+returns-in-Const g c = adds-same c.args.terms.now _ _ _ _ _ _ _ _ _ _
+    (λ d. ap (λ x. write_given c.args.number (parameters_view c.args.terms.now x) d) (sym c.in-Const.is)) c.write_constant.ensures
 
 pub returns-in-List : goal.returns-in-List
 returns-in-List g c =
     adds-same c.args.terms.now (write_list constant_pair_writer (pairs_at c.args.terms.now c.deref.result.now)) _ _ _ _ _ _ _ _ _
-    (λ d. ap (λ ps. write_list constant_pair_writer (pairs_at c.args.terms.now ps) d) c.deref.ensures.value ∙ ap (λ x. write_given c.args.number (parameters_view c.args.terms.now x) d) (sym c.in-List.is)) c.write_constant_pairs.ensures
+    (λ d. ap (λ ps. write_list constant_pair_writer (pairs_at c.args.terms.now ps) d) c.deref.ensures.value
+    ∙ ap (λ x. write_given c.args.number (parameters_view c.args.terms.now x) d) (sym c.in-List.is)) c.write_constant_pairs.ensures
 
 pub returns-in-TypeOp : goal.returns-in-TypeOp
 returns-in-TypeOp g c =
-    adds-same c.args.terms.now (λ d. write_list say_name c.deref-in-TypeOp.result.now (say_name c.in-TypeOp.rep (say_name c.in-TypeOp.abs (say_name c.in-TypeOp.op d)))) _ _ _ _ _ _ _ _ _
-    (λ d. ap (λ ns. write_list say_name ns (say_name c.in-TypeOp.rep (say_name c.in-TypeOp.abs (say_name c.in-TypeOp.op d)))) c.deref-in-TypeOp.ensures.value ∙ ap (λ x. write_given c.args.number (parameters_view c.args.terms.now x) d) (sym c.in-TypeOp.is)) c.write_operator.ensures
+    adds-same c.args.terms.now
+    (λ d. write_list say_name c.deref-in-TypeOp.result.now (say_name c.in-TypeOp.rep (say_name c.in-TypeOp.abs (say_name c.in-TypeOp.op d)))) _ _ _ _ _ _ _
+    _ _
+    (λ d. ap (λ ns. write_list say_name ns (say_name c.in-TypeOp.rep (say_name c.in-TypeOp.abs (say_name c.in-TypeOp.op d)))) c.deref-in-TypeOp.ensures.value
+    ∙ ap (λ x. write_given c.args.number (parameters_view c.args.terms.now x) d) (sym c.in-TypeOp.is)) c.write_operator.ensures
 
 pub write_term-requires-clause-known : goal.write_term-requires-clause-known
 write_term-requires-clause-known g c = (subst (AreParametersKnown c.args.terms.now) c.in-Term.is c.requires.known)

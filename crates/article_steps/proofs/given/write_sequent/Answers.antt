@@ -13,16 +13,22 @@ pub write_terms-requires-clause-known : goal.write_terms-requires-clause-known
 write_terms-requires-clause-known g c = subst (AreKnown c.args.terms.now) (sym c.ids.ensures.numbers) c.requires.known.0
 
 pub write_terms-requires-clause-closed : goal.write_terms-requires-clause-closed
-write_terms-requires-clause-closed g c = subst (λ ids. AllByRecursion IsTerm (terms_at c.args.terms.now ids)) (sym c.ids.ensures.numbers) c.requires.closed.hypotheses
+write_terms-requires-clause-closed g c = subst (λ ids. AllByRecursion IsTerm (terms_at c.args.terms.now ids)) (sym c.ids.ensures.numbers)
+    c.requires.closed.hypotheses
 
 pub returns-in_err-write_terms : goal.returns-in_err-write_terms
 returns-in_err-write_terms g c =
-    adds-stop c.args.terms.now (write_list (write_term c.args.number) (terms_at c.args.terms.now c.args.sequent.now.hyps)) (write_term c.args.number (term_at c.args.terms.now c.args.sequent.now.concl.0)) _ _ _ _ _ _ _ _ _ _ _
+    adds-stop c.args.terms.now (write_list (write_term c.args.number) (terms_at c.args.terms.now c.args.sequent.now.hyps))
+    (write_term c.args.number (term_at c.args.terms.now c.args.sequent.now.concl.0)) _ _ _ _ _ _ _ _ _ _ _
     (appends-under c.args.number _ (term_at c.args.terms.now c.args.sequent.now.concl.0)) c.in_err-write_terms.was c.from_residual.ensures.0
-    (adds-same c.args.terms.now _ _ _ _ _ _ _ _ _ _ (λ d. ap (λ ids. write_list (write_term c.args.number) (terms_at c.args.terms.now ids) d) c.ids.ensures.numbers) c.write_terms.ensures)
+    (adds-same c.args.terms.now _ _ _ _ _ _ _ _ _ _
+    (λ d. ap (λ ids. write_list (write_term c.args.number) (terms_at c.args.terms.now ids) d) c.ids.ensures.numbers) c.write_terms.ensures)
 
 pub returns : goal.returns
 returns g c =
-    adds-then c.args.terms.now (write_list (write_term c.args.number) (terms_at c.args.terms.now c.args.sequent.now.hyps)) (write_term c.args.number (term_at c.args.terms.now c.args.sequent.now.concl.0)) _ _ _ _ _ _ _ _ _ _ _ _ _ _
+    adds-then c.args.terms.now (write_list (write_term c.args.number) (terms_at c.args.terms.now c.args.sequent.now.hyps))
+    (write_term c.args.number (term_at c.args.terms.now c.args.sequent.now.concl.0)) _ _ _ _ _ _ _ _ _ _ _ _ _ _
     (appends-under c.args.number _ (term_at c.args.terms.now c.args.sequent.now.concl.0)) c.in_ok-write_terms.was
-    (adds-same c.args.terms.now _ _ _ _ _ _ _ _ _ _ (λ d. ap (λ ids. write_list (write_term c.args.number) (terms_at c.args.terms.now ids) d) c.ids.ensures.numbers) c.write_terms.ensures) c.write_term.ensures
+    (adds-same c.args.terms.now _ _ _ _ _ _ _ _ _ _
+    (λ d. ap (λ ids. write_list (write_term c.args.number) (terms_at c.args.terms.now ids) d) c.ids.ensures.numbers) c.write_terms.ensures)
+    c.write_term.ensures

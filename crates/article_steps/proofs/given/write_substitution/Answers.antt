@@ -19,14 +19,33 @@ write_term_pairs-requires-clause-closed g c = rw c.deref-2.ensures.value c.requi
 
 pub returns-in_err-write_type_pairs : goal.returns-in_err-write_type_pairs
 returns-in_err-write_type_pairs g c =
-    adds-stop c.args.terms.now (write_list type_pair_writer (pairs_at c.args.terms.now.types c.args.put.now.types.items)) (λ d. (λ (d : Draft). conses 2 (say_word word.Nil d)) ((write_list (term_pair_writer c.args.number) (term_pairs_at c.args.terms.now c.args.put.now.terms.items)) d)) _ _ _ _ _ _ _ _ _ _ _ (appends-then (write_list (term_pair_writer c.args.number) (term_pairs_at c.args.terms.now c.args.put.now.terms.items)) (λ (d : Draft). conses 2 (say_word word.Nil d)) (appends-list (term_pair_writer c.args.number) (appends-term_pair c.args.number) (term_pairs_at c.args.terms.now c.args.put.now.terms.items)) (appends-listed 2)) c.in_err-write_type_pairs.was c.from_residual.ensures.0 (rw c.deref.ensures.value at c.write_type_pairs.ensures)
+    adds-stop c.args.terms.now (write_list type_pair_writer (pairs_at c.args.terms.now.types c.args.put.now.types.items))
+    (λ d. (λ (d : Draft). conses 2 (say_word word.Nil d))
+    ((write_list (term_pair_writer c.args.number) (term_pairs_at c.args.terms.now c.args.put.now.terms.items)) d)) _ _ _ _ _ _ _ _ _ _ _
+    (appends-then (write_list (term_pair_writer c.args.number) (term_pairs_at c.args.terms.now c.args.put.now.terms.items))
+    (λ (d : Draft). conses 2 (say_word word.Nil d))
+    (appends-list (term_pair_writer c.args.number) (appends-term_pair c.args.number) (term_pairs_at c.args.terms.now c.args.put.now.terms.items))
+    (appends-listed 2)) c.in_err-write_type_pairs.was c.from_residual.ensures.0 (rw c.deref.ensures.value at c.write_type_pairs.ensures)
 
 pub returns-in_err-write_term_pairs : goal.returns-in_err-write_term_pairs
 returns-in_err-write_term_pairs g c =
-    adds-stop c.args.terms.now (λ d. (write_list (term_pair_writer c.args.number) (term_pairs_at c.args.terms.now c.args.put.now.terms.items)) ((write_list type_pair_writer (pairs_at c.args.terms.now.types c.args.put.now.types.items)) d)) (λ (d : Draft). conses 2 (say_word word.Nil d)) _ _ _ _ _ _ _ _ _ _ _ (appends-listed 2) c.in_err-write_term_pairs.was c.from_residual-in_err-write_term_pairs.ensures.0
-    (adds-then c.args.terms.now (write_list type_pair_writer (pairs_at c.args.terms.now.types c.args.put.now.types.items)) (write_list (term_pair_writer c.args.number) (term_pairs_at c.args.terms.now c.args.put.now.terms.items)) _ _ _ _ _ _ _ _ _ _ _ _ _ _ (appends-list (term_pair_writer c.args.number) (appends-term_pair c.args.number) (term_pairs_at c.args.terms.now c.args.put.now.terms.items)) c.in_ok-write_type_pairs.was (rw c.deref.ensures.value at c.write_type_pairs.ensures) (rw c.deref-2.ensures.value at c.write_term_pairs.ensures))
+    adds-stop c.args.terms.now
+    (λ d. (write_list (term_pair_writer c.args.number) (term_pairs_at c.args.terms.now c.args.put.now.terms.items))
+    ((write_list type_pair_writer (pairs_at c.args.terms.now.types c.args.put.now.types.items)) d)) (λ (d : Draft). conses 2 (say_word word.Nil d)) _ _ _ _
+    _ _ _ _ _ _ _ (appends-listed 2) c.in_err-write_term_pairs.was c.from_residual-in_err-write_term_pairs.ensures.0
+    (adds-then c.args.terms.now (write_list type_pair_writer (pairs_at c.args.terms.now.types c.args.put.now.types.items))
+    (write_list (term_pair_writer c.args.number) (term_pairs_at c.args.terms.now c.args.put.now.terms.items)) _ _ _ _ _ _ _ _ _ _ _ _ _ _
+    (appends-list (term_pair_writer c.args.number) (appends-term_pair c.args.number) (term_pairs_at c.args.terms.now c.args.put.now.terms.items))
+    c.in_ok-write_type_pairs.was (rw c.deref.ensures.value at c.write_type_pairs.ensures) (rw c.deref-2.ensures.value at c.write_term_pairs.ensures))
 
 pub returns : goal.returns
 returns g c =
-    adds-then c.args.terms.now (λ d. (write_list (term_pair_writer c.args.number) (term_pairs_at c.args.terms.now c.args.put.now.terms.items)) ((write_list type_pair_writer (pairs_at c.args.terms.now.types c.args.put.now.types.items)) d)) (λ (d : Draft). conses 2 (say_word word.Nil d)) _ _ _ _ _ _ _ _ _ _ _ _ _ _ (appends-listed 2) c.in_ok-write_term_pairs.was
-    (adds-then c.args.terms.now (write_list type_pair_writer (pairs_at c.args.terms.now.types c.args.put.now.types.items)) (write_list (term_pair_writer c.args.number) (term_pairs_at c.args.terms.now c.args.put.now.terms.items)) _ _ _ _ _ _ _ _ _ _ _ _ _ _ (appends-list (term_pair_writer c.args.number) (appends-term_pair c.args.number) (term_pairs_at c.args.terms.now c.args.put.now.terms.items)) c.in_ok-write_type_pairs.was (rw c.deref.ensures.value at c.write_type_pairs.ensures) (rw c.deref-2.ensures.value at c.write_term_pairs.ensures)) c.end_list.ensures
+    adds-then c.args.terms.now
+    (λ d. (write_list (term_pair_writer c.args.number) (term_pairs_at c.args.terms.now c.args.put.now.terms.items))
+    ((write_list type_pair_writer (pairs_at c.args.terms.now.types c.args.put.now.types.items)) d)) (λ (d : Draft). conses 2 (say_word word.Nil d)) _ _ _ _
+    _ _ _ _ _ _ _ _ _ _ (appends-listed 2) c.in_ok-write_term_pairs.was
+    (adds-then c.args.terms.now (write_list type_pair_writer (pairs_at c.args.terms.now.types c.args.put.now.types.items))
+    (write_list (term_pair_writer c.args.number) (term_pairs_at c.args.terms.now c.args.put.now.terms.items)) _ _ _ _ _ _ _ _ _ _ _ _ _ _
+    (appends-list (term_pair_writer c.args.number) (appends-term_pair c.args.number) (term_pairs_at c.args.terms.now c.args.put.now.terms.items))
+    c.in_ok-write_type_pairs.was (rw c.deref.ensures.value at c.write_type_pairs.ensures) (rw c.deref-2.ensures.value at c.write_term_pairs.ensures))
+    c.end_list.ensures

@@ -13,16 +13,20 @@ pub write_jobs-requires-clause-room : goal.write_jobs-requires-clause-room
 write_jobs-requires-clause-room g c = let h = room-least c.args.terms.now c.args.number c.args.room.now c.args.keys.now c.requires.ready in omega (arith, h)
 
 pub write_jobs-requires-clause-ready : goal.write_jobs-requires-clause-ready
-write_jobs-requires-clause-ready g c = ready-term_pair c.args.terms.now c.args.number c.args.room.now c.args.keys.now c.requires.ready c.args.pair.now.0.ty c.args.pair.now.1 c.requires.ty c.requires.known c.requires.closed
+write_jobs-requires-clause-ready g c = ready-term_pair c.args.terms.now c.args.number c.args.room.now c.args.keys.now c.requires.ready c.args.pair.now.0.ty
+    c.args.pair.now.1 c.requires.ty c.requires.known c.requires.closed
 
 pub returns-in_err-write_name : goal.returns-in_err-write_name
 returns-in_err-write_name g c =
     let js = job.Type c.args.pair.now.0.ty ∷ job.Word word.Var ∷ job.Term c.args.pair.now.1 ∷ job.Word word.Nil ∷ job.Conses 2 ∷ [] in
-    adds-stop c.args.terms.now (say_name c.args.pair.now.0.name) (do_jobs c.args.terms.now c.args.number [] js) _ _ _ _ _ _ _ _ _ _ _ (appends-jobs c.args.terms.now c.args.number [] js) c.in_err-write_name.was c.from_residual.ensures.0
+    adds-stop c.args.terms.now (say_name c.args.pair.now.0.name) (do_jobs c.args.terms.now c.args.number [] js) _ _ _ _ _ _ _ _ _ _ _
+    (appends-jobs c.args.terms.now c.args.number [] js) c.in_err-write_name.was c.from_residual.ensures.0
     (adds-say c.args.terms.now (item.Name c.args.pair.now.0.name) c.args.keys.now c.args.room.now.room _ _ _ _ _ c.requires.ready c.write_name.ensures)
 
 pub returns : goal.returns
 returns g c =
     let js = job.Type c.args.pair.now.0.ty ∷ job.Word word.Var ∷ job.Term c.args.pair.now.1 ∷ job.Word word.Nil ∷ job.Conses 2 ∷ [] in
-    adds-then c.args.terms.now (say_name c.args.pair.now.0.name) (do_jobs c.args.terms.now c.args.number [] js) _ _ _ _ _ _ _ _ _ _ _ _ _ _ (appends-jobs c.args.terms.now c.args.number [] js) c.in_ok-write_name.was
-    (adds-say c.args.terms.now (item.Name c.args.pair.now.0.name) c.args.keys.now c.args.room.now.room _ _ _ _ _ c.requires.ready c.write_name.ensures) c.write_jobs.ensures
+    adds-then c.args.terms.now (say_name c.args.pair.now.0.name) (do_jobs c.args.terms.now c.args.number [] js) _ _ _ _ _ _ _ _ _ _ _ _ _ _
+    (appends-jobs c.args.terms.now c.args.number [] js) c.in_ok-write_name.was
+    (adds-say c.args.terms.now (item.Name c.args.pair.now.0.name) c.args.keys.now c.args.room.now.room _ _ _ _ _ c.requires.ready c.write_name.ensures)
+    c.write_jobs.ensures

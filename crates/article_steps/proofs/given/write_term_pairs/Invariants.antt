@@ -7,5 +7,6 @@ use Rattle.article_steps.proofs.given.write_term_pairs.Given as goal
 -- those up to here are written
 abbrev pub invariant-loop-pair : goal.invariant-loop-pair
 invariant-loop-pair g l = record {
-  adds : Adds {T = Unit {0}} {E = Unit {0}} l.terms (write_each (λ p. term_pair_writer l.number (term_pair_at l.terms p)) (take l.pair-index l.pairs)) l.fn.keys (g.S.Sink.got l.fn.sink) (g.S.Sink.faults l.fn.sink) l.keys l.room.room (g.S.Sink.got l.sink) (g.S.Sink.faults l.sink) (Ok tt);
+  adds : Adds {T = Unit {0}} {E = Unit {0}} l.terms (write_each (λ p. term_pair_writer l.number (term_pair_at l.terms p)) (take l.pair-index l.pairs)) l.fn.keys
+      (g.S.Sink.got l.fn.sink) (g.S.Sink.faults l.fn.sink) l.keys l.room.room (g.S.Sink.got l.sink) (g.S.Sink.faults l.sink) (Ok tt);
 }

@@ -8,5 +8,6 @@ use Rattle.article_steps.proofs.given.write_terms.Given as goal
 -- those up to here are written
 abbrev pub invariant-loop-id : goal.invariant-loop-id
 invariant-loop-id g l = record {
-  adds : Adds {T = Unit {0}} {E = Unit {0}} l.terms (write_each (λ id. write_term l.number (term_at l.terms id.0)) (take l.id-index l.ids)) l.fn.keys (g.S.Sink.got l.fn.sink) (g.S.Sink.faults l.fn.sink) l.keys l.room.room (g.S.Sink.got l.sink) (g.S.Sink.faults l.sink) (Ok tt);
+  adds : Adds {T = Unit {0}} {E = Unit {0}} l.terms (write_each (λ id. write_term l.number (term_at l.terms id.0)) (take l.id-index l.ids)) l.fn.keys
+      (g.S.Sink.got l.fn.sink) (g.S.Sink.faults l.fn.sink) l.keys l.room.room (g.S.Sink.got l.sink) (g.S.Sink.faults l.sink) (Ok tt);
 }

@@ -18,11 +18,14 @@ write_jobs-requires-clause-ready g c = ready-type_pair c.args.terms.now 0 c.args
 pub returns-in_err-write_name : goal.returns-in_err-write_name
 returns-in_err-write_name g c =
     let js = job.Type c.args.pair.now.1 ∷ job.Word word.Nil ∷ job.Conses 2 ∷ [] in
-    adds-stop c.args.terms.now (say_name c.args.pair.now.0) (do_jobs c.args.terms.now 0 [] js) _ _ _ _ _ _ _ _ _ _ _ (appends-jobs c.args.terms.now 0 [] js) c.in_err-write_name.was c.from_residual.ensures.0
+    adds-stop c.args.terms.now (say_name c.args.pair.now.0) (do_jobs c.args.terms.now 0 [] js) _ _ _ _ _ _ _ _ _ _ _ (appends-jobs c.args.terms.now 0 [] js)
+    c.in_err-write_name.was c.from_residual.ensures.0
     (adds-say c.args.terms.now (item.Name c.args.pair.now.0) c.args.keys.now c.args.room.now.room _ _ _ _ _ c.requires.ready c.write_name.ensures)
 
 pub returns : goal.returns
 returns g c =
     let js = job.Type c.args.pair.now.1 ∷ job.Word word.Nil ∷ job.Conses 2 ∷ [] in
-    adds-then c.args.terms.now (say_name c.args.pair.now.0) (do_jobs c.args.terms.now 0 [] js) _ _ _ _ _ _ _ _ _ _ _ _ _ _ (appends-jobs c.args.terms.now 0 [] js) c.in_ok-write_name.was
-    (adds-say c.args.terms.now (item.Name c.args.pair.now.0) c.args.keys.now c.args.room.now.room _ _ _ _ _ c.requires.ready c.write_name.ensures) c.write_jobs.ensures
+    adds-then c.args.terms.now (say_name c.args.pair.now.0) (do_jobs c.args.terms.now 0 [] js) _ _ _ _ _ _ _ _ _ _ _ _ _ _
+    (appends-jobs c.args.terms.now 0 [] js) c.in_ok-write_name.was
+    (adds-say c.args.terms.now (item.Name c.args.pair.now.0) c.args.keys.now c.args.room.now.room _ _ _ _ _ c.requires.ready c.write_name.ensures)
+    c.write_jobs.ensures

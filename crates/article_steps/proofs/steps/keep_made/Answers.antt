@@ -18,14 +18,19 @@ pub keep_theorem-requires-clause-new : goal.keep_theorem-requires-clause-new
 keep_theorem-requires-clause-new g c = new-plain c.args.keys.now c.args.kind c.args.id c.in_default.not-FirstLaw c.requires.other c.requires.new
 
 pub returns-in-DefineConst : goal.returns-in-DefineConst
-returns-in-DefineConst g c = λ trees room o. adds-same trees _ _ _ _ _ _ _ _ _ _ (λ d. ap (λ k. keep_made k c.args.id d) (sym c.in-DefineConst.is)) (c.keep_defined.ensures trees room o)
+returns-in-DefineConst g c = λ trees room o. adds-same trees _ _ _ _ _ _ _ _ _ _ (λ d. ap (λ k. keep_made k c.args.id d) (sym c.in-DefineConst.is))
+    (c.keep_defined.ensures trees room o)
 
 pub returns-in-DefineConstList : goal.returns-in-DefineConstList
-returns-in-DefineConstList g c = λ trees room o. adds-same trees _ _ _ _ _ _ _ _ _ _ (λ d. ap (λ k. keep_made k c.args.id d) (sym c.in-DefineConstList.is)) (c.keep_defined-in-DefineConstList.ensures trees room o)
+returns-in-DefineConstList g c = λ trees room o. adds-same trees _ _ _ _ _ _ _ _ _ _ (λ d. ap (λ k. keep_made k c.args.id d) (sym c.in-DefineConstList.is))
+    (c.keep_defined-in-DefineConstList.ensures trees room o)
 
 pub returns-in-FirstLaw : goal.returns-in-FirstLaw
-returns-in-FirstLaw g c = λ trees room o. adds-same trees _ _ _ _ _ _ _ _ _ _ (λ d. ap (λ k. keep_made k c.args.id d) (sym c.in-FirstLaw.is)) (c.keep_laws.ensures trees room o)
+returns-in-FirstLaw g c = λ trees room o. adds-same trees _ _ _ _ _ _ _ _ _ _ (λ d. ap (λ k. keep_made k c.args.id d) (sym c.in-FirstLaw.is))
+    (c.keep_laws.ensures trees room o)
 
 pub returns-in_default : goal.returns-in_default
 returns-in_default g c = λ trees room o.
-    adds-same trees _ _ _ _ _ _ _ _ _ _ (made-plain c.args.kind c.args.id c.in_default.not-DefineConst c.in_default.not-DefineConstList c.in_default.not-FirstLaw) (c.keep_theorem.ensures.adds trees room o)
+    adds-same trees _ _ _ _ _ _ _ _ _ _
+    (made-plain c.args.kind c.args.id c.in_default.not-DefineConst c.in_default.not-DefineConstList c.in_default.not-FirstLaw)
+    (c.keep_theorem.ensures.adds trees room o)

@@ -5,4 +5,5 @@ use Rattle.article_steps.proofs.steps.refer_to.Goals as goal
 
 pub returns : goal.returns
 returns g c = λ trees room o.
-    adds-premise trees c.args.id c.unwrap_or-key.result c.args.keys.now room _ _ _ _ _ (c.unwrap_or-key.ensures ∙ ap (λ z. unwrap_or z 0) c.key.ensures.key) c.requires o c.write_key.ensures
+    adds-premise trees c.args.id c.unwrap_or-key.result c.args.keys.now room _ _ _ _ _ (c.unwrap_or-key.ensures ∙ ap (λ z. unwrap_or z 0) c.key.ensures.key)
+    c.requires o c.write_key.ensures

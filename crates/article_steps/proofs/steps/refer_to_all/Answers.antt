@@ -18,13 +18,19 @@ refer_to-requires g c = All-get_or _ c.args.ids.now c.loop-id.id-index 0 c.loop-
 
 pub loop-id-preserved : goal.loop-id-preserved
 loop-id-preserved g c = record {
-  adds = λ trees room o. each-next write_premise appends-premise trees c.args.ids.now c.loop-id.id-index (slice_index_or c.args.ids.now c.loop-id.id-index 0) _ _ _ _ _ _ _ _ _ _ _ _ _ (item-here c.args.ids.now c.loop-id.id-index 0 c.loop-id-test.true) c.in_ok-refer_to.was (c.loop-id.invariant.adds trees room o) (c.refer_to.ensures trees room o);
+  adds = λ trees room o. each-next write_premise appends-premise trees c.args.ids.now c.loop-id.id-index (slice_index_or c.args.ids.now c.loop-id.id-index 0) _
+      _ _ _ _ _ _ _ _ _ _ _ _ (item-here c.args.ids.now c.loop-id.id-index 0 c.loop-id-test.true) c.in_ok-refer_to.was (c.loop-id.invariant.adds trees room o)
+      (c.refer_to.ensures trees room o);
 }
 
 pub returns-in_err-refer_to : goal.returns-in_err-refer_to
 returns-in_err-refer_to g c = λ trees room o.
-    each-failed write_premise appends-premise trees c.args.ids.now c.loop-id.id-index (slice_index_or c.args.ids.now c.loop-id.id-index 0) _ _ _ _ _ _ _ _ _ _ _ _ _ _ _ (λ (d : Draft). d) appends-none (item-here c.args.ids.now c.loop-id.id-index 0 c.loop-id-test.true) c.in_err-refer_to.was c.from_residual.ensures.0 (c.loop-id.invariant.adds trees room o) (c.refer_to.ensures trees room o)
+    each-failed write_premise appends-premise trees c.args.ids.now c.loop-id.id-index (slice_index_or c.args.ids.now c.loop-id.id-index 0) _ _ _ _ _ _ _ _ _ _ _
+    _ _ _ _ (λ (d : Draft). d) appends-none (item-here c.args.ids.now c.loop-id.id-index 0 c.loop-id-test.true) c.in_err-refer_to.was
+    c.from_residual.ensures.0 (c.loop-id.invariant.adds trees room o) (c.refer_to.ensures trees room o)
 
 pub returns : goal.returns
 returns g c = λ trees room o.
-    each-done write_premise appends-premise trees c.args.ids.now c.loop-id.id-index _ _ _ _ _ _ _ _ _ _ _ _ (λ (d : Draft). d) appends-none (omega (arith, c.loop-id-test.false, c.loop-id.auto.id-index-end)) (c.loop-id.invariant.adds trees room o) (adds-nothing trees c.args.keys.now room _ _ _ _ refl o)
+    each-done write_premise appends-premise trees c.args.ids.now c.loop-id.id-index _ _ _ _ _ _ _ _ _ _ _ _ (λ (d : Draft). d) appends-none
+    (omega (arith, c.loop-id-test.false, c.loop-id.auto.id-index-end)) (c.loop-id.invariant.adds trees room o)
+    (adds-nothing trees c.args.keys.now room _ _ _ _ refl o)

@@ -8,5 +8,7 @@ use Rattle.article_steps.proofs.steps.refer_to_all.Given as goal
 -- those up to here are told
 abbrev pub invariant-loop-id : goal.invariant-loop-id
 invariant-loop-id g l = record {
-  adds : (trees : Trees) (room : ℕ) → IsOpen trees l.keys room → Adds {T = Unit {0}} {E = Unit {0}} trees (write_each write_premise (take l.id-index l.ids)) l.keys (g.S.Sink.got l.fn.sink) (g.S.Sink.faults l.fn.sink) l.keys room (g.S.Sink.got l.sink) (g.S.Sink.faults l.sink) (Ok tt);
+  adds : (trees : Trees) (room : ℕ) → IsOpen trees l.keys room
+      → Adds {T = Unit {0}} {E = Unit {0}} trees (write_each write_premise (take l.id-index l.ids)) l.keys (g.S.Sink.got l.fn.sink) (g.S.Sink.faults l.fn.sink)
+      l.keys room (g.S.Sink.got l.sink) (g.S.Sink.faults l.sink) (Ok tt);
 }

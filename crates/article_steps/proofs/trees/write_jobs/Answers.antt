@@ -12,7 +12,9 @@ push_all-requires g c =
     omega (arith, count, room, c.requires.room)
 
 pub run-requires : goal.run-requires
-run-requires g c = subst (λ a. IsReady c.args.terms.now c.args.number a c.args.keys.now) (sym (c.push_all.ensures ∙ ap (pushed_all c.args.jobs.now) c.clear.ensures)) c.requires.ready
+run-requires g c = subst (λ a. IsReady c.args.terms.now c.args.number a c.args.keys.now)
+    (sym (c.push_all.ensures ∙ ap (pushed_all c.args.jobs.now) c.clear.ensures)) c.requires.ready
 
 pub returns : goal.returns
-returns g c = adds-agenda c.args.terms.now c.args.number _ _ _ _ _ _ _ _ _ _ (c.push_all.ensures ∙ ap (pushed_all c.args.jobs.now) c.clear.ensures) c.run.ensures
+returns g c = adds-agenda c.args.terms.now c.args.number _ _ _ _ _ _ _ _ _ _ (c.push_all.ensures ∙ ap (pushed_all c.args.jobs.now) c.clear.ensures)
+    c.run.ensures

@@ -13,16 +13,20 @@ pub write_jobs-requires-clause-room : goal.write_jobs-requires-clause-room
 write_jobs-requires-clause-room g c = let h = room-least c.args.terms.now 0 c.args.room.now c.args.keys.now c.requires.ready in omega (arith, h)
 
 pub write_jobs-requires-clause-ready : goal.write_jobs-requires-clause-ready
-write_jobs-requires-clause-ready g c = ready-variable c.args.terms.now 0 c.args.room.now c.args.keys.now c.requires.ready c.args.variable.now.ty c.requires.known
+write_jobs-requires-clause-ready g c = ready-variable c.args.terms.now 0 c.args.room.now c.args.keys.now c.requires.ready c.args.variable.now.ty
+    c.requires.known
 
 pub returns-in_err-write_name : goal.returns-in_err-write_name
 returns-in_err-write_name g c =
     let js = job.Type c.args.variable.now.ty ∷ job.Word word.Var ∷ [] in
-    adds-stop c.args.terms.now (say_name c.args.variable.now.name) (do_jobs c.args.terms.now 0 [] js) _ _ _ _ _ _ _ _ _ _ _ (appends-jobs c.args.terms.now 0 [] js) c.in_err-write_name.was c.from_residual.ensures.0
+    adds-stop c.args.terms.now (say_name c.args.variable.now.name) (do_jobs c.args.terms.now 0 [] js) _ _ _ _ _ _ _ _ _ _ _
+    (appends-jobs c.args.terms.now 0 [] js) c.in_err-write_name.was c.from_residual.ensures.0
     (adds-say c.args.terms.now (item.Name c.args.variable.now.name) c.args.keys.now c.args.room.now.room _ _ _ _ _ c.requires.ready c.write_name.ensures)
 
 pub returns : goal.returns
 returns g c =
     let js = job.Type c.args.variable.now.ty ∷ job.Word word.Var ∷ [] in
-    adds-then c.args.terms.now (say_name c.args.variable.now.name) (do_jobs c.args.terms.now 0 [] js) _ _ _ _ _ _ _ _ _ _ _ _ _ _ (appends-jobs c.args.terms.now 0 [] js) c.in_ok-write_name.was
-    (adds-say c.args.terms.now (item.Name c.args.variable.now.name) c.args.keys.now c.args.room.now.room _ _ _ _ _ c.requires.ready c.write_name.ensures) c.write_jobs.ensures
+    adds-then c.args.terms.now (say_name c.args.variable.now.name) (do_jobs c.args.terms.now 0 [] js) _ _ _ _ _ _ _ _ _ _ _ _ _ _
+    (appends-jobs c.args.terms.now 0 [] js) c.in_ok-write_name.was
+    (adds-say c.args.terms.now (item.Name c.args.variable.now.name) c.args.keys.now c.args.room.now.room _ _ _ _ _ c.requires.ready c.write_name.ensures)
+    c.write_jobs.ensures

@@ -11,4 +11,5 @@ pub returns-then-count-eq0 : goal.returns-then-count-eq0
 returns-then-count-eq0 g c = λ trees q keys r. goes-quiet trees q _ _ _ _ _ _ _ _ _ refl refl r (conses-end trees q _ keys _ (omega arith) r)
 
 pub returns : goal.returns
-returns g c = λ trees q keys r. goes-on trees q _ _ _ _ _ _ _ _ _ _ _ c.push.ensures r (conses-next trees q _ keys _ _ (omega arith) r) (writes_same _ _ (one-line (item.Word word.Cons)) c.write_word.ensures)
+returns g c = λ trees q keys r. goes-on trees q _ _ _ _ _ _ _ _ _ _ _ c.push.ensures r (conses-next trees q _ keys _ _ (omega arith) r)
+    (writes_same _ _ (one-line (item.Word word.Cons)) c.write_word.ensures)

@@ -11,7 +11,8 @@ keep-requires-clause-new g c =
     let trees = c.args.terms.now in
     let keys = c.args.keys.now in
     let r = ready-job trees c.args.number c.args.room.now _ _ keys c.in-Keep.is c.requires.ready in
-    sym (key-of trees c.args.number c.args.room.now keys c.in-Keep.thing r.known (thing-more trees c.args.number c.args.room.now keys keys.theorems c.in-Keep.thing r.jobs.0.known)) ∙ r.jobs.0.new
+    sym (key-of trees c.args.number c.args.room.now keys c.in-Keep.thing r.known
+    (thing-more trees c.args.number c.args.room.now keys keys.theorems c.in-Keep.thing r.jobs.0.known)) ∙ r.jobs.0.new
 
 pub returns-in-Arguments : goal.returns-in-Arguments
 returns-in-Arguments g c =
@@ -33,7 +34,8 @@ pub returns-in-Keep : goal.returns-in-Keep
 returns-in-Keep g c =
     let r = ready-job c.args.terms.now c.args.number c.args.room.now _ _ c.args.keys.now c.in-Keep.is c.requires.ready in
     goes-job _ _ _ _ _ _ _ _ _ _ _ _ _ c.in-Keep.is
-    (goes-keys _ _ _ _ _ _ _ _ _ _ _ _ c.keep.ensures.kept (goes-on _ _ _ _ _ _ _ _ _ _ _ _ _ refl r (keep-next _ _ _ _ c.in-Keep.thing _ refl r) c.keep.ensures.writes))
+    (goes-keys _ _ _ _ _ _ _ _ _ _ _ _ c.keep.ensures.kept
+    (goes-on _ _ _ _ _ _ _ _ _ _ _ _ _ refl r (keep-next _ _ _ _ c.in-Keep.thing _ refl r) c.keep.ensures.writes))
 
 pub returns-in-Unbind : goal.returns-in-Unbind
 returns-in-Unbind g c =

@@ -7,7 +7,8 @@ use Rattle.article_steps.proofs.walk.do_type.Goals as goal
 pub returns-in-Some : goal.returns-in-Some
 returns-in-Some g c =
     let same = key-of c.args.terms.now c.args.number c.args.room.now c.args.keys.now (thing.Type c.args.id) c.requires.known c.requires.jobs.0.known in
-    goes-on _ _ _ _ _ _ _ _ _ _ _ _ _ refl c.requires (type-known _ _ _ _ c.args.id c.in-Some.key c.requires (same ∙ sym c.key.ensures.key ∙ c.in-Some.is)) c.write_key.ensures
+    goes-on _ _ _ _ _ _ _ _ _ _ _ _ _ refl c.requires (type-known _ _ _ _ c.args.id c.in-Some.key c.requires (same ∙ sym c.key.ensures.key ∙ c.in-Some.is))
+    c.write_key.ensures
 
 pub push_all-requires : goal.push_all-requires
 push_all-requires g c = let h = type-room c.args.terms.now c.args.number c.args.room.now c.args.keys.now c.args.id c.requires in omega (arith, h)

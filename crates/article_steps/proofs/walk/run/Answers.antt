@@ -11,16 +11,19 @@ do_job-requires-clause-ready g c = (running-popped _ _ _ _ _ _ _ _ _ _ _ _ c.in-
 
 pub loop-job-preserved : goal.loop-job-preserved
 loop-job-preserved g c = record {
-  running = running-on _ _ _ _ _ _ _ _ _ _ _ _ _ _ _ _ c.in_ok-do_job.was (running-popped _ _ _ _ _ _ _ _ _ _ _ _ c.in-Some.ensures.popped c.loop-job.invariant.running) c.do_job.ensures;
+  running = running-on _ _ _ _ _ _ _ _ _ _ _ _ _ _ _ _ c.in_ok-do_job.was
+      (running-popped _ _ _ _ _ _ _ _ _ _ _ _ c.in-Some.ensures.popped c.loop-job.invariant.running) c.do_job.ensures;
 }
 
 pub loop-job-smaller : goal.loop-job-smaller
 loop-job-smaller g c =
-    subst (λ a. work c.args.terms.now c.args.number c.do_job.new.room.binders c.do_job.new.room.jobs < work c.args.terms.now c.args.number a.binders a.jobs) (sym c.in-Some.ensures.popped) c.in_ok-do_job.ensures.less
+    subst (λ a. work c.args.terms.now c.args.number c.do_job.new.room.binders c.do_job.new.room.jobs < work c.args.terms.now c.args.number a.binders a.jobs)
+    (sym c.in-Some.ensures.popped) c.in_ok-do_job.ensures.less
 
 pub returns-in_err-do_job : goal.returns-in_err-do_job
 returns-in_err-do_job g c =
-    running-failed _ _ _ _ _ _ _ _ _ _ _ _ _ _ _ _ _ c.in_err-do_job.was c.from_residual.ensures.0 (running-popped _ _ _ _ _ _ _ _ _ _ _ _ c.in-Some.ensures.popped c.loop-job.invariant.running) c.do_job.ensures
+    running-failed _ _ _ _ _ _ _ _ _ _ _ _ _ _ _ _ _ c.in_err-do_job.was c.from_residual.ensures.0
+    (running-popped _ _ _ _ _ _ _ _ _ _ _ _ c.in-Some.ensures.popped c.loop-job.invariant.running) c.do_job.ensures
 
 pub returns : goal.returns
 returns g c = running-end _ _ _ _ _ _ _ _ _ _ _ _ _ refl c.in_default.ensures.none c.in_default.ensures.popped c.loop-job.invariant.running

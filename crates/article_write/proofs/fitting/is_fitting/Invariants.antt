@@ -7,4 +7,5 @@ use Rattle.article_write.specs.Fitting.{fits_step}
 use Rattle.article_write.proofs.fitting.is_fitting.Given as goal
 
 abbrev pub invariant-loop-step : goal.invariant-loop-step
-invariant-loop-step l = (exports : List ℕ) → AreExports l.is_export exports → list_all (fits_step l.version exports) (selected (flag l.told) 0 (take l.step (steps_of l.proof.made))) ≡ true
+invariant-loop-step l = (exports : List ℕ) → AreExports l.is_export exports → list_all (fits_step l.version exports)
+    (selected (flag l.told) 0 (take l.step (steps_of l.proof.made))) ≡ true

@@ -8,4 +8,5 @@ pub meets_none-requires : goal.meets_none-requires
 meets_none-requires c =
     let p = c.args.proof.now in
     subst (λ is. AllByRecursion (λ i. i < length c.args.is_export.now) is) (sym c.premises.ensures)
-    (subst (λ n. AllByRecursion (λ i. i < n) (step_at p.made c.args.step).premises) (sym c.requires.exports) (premises-earlier p.made c.args.step _ c.is_proof.ensures c.requires.step))
+    (subst (λ n. AllByRecursion (λ i. i < n) (step_at p.made c.args.step).premises) (sym c.requires.exports)
+    (premises-earlier p.made c.args.step _ c.is_proof.ensures c.requires.step))

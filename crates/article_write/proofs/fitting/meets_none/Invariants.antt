@@ -4,4 +4,5 @@ use Rattle.article_lines.specs.Flagged.{AreExports}
 use Rattle.article_write.proofs.fitting.meets_none.Given as goal
 
 abbrev pub invariant-loop-premise : goal.invariant-loop-premise
-invariant-loop-premise l = (exports : List ℕ) → AreExports l.is_export exports → list_all (λ i. not (list_any (λ e. i == e) exports)) (take l.premise-index l.premises) ≡ true
+invariant-loop-premise l = (exports : List ℕ) → AreExports l.is_export exports → list_all (λ i. not (list_any (λ e. i == e) exports))
+    (take l.premise-index l.premises) ≡ true

@@ -33,9 +33,13 @@ returns c =
         fitting = c.is_fitting-fits.ensures exports (subst (λ flags. AreExports flags exports) (sym c.is_export.ensures) h.exports_are)
             ∙ ap (λ flags. list_all (fits_step version exports) (selected (flag flags) 0 (steps_of p.made))) c.told.ensures ∙ reach-fits version run r h;
         counted = c.in_ok-count.ensures exports (subst (λ flags. AreExports flags exports) (sym c.is_export-2.ensures) h.exports_are)
-            ∙ ap₂ (λ q flags. capped greatest_length (count_each (count_step q exports) (selected (flag flags) 0 (steps_of p.made)) (record { kept = []; length = items_length (version_items version) })).length) c.number.ensures c.told-2.ensures
-            ∙ ap (λ (m : Tally). capped greatest_length m.length) (reach-tally version run r h) ∙ lengths_are_counted greatest_length version run c.is_proof.ensures;
-        keys = c.in_ok-keys.ensures ∙ ap₂ (λ a b. none_keyed a b c.len.result) (c.count.ensures.count ∙ ap length (c.types.ensures.types ∙ ap (λ t. t.types) trees)) (c.count-2.ensures ∙ ap (λ t. length t.terms) trees)
+            ∙ ap₂ (λ q flags. capped greatest_length
+            (count_each (count_step q exports) (selected (flag flags) 0 (steps_of p.made))
+            (record { kept = []; length = items_length (version_items version) })).length) c.number.ensures c.told-2.ensures
+            ∙ ap (λ (m : Tally). capped greatest_length m.length) (reach-tally version run r h)
+            ∙ lengths_are_counted greatest_length version run c.is_proof.ensures;
+        keys = c.in_ok-keys.ensures ∙ ap₂ (λ a b. none_keyed a b c.len.result)
+            (c.count.ensures.count ∙ ap length (c.types.ensures.types ∙ ap (λ t. t.types) trees)) (c.count-2.ensures ∙ ap (λ t. length t.terms) trees)
             ∙ ap (none_keyed (length p.trees.types) (length p.trees.terms)) c.len.ensures;
         room = subst (λ t. IsRoomy t c.in_ok-room.room.room) trees c.in_ok-room.ensures;
       };

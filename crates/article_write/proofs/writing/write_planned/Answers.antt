@@ -16,6 +16,8 @@ returns g c version run h =
     let p = c.args.proof.now in
     let inside = c.plan.inside in
     let k = subst (IsPlanOf p version run) (sym c.plan.view_is) h in
-    subst (λ text. Writes (g.S.Sink.got c.args.sink.now) (g.S.Sink.faults c.args.sink.now) text (g.S.Sink.got c.write_article.new.sink) (g.S.Sink.faults c.write_article.new.sink) c.write_article.result)
-    (ap₂ (λ q flags. text_of (write_each (write_step q run.exports) (selected (flag flags) 0 (steps_of p.made)) (version_draft inside.version)).commands) c.number.ensures c.told.ensures ∙ plan-text p version run _ k)
+    subst (λ text. Writes (g.S.Sink.got c.args.sink.now) (g.S.Sink.faults c.args.sink.now) text (g.S.Sink.got c.write_article.new.sink)
+    (g.S.Sink.faults c.write_article.new.sink) c.write_article.result)
+    (ap₂ (λ q flags. text_of (write_each (write_step q run.exports) (selected (flag flags) 0 (steps_of p.made)) (version_draft inside.version)).commands)
+    c.number.ensures c.told.ensures ∙ plan-text p version run _ k)
     (c.write_article.ensures run.exports (subst (λ flags. AreExports flags run.exports) (sym c.is_export.ensures) k.reach.exports_are))

@@ -9,7 +9,8 @@ returns-then-is_err-clause-delivered g c =
     output_stopped (status_of c.args.answer) (text_of c.args.answer) (note_of c.args.answer) _ _
     (of_err _ (sym c.is_err.ensures.value ∙ c.if-is_err.true) c.write_lines.ensures.cause.failed)
     (of_err _ (sym c.is_err.ensures.value ∙ c.if-is_err.true) (rw c.text.ensures at c.write_lines.ensures.err))
-    (told_of_fault _ (sunk g.N.Sink.got g.N.Sink.faults c.args.note.now c.write_all.new.sink) c.write_all.ensures.ok c.write_all.ensures.err c.write_all.ensures.cause.failed)
+    (told_of_fault _ (sunk g.N.Sink.got g.N.Sink.faults c.args.note.now c.write_all.new.sink) c.write_all.ensures.ok c.write_all.ensures.err
+    c.write_all.ensures.cause.failed)
 
 pub returns-then-is_err-2-clause-delivered : goal.returns-then-is_err-2-clause-delivered
 returns-then-is_err-2-clause-delivered g c =

@@ -55,22 +55,26 @@ returns-in-IllTyped-clause-err g c =
 
 pub returns-in-OverBudget-clause-ok : goal.returns-in-OverBudget-clause-ok
 returns-in-OverBudget-clause-ok g c =
-    subst (λ text. OnOk c.write_declaration-in-OverBudget.result (Gains (g.N.Sink.got c.args.note.now) text (g.N.Sink.got c.write_declaration-in-OverBudget.new.note)))
+    subst (λ text. OnOk c.write_declaration-in-OverBudget.result
+    (Gains (g.N.Sink.got c.args.note.now) text (g.N.Sink.got c.write_declaration-in-OverBudget.new.note)))
     (ap note_of (sym c.in-OverBudget.is)) c.write_declaration-in-OverBudget.ensures.ok
 
 pub returns-in-OverBudget-clause-err : goal.returns-in-OverBudget-clause-err
 returns-in-OverBudget-clause-err g c =
-    subst (λ text. OnErr c.write_declaration-in-OverBudget.result (GainsFront (g.N.Sink.got c.args.note.now) text (g.N.Sink.got c.write_declaration-in-OverBudget.new.note)))
+    subst (λ text. OnErr c.write_declaration-in-OverBudget.result
+    (GainsFront (g.N.Sink.got c.args.note.now) text (g.N.Sink.got c.write_declaration-in-OverBudget.new.note)))
     (ap note_of (sym c.in-OverBudget.is)) c.write_declaration-in-OverBudget.ensures.err
 
 pub returns-in-NotSequent-clause-ok : goal.returns-in-NotSequent-clause-ok
 returns-in-NotSequent-clause-ok g c =
-    subst (λ text. OnOk c.write_declaration-in-NotSequent.result (Gains (g.N.Sink.got c.args.note.now) text (g.N.Sink.got c.write_declaration-in-NotSequent.new.note)))
+    subst (λ text. OnOk c.write_declaration-in-NotSequent.result
+    (Gains (g.N.Sink.got c.args.note.now) text (g.N.Sink.got c.write_declaration-in-NotSequent.new.note)))
     (ap note_of (sym c.in-NotSequent.is)) c.write_declaration-in-NotSequent.ensures.ok
 
 pub returns-in-NotSequent-clause-err : goal.returns-in-NotSequent-clause-err
 returns-in-NotSequent-clause-err g c =
-    subst (λ text. OnErr c.write_declaration-in-NotSequent.result (GainsFront (g.N.Sink.got c.args.note.now) text (g.N.Sink.got c.write_declaration-in-NotSequent.new.note)))
+    subst (λ text. OnErr c.write_declaration-in-NotSequent.result
+    (GainsFront (g.N.Sink.got c.args.note.now) text (g.N.Sink.got c.write_declaration-in-NotSequent.new.note)))
     (ap note_of (sym c.in-NotSequent.is)) c.write_declaration-in-NotSequent.ensures.err
 
 pub returns-in-Unwritable-clause-ok : goal.returns-in-Unwritable-clause-ok

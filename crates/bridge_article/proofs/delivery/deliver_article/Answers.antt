@@ -10,4 +10,5 @@ returns-then-is_err-clause-delivered g c = λ version run h.
     output_stopped Done (article_of version run) [] _ _
     (of_err _ (sym c.is_err.ensures.value ∙ c.if-is_err.true) (c.write.ensures version run h.planned).cause.failed)
     (of_err _ (sym c.is_err.ensures.value ∙ c.if-is_err.true) (c.write.ensures version run h.planned).err)
-    (told_of_fault _ (sunk g.N.Sink.got g.N.Sink.faults c.args.note.now c.write_all.new.sink) c.write_all.ensures.ok c.write_all.ensures.err c.write_all.ensures.cause.failed)
+    (told_of_fault _ (sunk g.N.Sink.got g.N.Sink.faults c.args.note.now c.write_all.new.sink) c.write_all.ensures.ok c.write_all.ensures.err
+    c.write_all.ensures.cause.failed)

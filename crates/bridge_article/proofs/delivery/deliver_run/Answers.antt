@@ -11,7 +11,8 @@ pub returns-in-Ok-clause-delivered : goal.returns-in-Ok-clause-delivered
 returns-in-Ok-clause-delivered g c =
     let machine = c.args.machine.now in
     let proof = c.proof-proof.result.now in
-    let run = run_of-state proof c.assumptions.result.now c.exports.result.now machine c.proof-proof.ensures c.assumptions.ensures.numbers c.exports.ensures.numbers in
+    let run = run_of-state proof c.assumptions.result.now c.exports.result.now machine c.proof-proof.ensures c.assumptions.ensures.numbers
+    c.exports.ensures.numbers in
     let planned : IsWritablePlan proof (last_version machine.place) (accepted_state machine) c.in-Ok.plan =
     subst (λ version. IsWritablePlan proof version (accepted_state machine) c.in-Ok.plan) c.version.ensures
     (subst (λ run. IsWritablePlan proof c.version.result run c.in-Ok.plan) run c.in-Ok.ensures.planned) in

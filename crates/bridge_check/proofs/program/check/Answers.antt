@@ -13,14 +13,16 @@ returns g c =
     let shelf = shelved g.H.Shelf.told g.H.Shelf.faults g.H.Shelf.begun c.args.shelf.now c.checked-answer.new.shelf in
     let answer = c.checked-answer.result in
     outputs-Performs
-    (call (Some (check c.args.fast c.args.file.now c.args.budget)) shelf (sunk g.O.Sink.got g.O.Sink.faults c.args.out.now c.deliver.new.out) (sunk g.N.Sink.got g.N.Sink.faults c.args.note.now c.deliver.new.note))
+    (call (Some (check c.args.fast c.args.file.now c.args.budget)) shelf (sunk g.O.Sink.got g.O.Sink.faults c.args.out.now c.deliver.new.out)
+    (sunk g.N.Sink.got g.N.Sink.faults c.args.note.now c.deliver.new.note))
     c.deliver.result
     (record {
       answer = status_of answer;
       out_text = text_of answer;
       note_text = note_of answer;
       answers = c.checked-answer.ensures.answers;
-      begins = whole-BeginsFiles (λ status. AnswersCheck (not c.args.fast) c.args.file.now c.args.budget shelf status (text_of answer) (note_of answer)) (λ article line kind impossible. impossible)
+      begins = whole-BeginsFiles (λ status. AnswersCheck (not c.args.fast) c.args.file.now c.args.budget shelf status (text_of answer) (note_of answer))
+          (λ article line kind impossible. impossible)
           (status_of answer) c.checked-answer.ensures.answers _ _ (c.args.file.now ∷ []) c.checked-answer.ensures.begun;
       delivered = c.deliver.ensures.delivered;
     })

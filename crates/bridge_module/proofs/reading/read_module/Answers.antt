@@ -8,7 +8,8 @@ pub returns-clause-reads : goal.returns-clause-reads
 returns-clause-reads g c =
     let told = g.H.Shelf.told c.args.shelf.now in
     let start : g.H.Shelf.left c.begin.new.self ≡ bytes_told told c.args.file.now = without_error c.begin.result c.if-is_err.ensures.value c.begin.ensures.ok in
-    on_success c.read_text.result c.read_text.ensures.reads (λ m h. file_module told c.args.file.now (declarations_of m) (subst (λ left. IsModuleOf left (declarations_of m)) start h))
+    on_success c.read_text.result c.read_text.ensures.reads
+    (λ m h. file_module told c.args.file.now (declarations_of m) (subst (λ left. IsModuleOf left (declarations_of m)) start h))
 
 pub returns-clause-refused : goal.returns-clause-refused
 returns-clause-refused g c =

@@ -10,4 +10,6 @@ returns-clause-ends g c = record { status = c.answered.result; promise = c.answe
 
 pub returns-clause-without_words : goal.returns-clause-without_words
 returns-clause-without_words g c =
-    IfErr-weaker c.args.words _ _ (λ error is. status_number-IsNumberOf (status_of (without_words (error_kind error))) c.answered.result c.number.result is c.number.ensures) c.answered.ensures.without_words
+    IfErr-weaker c.args.words _ _
+    (λ error is. status_number-IsNumberOf (status_of (without_words (error_kind error))) c.answered.result c.number.result is c.number.ensures)
+    c.answered.ensures.without_words

@@ -16,4 +16,5 @@ returns-in-Trial g c =
     let shelf = shelved g.H.Shelf.told g.H.Shelf.faults g.H.Shelf.begun c.args.shelf.now c.args.shelf.now in
     let out = sunk g.O.Sink.got g.O.Sink.faults c.args.out.now c.trial.new.out in
     let note = sunk g.N.Sink.got g.N.Sink.faults c.args.note.now c.trial.new.note in
-    subst (λ form. Performs (call (Some (asked form)) shelf out note) c.trial.result) (sym c.in-Trial.is) (c.trial.ensures (g.H.Shelf.told c.args.shelf.now) (g.H.Shelf.faults c.args.shelf.now) (g.H.Shelf.begun c.args.shelf.now))
+    subst (λ form. Performs (call (Some (asked form)) shelf out note) c.trial.result) (sym c.in-Trial.is)
+    (c.trial.ensures (g.H.Shelf.told c.args.shelf.now) (g.H.Shelf.faults c.args.shelf.now) (g.H.Shelf.begun c.args.shelf.now))

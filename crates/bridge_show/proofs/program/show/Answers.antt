@@ -9,7 +9,8 @@ pub returns : goal.returns
 returns g c =
     let form : Option Form = Some (show (names_in c.args.files.now)) in
     outputs-Performs
-    (call form (shelved g.H.Shelf.told g.H.Shelf.faults g.H.Shelf.begun c.args.shelf.now c.shown-answer.new.shelf) (sunk g.O.Sink.got g.O.Sink.faults c.args.out.now c.deliver.new.out) (sunk g.N.Sink.got g.N.Sink.faults c.args.note.now c.deliver.new.note))
+    (call form (shelved g.H.Shelf.told g.H.Shelf.faults g.H.Shelf.begun c.args.shelf.now c.shown-answer.new.shelf)
+    (sunk g.O.Sink.got g.O.Sink.faults c.args.out.now c.deliver.new.out) (sunk g.N.Sink.got g.N.Sink.faults c.args.note.now c.deliver.new.note))
     c.deliver.result
     (record {
       answer = status_of c.shown-answer.result;

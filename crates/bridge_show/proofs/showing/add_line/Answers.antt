@@ -14,7 +14,8 @@ returns c =
     ∙ ap (λ (t : List ℕ). t ++ closed_text s) (
     c.in_ok-extend_from_slice-3.ensures.items
     ∙ ap (λ (t : List ℕ). t ++ codes ": ") (
-    c.in_ok-extend_from_slice-2.ensures.items ∙ ap₂ (λ (t u : List ℕ). t ++ u) c.in_ok-extend_from_slice.ensures.items (c.as_bytes.ensures.value ∙ c.format.ensures.text)
+    c.in_ok-extend_from_slice-2.ensures.items ∙ ap₂ (λ (t u : List ℕ). t ++ u) c.in_ok-extend_from_slice.ensures.items
+    (c.as_bytes.ensures.value ∙ c.format.ensures.text)
     )
     )
     )

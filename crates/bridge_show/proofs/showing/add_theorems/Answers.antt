@@ -7,4 +7,5 @@ pub add_theorem-requires : goal.add_theorem-requires
 add_theorem-requires c = all-at (λ i. i < length (steps_of c.args.proof.now.made)) c.args.steps.now c.loop-number.number 0 c.requires c.loop-number-test.true
 
 pub loop-number-preserved : goal.loop-number-preserved
-loop-number-preserved c = theorem_lines-next _ c.args.proof.now.made c.args.steps.now c.loop-number.number 0 _ _ _ c.loop-number-test.true c.in_ok-add_theorem.ensures c.loop-number.invariant
+loop-number-preserved c = theorem_lines-next _ c.args.proof.now.made c.args.steps.now c.loop-number.number 0 _ _ _ c.loop-number-test.true
+    c.in_ok-add_theorem.ensures c.loop-number.invariant

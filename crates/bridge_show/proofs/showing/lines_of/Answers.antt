@@ -9,5 +9,6 @@ returns c =
     let lines = λ (what : List ℕ) (made : List Made) (steps : List ℕ). theorem_lines what made 0 steps in
     c.in_ok-add_theorems-2.ensures
     ∙ ap₂ (λ (t u : List ℕ). t ++ u)
-    (c.in_ok-add_theorems.ensures ∙ ap₂ (λ (t u : List ℕ). t ++ u) c.new-text.ensures.items (ap₂ (lines (codes "assumption ")) c.proof-proof.ensures c.assumptions-assumptions.ensures.numbers))
+    (c.in_ok-add_theorems.ensures ∙ ap₂ (λ (t u : List ℕ). t ++ u) c.new-text.ensures.items
+    (ap₂ (lines (codes "assumption ")) c.proof-proof.ensures c.assumptions-assumptions.ensures.numbers))
     (ap₂ (lines (codes "export ")) c.proof-proof.ensures c.exports-exports.ensures.numbers)

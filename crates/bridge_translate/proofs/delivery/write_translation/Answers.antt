@@ -14,7 +14,8 @@ returns-then-is_err-clause-delivered g c =
     output_stopped Done (written (declarations_of t.module) t.bounds.items) (five_lines (counts_in t.counts) ++ c.args.last.now) _ _
     (of_err _ (sym c.is_err.ensures.value ∙ c.if-is_err.true) c.write.ensures.cause.failed)
     (of_err _ (sym c.is_err.ensures.value ∙ c.if-is_err.true) (rw c.deref.ensures.value at c.write.ensures.err))
-    (told_of_fault _ (sunk g.N.Sink.got g.N.Sink.faults c.args.note.now c.write_all.new.sink) c.write_all.ensures.ok c.write_all.ensures.err c.write_all.ensures.cause.failed)
+    (told_of_fault _ (sunk g.N.Sink.got g.N.Sink.faults c.args.note.now c.write_all.new.sink) c.write_all.ensures.ok c.write_all.ensures.err
+    c.write_all.ensures.cause.failed)
 
 pub returns-then-is_err-2-clause-delivered : goal.returns-then-is_err-2-clause-delivered
 returns-then-is_err-2-clause-delivered g c =

@@ -11,7 +11,8 @@ loop-i-init c = record { bounds = c.new-bounds.ensures.items; weights = c.new-we
 pub loop-i-preserved : goal.loop-i-preserved
 loop-i-preserved c =
     let m = declarations_of c.args.source.now in
-    let within : c.loop-i.i < length m = subst (λ n. c.loop-i.i < n) (c.len-i-end.ensures.count ∙ sym (length-map c.args.source.now.decls (declaration_in c.args.source.now.table))) c.loop-i-test.true in
+    let within : c.loop-i.i < length m = subst (λ n. c.loop-i.i < n)
+    (c.len-i-end.ensures.count ∙ sym (length-map c.args.source.now.decls (declaration_in c.args.source.now.table))) c.loop-i-test.true in
     record {
       bounds =
           c.in_ok-push.ensures.items

@@ -31,7 +31,8 @@ pub fold-requires-clause-is_module : goal.fold-requires-clause-is_module
 fold-requires-clause-is_module c =
     let same : run_of c.proof.result.now c.assumptions.result.now c.exports.result.now ≡ accepted_state c.args.machine.now =
     λ i. record { made = c.proof.ensures i; assumptions = c.assumptions.ensures.numbers i; exports = c.exports.ensures.numbers i } in
-    subst IsModule (sym (c.in_ok-image.ensures.module ∙ ap image same)) (image-IsModule c.requires.0 c.requires.1 (accepted_state c.args.machine.now) c.requires.2)
+    subst IsModule (sym (c.in_ok-image.ensures.module ∙ ap image same))
+    (image-IsModule c.requires.0 c.requires.1 (accepted_state c.args.machine.now) c.requires.2)
 
 pub fold-requires-clause-long : goal.fold-requires-clause-long
 fold-requires-clause-long c =
@@ -43,7 +44,8 @@ pub fold-requires-clause-shaped : goal.fold-requires-clause-shaped
 fold-requires-clause-shaped c =
     let same : run_of c.proof.result.now c.assumptions.result.now c.exports.result.now ≡ accepted_state c.args.machine.now =
     λ i. record { made = c.proof.ensures i; assumptions = c.assumptions.ensures.numbers i; exports = c.exports.ensures.numbers i } in
-    subst (AreShaped []) (sym (c.in_ok-image.ensures.module ∙ ap image same)) (image-shaped c.requires.0 c.requires.1 (accepted_state c.args.machine.now) c.requires.2)
+    subst (AreShaped []) (sym (c.in_ok-image.ensures.module ∙ ap image same))
+    (image-shaped c.requires.0 c.requires.1 (accepted_state c.args.machine.now) c.requires.2)
 
 pub returns-then-not-share-clause-module : goal.returns-then-not-share-clause-module
 returns-then-not-share-clause-module c =

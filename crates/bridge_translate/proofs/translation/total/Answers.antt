@@ -12,4 +12,5 @@ loop-index-preserved c =
     let d = declaration_in m.table c.get.result.now in
     c.saturating_add-total.ensures
     ∙ ap (λ n. min (c.loop-index.total + n) greatest) c.written.ensures
-    ∙ written-more (declarations_of m) c.args.bounds.now c.loop-index.index d _ _ c.loop-index.total c.requires (slice_get-map (declaration_in m.table) m.decls c.loop-index.index ∙ ap (option_map (declaration_in m.table)) c.get.ensures) refl c.loop-index.invariant
+    ∙ written-more (declarations_of m) c.args.bounds.now c.loop-index.index d _ _ c.loop-index.total c.requires
+    (slice_get-map (declaration_in m.table) m.decls c.loop-index.index ∙ ap (option_map (declaration_in m.table)) c.get.ensures) refl c.loop-index.invariant

@@ -6,4 +6,5 @@ use Rattle.bridge_spec.specs.Texts.{written_bound}
 use Rattle.bridge_translate.proofs.translation.total.Given as goal
 
 abbrev pub invariant-loop-index : goal.invariant-loop-index
-invariant-loop-index l = l.total ≡ min (sum_by (λ d. written_bound d.form (bound (declarations_of l.source) d)) (take l.index (declarations_of l.source))) greatest
+invariant-loop-index l = l.total ≡ min (sum_by (λ d. written_bound d.form (bound (declarations_of l.source) d)) (take l.index (declarations_of l.source)))
+    greatest

@@ -12,7 +12,8 @@ returns-then-is_err-clause-delivered g c =
     output_stopped Done (six_lines (counts_in c.args.counts.now)) [] _ _
     (of_err _ (sym c.is_err.ensures.value ∙ c.if-is_err.true) c.write_counts.ensures.cause.failed)
     (of_err _ (sym c.is_err.ensures.value ∙ c.if-is_err.true) c.write_counts.ensures.err)
-    (told_of_fault _ (sunk g.N.Sink.got g.N.Sink.faults c.args.note.now c.write_all.new.sink) c.write_all.ensures.ok c.write_all.ensures.err c.write_all.ensures.cause.failed)
+    (told_of_fault _ (sunk g.N.Sink.got g.N.Sink.faults c.args.note.now c.write_all.new.sink) c.write_all.ensures.ok c.write_all.ensures.err
+    c.write_all.ensures.cause.failed)
 
 pub returns-clause-delivered : goal.returns-clause-delivered
 returns-clause-delivered g c =

@@ -16,7 +16,8 @@ pub returns-in-Ok : goal.returns-in-Ok
 returns-in-Ok g c told faults begun =
     let run = c.in-Ok.ensures.counts in
     outputs-Performs
-    (call (Some (trial c.args.n)) (untouched told faults begun) (sunk g.O.Sink.got g.O.Sink.faults c.args.out.now c.deliver_counts.new.out) (sunk g.N.Sink.got g.N.Sink.faults c.args.note.now c.deliver_counts.new.note))
+    (call (Some (trial c.args.n)) (untouched told faults begun) (sunk g.O.Sink.got g.O.Sink.faults c.args.out.now c.deliver_counts.new.out)
+    (sunk g.N.Sink.got g.N.Sink.faults c.args.note.now c.deliver_counts.new.note))
     c.deliver_counts.result
     (record {
       answer = Done;
@@ -32,7 +33,8 @@ pub returns-in-Err : goal.returns-in-Err
 returns-in-Err g c told faults begun =
     let answer = c.in-Err.answer in
     outputs-Performs
-    (call (Some (trial c.args.n)) (untouched told faults begun) (sunk g.O.Sink.got g.O.Sink.faults c.args.out.now c.deliver.new.out) (sunk g.N.Sink.got g.N.Sink.faults c.args.note.now c.deliver.new.note))
+    (call (Some (trial c.args.n)) (untouched told faults begun) (sunk g.O.Sink.got g.O.Sink.faults c.args.out.now c.deliver.new.out)
+    (sunk g.N.Sink.got g.N.Sink.faults c.args.note.now c.deliver.new.note))
     c.deliver.result
     (record {
       answer = status_of answer;

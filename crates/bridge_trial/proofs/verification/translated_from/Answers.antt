@@ -18,4 +18,5 @@ returns-in-Ok-clause-translated c =
 pub returns-in-Err-clause-memory : goal.returns-in-Err-clause-memory
 returns-in-Err-clause-memory c =
     c.into_answer.ensures
-    ∙ stop-Memory c.args.n c.args.shelf.now.files (names_in c.args.words.now) c.requires.files c.requires.name c.requires.some c.requires.within c.in-Err.stop c.in-Err.ensures.refused c.in-Err.ensures.read_fault
+    ∙ stop-Memory c.args.n c.args.shelf.now.files (names_in c.args.words.now) c.requires.files c.requires.name c.requires.some c.requires.within c.in-Err.stop
+    c.in-Err.ensures.refused c.in-Err.ensures.read_fault

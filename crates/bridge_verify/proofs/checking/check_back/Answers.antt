@@ -10,7 +10,8 @@ pub read_back-requires-clause-bounds : goal.read_back-requires-clause-bounds
 read_back-requires-clause-bounds c = length-bounds c.requires.0 c.requires.1 c.requires.2 c.args.translation.now c.requires.3
 
 pub read_back-requires-clause-reads : goal.read_back-requires-clause-reads
-read_back-requires-clause-reads c = (module_of c.requires.0 c.requires.2, gathered-Reads c.requires.0 c.requires.1 c.requires.2 c.args.translation.now c.requires.3 c.requires.4 _ refl)
+read_back-requires-clause-reads c =
+    (module_of c.requires.0 c.requires.2, gathered-Reads c.requires.0 c.requires.1 c.requires.2 c.args.translation.now c.requires.3 c.requires.4 _ refl)
 
 pub returns-clause-accepted : goal.returns-clause-accepted
 returns-clause-accepted c =

@@ -8,4 +8,5 @@ returns-in-Ok-clause-read c text m fed reads = sym ((c.in-Ok.ensures.reads text 
 pub returns-in-Err-clause-memory : goal.returns-in-Err-clause-memory
 returns-in-Err-clause-memory c =
     let text = c.requires.reads.0 in
-    c.answer_of.ensures.memory (c.in-Err.ensures.accepts text c.requires.reads.1 c.requires.reads.2 (IsWithin-None c.args.reader.limit text c.requires.free) c.requires.reads.3)
+    c.answer_of.ensures.memory
+    (c.in-Err.ensures.accepts text c.requires.reads.1 c.requires.reads.2 (IsWithin-None c.args.reader.limit text c.requires.free) c.requires.reads.3)

@@ -7,4 +7,6 @@ pub returns-in-Err-clause-memory : goal.returns-in-Err-clause-memory
 returns-in-Err-clause-memory c =
     let before = c.requires.reads.0 in let rest = c.requires.reads.1 in let m = c.requires.reads.2 in
     let reads = subst (λ piece. Reads ((before ++ piece) ++ rest) m) (sym c.contents.ensures) c.requires.reads.4 in
-    c.answer_of.ensures.memory (judged-Memory c.args.reader.now c.contents.result.now before rest m c.feed-fed.result c.in-Err.fault c.requires.free c.requires.reads.3 reads c.feed-fed.ensures.judges c.in-Err.is)
+    c.answer_of.ensures.memory
+    (judged-Memory c.args.reader.now c.contents.result.now before rest m c.feed-fed.result c.in-Err.fault c.requires.free c.requires.reads.3 reads
+    c.feed-fed.ensures.judges c.in-Err.is)

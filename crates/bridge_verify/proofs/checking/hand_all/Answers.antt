@@ -21,7 +21,8 @@ pub loop-i-init : goal.loop-i-init
 loop-i-init c =
     let d = declarations_of c.args.translation.now.module in let bounds = c.args.translation.now.bounds.items in
     record {
-      fed = fed-prelude d bounds c.args.reader.now c.hand.new.reader c.prelude_into.new.text.contents c.in_ok-prelude_into.ensures.text c.requires.fed c.hand.ensures.feeds;
+      fed = fed-prelude d bounds c.args.reader.now c.hand.new.reader c.prelude_into.new.text.contents c.in_ok-prelude_into.ensures.text c.requires.fed
+          c.hand.ensures.feeds;
       room = refl;
       free = c.hand.ensures.limit ∙ c.requires.free;
       empty = c.hand.ensures.empty;
@@ -31,7 +32,8 @@ pub loop-i-preserved : goal.loop-i-preserved
 loop-i-preserved c =
     let d = declarations_of c.args.translation.now.module in let bounds = c.args.translation.now.bounds.items in let i = c.loop-i.i in
     record {
-      fed = fed-line d bounds c.loop-i.reader c.hand-in-loop-i.new.reader i c.line_into.new.text.contents c.in_ok-line_into.ensures.text c.loop-i.invariant.fed c.hand-in-loop-i.ensures.feeds;
+      fed = fed-line d bounds c.loop-i.reader c.hand-in-loop-i.new.reader i c.line_into.new.text.contents c.in_ok-line_into.ensures.text c.loop-i.invariant.fed
+          c.hand-in-loop-i.ensures.feeds;
       room = c.line_into.ensures.room ∙ c.loop-i.invariant.room;
       free = c.hand-in-loop-i.ensures.limit ∙ c.loop-i.invariant.free;
       empty = c.hand-in-loop-i.ensures.empty;
@@ -41,7 +43,8 @@ pub returns-clause-fed : goal.returns-clause-fed
 returns-clause-fed c =
     let d = declarations_of c.args.translation.now.module in let bounds = c.args.translation.now.bounds.items in let i = c.loop-i.i in
     let count : i ≡ length bounds = omega (arith, c.loop-i-test.false, c.loop-i.auto.i-end) in
-    let all : i ≡ length d = omega (arith, count, c.requires.bounds, length-map c.args.translation.now.module.decls (declaration_in c.args.translation.now.module.table)) in
+    let all : i ≡ length d = omega
+    (arith, count, c.requires.bounds, length-map c.args.translation.now.module.decls (declaration_in c.args.translation.now.module.table)) in
     fed-written d bounds c.loop-i.reader i all count c.loop-i.invariant.fed
 
 pub line_into-requires-clause-room : goal.line_into-requires-clause-room

@@ -12,7 +12,8 @@ checked_fast-requires-clause-run c =
 pub check_module-requires-clause-budgets : goal.check_module-requires-clause-budgets
 check_module-requires-clause-budgets c =
     let reads = gathered-Reads c.requires.made.0 c.requires.made.1 c.requires.made.2 c.args.translation.now c.requires.made.3 c.requires.made.4 _ refl in
-    length-budgets c.requires.made.0 c.requires.made.1 c.requires.made.2 c.args.translation.now c.requires.made.3 c.requires.made.4 c.args.back.now (c.requires.read (module_of c.requires.made.0 c.requires.made.2) reads) c.deref.result.now c.deref.ensures.value
+    length-budgets c.requires.made.0 c.requires.made.1 c.requires.made.2 c.args.translation.now c.requires.made.3 c.requires.made.4 c.args.back.now
+    (c.requires.read (module_of c.requires.made.0 c.requires.made.2) reads) c.deref.result.now c.deref.ensures.value
 
 pub returns-then-fast-clause-pass : goal.returns-then-fast-clause-pass
 returns-then-fast-clause-pass c = rw c.if-fast.true c.checked_fast.ensures.pass
@@ -21,7 +22,8 @@ pub returns-else-fast-clause-accepts : goal.returns-else-fast-clause-accepts
 returns-else-fast-clause-accepts c =
     let reads = gathered-Reads c.requires.made.0 c.requires.made.1 c.requires.made.2 c.args.translation.now c.requires.made.3 c.requires.made.4 _ refl in
     IfOk-weaker c.check_module.result _ _
-    (λ v h. h (back-PassWithin c.requires.made.0 c.requires.made.1 c.requires.made.2 c.args.translation.now c.requires.made.3 c.requires.made.4 c.args.back.now (c.requires.read (module_of c.requires.made.0 c.requires.made.2) reads) c.deref.result.now c.deref.ensures.value))
+    (λ v h. h (back-PassWithin c.requires.made.0 c.requires.made.1 c.requires.made.2 c.args.translation.now c.requires.made.3 c.requires.made.4 c.args.back.now
+    (c.requires.read (module_of c.requires.made.0 c.requires.made.2) reads) c.deref.result.now c.deref.ensures.value))
     c.check_module.ensures.accepts
 
 pub returns-else-fast-clause-pass : goal.returns-else-fast-clause-pass

@@ -36,7 +36,10 @@ returns-in-Ok-check_back g c =
     let t = c.in-Ok.ensures.translated in
     let names = names_in c.args.files.now in
     let made = c.in-Ok.translation in
-    let own = call (Some (verify c.args.share c.args.fast names)) (shelved g.H.Shelf.told g.H.Shelf.faults g.H.Shelf.begun c.args.shelf.now c.translation_of.new.shelf) (sunk g.O.Sink.got g.O.Sink.faults c.args.out.now c.deliver_verified.new.out) (sunk g.N.Sink.got g.N.Sink.faults c.args.note.now c.deliver_verified.new.note) in
+    let own = call (Some (verify c.args.share c.args.fast names))
+    (shelved g.H.Shelf.told g.H.Shelf.faults g.H.Shelf.begun c.args.shelf.now c.translation_of.new.shelf)
+    (sunk g.O.Sink.got g.O.Sink.faults c.args.out.now c.deliver_verified.new.out)
+    (sunk g.N.Sink.got g.N.Sink.faults c.args.note.now c.deliver_verified.new.note) in
     let outputs : Outputs own c.deliver_verified.result = ⊎_elim
     (λ done. record {
       answer = Done;
@@ -55,7 +58,8 @@ returns-in-Ok-check_back g c =
       delivered = wanting;
     })
     c.deliver_verified.ensures.delivered in
-    outputs-Performs own c.deliver_verified.result outputs c.in-Ok.ensures.told_kept c.in-Ok.ensures.count c.deliver_verified.ensures.out_count c.deliver_verified.ensures.note_count
+    outputs-Performs own c.deliver_verified.result outputs c.in-Ok.ensures.told_kept c.in-Ok.ensures.count c.deliver_verified.ensures.out_count
+    c.deliver_verified.ensures.note_count
 
 pub returns-in-Ok : goal.returns-in-Ok
 returns-in-Ok g c =
@@ -63,14 +67,17 @@ returns-in-Ok g c =
     let shelf = shelved g.H.Shelf.told g.H.Shelf.faults g.H.Shelf.begun c.args.shelf.now c.translation_of.new.shelf in
     let answer = c.in-Err-check_back.answer in
     outputs-Performs
-    (call (Some (verify c.args.share c.args.fast names)) shelf (sunk g.O.Sink.got g.O.Sink.faults c.args.out.now c.deliver.new.out) (sunk g.N.Sink.got g.N.Sink.faults c.args.note.now c.deliver.new.note))
+    (call (Some (verify c.args.share c.args.fast names)) shelf (sunk g.O.Sink.got g.O.Sink.faults c.args.out.now c.deliver.new.out)
+    (sunk g.N.Sink.got g.N.Sink.faults c.args.note.now c.deliver.new.note))
     c.deliver.result
     (record {
       answer = status_of answer;
       out_text = text_of answer;
       note_text = note_of answer;
-      answers = subst (λ answer. AnswersVerify c.args.share names shelf (status_of answer) (text_of answer) (note_of answer)) (sym c.in-Err-check_back.ensures.memory) (refl, refl);
-      begins = subst (λ answer. BeginsFiles (status_of answer) shelf.begun_before names shelf.begun) (sym c.in-Err-check_back.ensures.memory) c.translation_of.ensures.front_begun;
+      answers = subst (λ answer. AnswersVerify c.args.share names shelf (status_of answer) (text_of answer) (note_of answer))
+          (sym c.in-Err-check_back.ensures.memory) (refl, refl);
+      begins = subst (λ answer. BeginsFiles (status_of answer) shelf.begun_before names shelf.begun) (sym c.in-Err-check_back.ensures.memory)
+          c.translation_of.ensures.front_begun;
       delivered = c.deliver.ensures.delivered;
     })
     c.in-Ok.ensures.told_kept c.in-Ok.ensures.count c.deliver.ensures.out_count c.deliver.ensures.note_count
@@ -81,13 +88,15 @@ returns g c =
     let shelf = shelved g.H.Shelf.told g.H.Shelf.faults g.H.Shelf.begun c.args.shelf.now c.translation_of.new.shelf in
     let answer = c.into_answer.result in
     outputs-Performs
-    (call (Some (verify c.args.share c.args.fast names)) shelf (sunk g.O.Sink.got g.O.Sink.faults c.args.out.now c.deliver-in-Err.new.out) (sunk g.N.Sink.got g.N.Sink.faults c.args.note.now c.deliver-in-Err.new.note))
+    (call (Some (verify c.args.share c.args.fast names)) shelf (sunk g.O.Sink.got g.O.Sink.faults c.args.out.now c.deliver-in-Err.new.out)
+    (sunk g.N.Sink.got g.N.Sink.faults c.args.note.now c.deliver-in-Err.new.note))
     c.deliver-in-Err.result
     (record {
       answer = status_of answer;
       out_text = text_of answer;
       note_text = note_of answer;
-      answers = subst (λ answer. AnswersVerify c.args.share names shelf (status_of answer) (text_of answer) (note_of answer)) (sym c.into_answer.ensures) (stop-AnswersVerify names shelf c.args.share c.in-Err.stop c.in-Err.ensures.refused c.in-Err.ensures.read_fault);
+      answers = subst (λ answer. AnswersVerify c.args.share names shelf (status_of answer) (text_of answer) (note_of answer)) (sym c.into_answer.ensures)
+          (stop-AnswersVerify names shelf c.args.share c.in-Err.stop c.in-Err.ensures.refused c.in-Err.ensures.read_fault);
       begins = subst (λ answer. BeginsFiles (status_of answer) shelf.begun_before names shelf.begun) (sym c.into_answer.ensures)
           (stop-BeginsFiles c.in-Err.stop shelf.begun_before shelf.begun names c.in-Err.ensures.refused_begun c.translation_of.ensures.front_begun);
       delivered = c.deliver-in-Err.ensures.delivered;

@@ -13,4 +13,5 @@ returns c =
     let show = c.in_ok-command-4.ensures ∙ ap₂ (λ (a : App) (r : Rule). with_one a (codes "show") r) check c.files.ensures.rule in
     let decode = c.in_ok-command-5.ensures ∙ ap₂ (λ (a : App) (r : Rule). with_one a (codes "decode") r) show c.file.ensures.rule in
     let trial = c.in_ok-command-6.ensures ∙ ap₂ (λ (a : App) (r : Rule). with_one a (codes "trial") r) decode c.blocks-2.ensures.rule in
-    IfOk-weaker c.with_one-4.result _ _ (λ _ added. added ∙ ap₂ (λ (a : App) (r : Rule). with_one a (codes "article") r) trial c.files-2.ensures.rule) c.with_one-4.ensures
+    IfOk-weaker c.with_one-4.result _ _ (λ _ added. added ∙ ap₂ (λ (a : App) (r : Rule). with_one a (codes "article") r) trial c.files-2.ensures.rule)
+    c.with_one-4.ensures

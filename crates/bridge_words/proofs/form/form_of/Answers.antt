@@ -13,11 +13,13 @@ returns-then-not-are_readable c = unreadable (names_in c.args.words.now) c.if-no
 
 pub returns-in-Ok : goal.returns-in-Ok
 returns-in-Ok c =
-    let form = accepted (app_of c.in_ok-command.field-0) (names_in c.args.words.now) (subcommand_rows_of c.in-Ok.matches) c.in_ok-command.ensures c.if-not-are_readable.ensures
+    let form = accepted (app_of c.in_ok-command.field-0) (names_in c.args.words.now) (subcommand_rows_of c.in-Ok.matches) c.in_ok-command.ensures
+    c.if-not-are_readable.ensures
     c.in-Ok.ensures.kinds (λ simple. (c.in-Ok.ensures.matches simple).1) in
     IfOk-weaker c.form_asked.result _ _ (λ found h. h ∙ form) c.form_asked.ensures
 
 pub returns-in-Err : goal.returns-in-Err
 returns-in-Err c =
-    let form = refused-form (app_of c.in_ok-command.field-0) (names_in c.args.words.now) (kind_of c.in-Err.error) c.in_ok-command.ensures c.if-not-are_readable.ensures c.in-Err.ensures.kinds in
+    let form = refused-form (app_of c.in_ok-command.field-0) (names_in c.args.words.now) (kind_of c.in-Err.error) c.in_ok-command.ensures
+    c.if-not-are_readable.ensures c.in-Err.ensures.kinds in
     subst (λ r. IfOk r (λ found. option_map asked found ≡ form_in c.args.words.now)) (sym (c.no_form.ensures ∙ ap refused c.kind.ensures)) form

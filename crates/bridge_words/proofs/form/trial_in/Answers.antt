@@ -16,4 +16,5 @@ returns-in-None-number_up_to c =
     ∙ ap (option_and_then (λ word. option_map trial (trial_of word))) (c.in-Some.ensures ∙ first_value-rows (found_of c.args.found.now) (codes "blocks"))
 
 pub returns-in-None : goal.returns-in-None
-returns-in-None c = ap (option_and_then (λ word. option_map trial (trial_of word))) (c.in-None.ensures ∙ first_value-rows (found_of c.args.found.now) (codes "blocks"))
+returns-in-None c = ap (option_and_then (λ word. option_map trial (trial_of word)))
+    (c.in-None.ensures ∙ first_value-rows (found_of c.args.found.now) (codes "blocks"))

@@ -11,7 +11,8 @@ use Rattle.decode_back.proofs.compounds.abstraction.Goals as goal
 pub returns-then-not-spend-clause-made : goal.returns-then-not-spend-clause-made
 returns-then-not-spend-clause-made c fresh =
     let cost = c.size-size.ensures ∙ ap (λ ts. min (type_size (tree_at ts c.args.ty.0)) (2 ^ 64 - 1)) c.types.ensures.types in
-    lam-short (type_at c.args.table.now c.args.ty.0) (term_at c.args.table.now c.args.body.0) c.args.budget.now c.spend.new.budget c.args.table.now (omega (arith, c.spend.ensures.short c.if-not-spend.true, cost))
+    lam-short (type_at c.args.table.now c.args.ty.0) (term_at c.args.table.now c.args.body.0) c.args.budget.now c.spend.new.budget c.args.table.now
+    (omega (arith, c.spend.ensures.short c.if-not-spend.true, cost))
 
 pub returns-then-not-spend-2-clause-made : goal.returns-then-not-spend-2-clause-made
 returns-then-not-spend-2-clause-made c fresh =
@@ -23,7 +24,8 @@ pub returns-clause-made : goal.returns-clause-made
 returns-clause-made c =
     let cost = c.size-size.ensures ∙ ap (λ ts. min (type_size (tree_at ts c.args.ty.0)) (2 ^ 64 - 1)) c.types.ensures.types in
     IfOk-weaker _ _ c.over-found.result c.over-found.ensures.made (λ found made fresh.
-    made c.in-Ok.ensures.name c.args.budget.now c.spend-2.new.budget (omega (arith, c.spend.ensures.paid c.if-not-spend.false, c.spend-2.ensures.paid c.if-not-spend-2.false, cost, c.requires.budget)) fresh)
+    made c.in-Ok.ensures.name c.args.budget.now c.spend-2.new.budget
+    (omega (arith, c.spend.ensures.paid c.if-not-spend.false, c.spend-2.ensures.paid c.if-not-spend-2.false, cost, c.requires.budget)) fresh)
 
 pub returns-then-not-spend-clause-keeps : goal.returns-then-not-spend-clause-keeps
 returns-then-not-spend-clause-keeps c = Keeps-refl c.args.table.now

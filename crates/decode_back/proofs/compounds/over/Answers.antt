@@ -18,8 +18,10 @@ returns-in-Err-Refused-clause-made c named there left paid fresh =
 
 pub returns-clause-made : goal.returns-clause-made
 returns-clause-made c named there left paid fresh =
-    lam-made (type_at c.args.table.now c.args.variable.now.ty.0) (term_at c.args.table.now c.args.body.0) there left c.raw_abstraction.new.self c.in_ok-made.made fresh
-    (lam-held c.args.table.now c.free.new.self c.raw_instance.new.self c.raw_abstraction.new.self c.args.variable.now.ty c.args.variable.now.name c.args.body c.in-Ok.outside c.in_ok-open.open c.in_ok-made.made c.in-Ok.ensures.keeps c.in_ok-open.ensures.keeps
+    lam-made (type_at c.args.table.now c.args.variable.now.ty.0) (term_at c.args.table.now c.args.body.0) there left c.raw_abstraction.new.self
+    c.in_ok-made.made fresh
+    (lam-held c.args.table.now c.free.new.self c.raw_instance.new.self c.raw_abstraction.new.self c.args.variable.now.ty c.args.variable.now.name c.args.body
+    c.in-Ok.outside c.in_ok-open.open c.in_ok-made.made c.in-Ok.ensures.keeps c.in_ok-open.ensures.keeps
     c.requires.ty c.requires.body named c.in-Ok.ensures.made c.in_ok-open.ensures.made c.in_ok-made.ensures.made) paid
 
 pub returns-in-Err-Memory-clause-keeps : goal.returns-in-Err-Memory-clause-keeps

@@ -9,22 +9,26 @@ use Rattle.decode_back.proofs.constants.constant_at.Goals as goal
 
 pub returns-then-symbol-eq5-clause-found : goal.returns-then-symbol-eq5-clause-found
 returns-then-symbol-eq5-clause-found c =
-    subst (λ o. IfOk c.primitive.result (λ found. IsConstantFound c.args.limit o c.primitive.new.table found)) (equality-constant (declarations_of c.args.source.now) c.args.symbol c.if-symbol-eq5.true) c.primitive.ensures.found
+    subst (λ o. IfOk c.primitive.result (λ found. IsConstantFound c.args.limit o c.primitive.new.table found))
+    (equality-constant (declarations_of c.args.source.now) c.args.symbol c.if-symbol-eq5.true) c.primitive.ensures.found
 
 pub returns-then-symbol-eq6-clause-found : goal.returns-then-symbol-eq6-clause-found
 returns-then-symbol-eq6-clause-found c =
-    subst (λ o. IfOk c.primitive-then-symbol-eq6.result (λ found. IsConstantFound c.args.limit o c.primitive-then-symbol-eq6.new.table found)) (choice-constant (declarations_of c.args.source.now) c.args.symbol c.if-symbol-eq6.true) c.primitive-then-symbol-eq6.ensures.found
+    subst (λ o. IfOk c.primitive-then-symbol-eq6.result (λ found. IsConstantFound c.args.limit o c.primitive-then-symbol-eq6.new.table found))
+    (choice-constant (declarations_of c.args.source.now) c.args.symbol c.if-symbol-eq6.true) c.primitive-then-symbol-eq6.ensures.found
 
 pub returns-in-Some-clause-found : goal.returns-in-Some-clause-found
 returns-in-Some-clause-found c =
     let is : IsConstant (input_constant (declarations_of c.args.source.now) c.args.symbol) c.input.new.table c.in-Some.constant =
-    subst (λ o. MatchOption o (input_constant (declarations_of c.args.source.now) c.args.symbol ≡ None) (IsConstant (input_constant (declarations_of c.args.source.now) c.args.symbol) c.input.new.table)) c.in-Some.is c.in_ok-constant.ensures.found in
+    subst (λ o. MatchOption o (input_constant (declarations_of c.args.source.now) c.args.symbol ≡ None)
+    (IsConstant (input_constant (declarations_of c.args.source.now) c.args.symbol) c.input.new.table)) c.in-Some.is c.in_ok-constant.ensures.found in
     (is.0, other-constant (declarations_of c.args.source.now) c.args.symbol c.if-symbol-eq5.false c.if-symbol-eq6.false _ is.1, is.2)
 
 pub returns-in-None-clause-found : goal.returns-in-None-clause-found
 returns-in-None-clause-found c =
     let none : input_constant (declarations_of c.args.source.now) c.args.symbol ≡ None =
-    subst (λ o. MatchOption o (input_constant (declarations_of c.args.source.now) c.args.symbol ≡ None) (IsConstant (input_constant (declarations_of c.args.source.now) c.args.symbol) c.input.new.table)) c.in-None.is c.in_ok-constant.ensures.found in
+    subst (λ o. MatchOption o (input_constant (declarations_of c.args.source.now) c.args.symbol ≡ None)
+    (IsConstant (input_constant (declarations_of c.args.source.now) c.args.symbol) c.input.new.table)) c.in-None.is c.in_ok-constant.ensures.found in
     subst (λ o. IfOk c.defined.result (λ found. IsConstantFound c.args.limit o c.defined.new.table found))
     (sym (other-constant (declarations_of c.args.source.now) c.args.symbol c.if-symbol-eq5.false c.if-symbol-eq6.false _ none)) c.defined.ensures.found
 

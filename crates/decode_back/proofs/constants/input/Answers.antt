@@ -11,7 +11,8 @@ use Rattle.decode_back.proofs.constants.input.Goals as goal
 pub returns-in-Ok-clause-found : goal.returns-in-Ok-clause-found
 returns-in-Ok-clause-found c = (
   ClosedType.parameter 0,
-  input-found (declarations_of c.args.source.now) c.args.symbol c.in-Some.name (tree_at c.args.source.now.table c.symbol_type.result.0) c.is_input_type.result (sym c.in-Some.is ∙ c.in_ok-name.ensures) c.symbol_type.ensures.is c.is_input_type.ensures c.if-not-is_input_type.false,
+  input-found (declarations_of c.args.source.now) c.args.symbol c.in-Some.name (tree_at c.args.source.now.table c.symbol_type.result.0) c.is_input_type.result
+      (sym c.in-Some.is ∙ c.in_ok-name.ensures) c.symbol_type.ensures.is c.is_input_type.ensures c.if-not-is_input_type.false,
   subst (λ n. Holds c.ty_var.new.self.types c.in-Ok.generic.0 (variable n)) c.in_ok-variable.ensures c.in-Ok.ensures.made,
 )
 

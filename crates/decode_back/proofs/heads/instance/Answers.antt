@@ -14,26 +14,40 @@ use Rattle.decode_back.proofs.heads.instance.Goals as goal
 
 pub returns-in-Err-Refused-clause-made : goal.returns-in-Err-Refused-clause-made
 returns-in-Err-Refused-clause-made c =
-    type_refused c.args.constant.now.name (substitute (pairs_at c.args.table.now.types c.args.pairs.now) (type_at c.args.table.now c.args.constant.now.generic.0)) c.args.budget.now c.args.budget.now c.ty_subst.new.self c.in-Err-Refused.field-0-0
-    (subst (λ f. RefusesType f (substitute (pairs_at c.args.table.now.types c.args.pairs.now) (type_at c.args.table.now c.args.constant.now.generic.0))) c.in-Err-Refused.field-0-is c.in-Err-Refused.ensures.refusal)
+    type_refused c.args.constant.now.name
+    (substitute (pairs_at c.args.table.now.types c.args.pairs.now) (type_at c.args.table.now c.args.constant.now.generic.0)) c.args.budget.now
+    c.args.budget.now c.ty_subst.new.self c.in-Err-Refused.field-0-0
+    (subst (λ f. RefusesType f (substitute (pairs_at c.args.table.now.types c.args.pairs.now) (type_at c.args.table.now c.args.constant.now.generic.0)))
+    c.in-Err-Refused.field-0-is c.in-Err-Refused.ensures.refusal)
 
 pub returns-in-Err-Refused-constant-clause-made : goal.returns-in-Err-Refused-constant-clause-made
 returns-in-Err-Refused-constant-clause-made c =
-    constant_refused c.args.constant.now.name (substitute (pairs_at c.args.table.now.types c.args.pairs.now) (type_at c.args.table.now c.args.constant.now.generic.0)) c.args.budget.now c.args.budget.now c.constant.new.self c.in-Err-Refused-constant.field-0-0 (type_at c.ty_subst.new.self c.in-Ok.instance.0)
+    constant_refused c.args.constant.now.name
+    (substitute (pairs_at c.args.table.now.types c.args.pairs.now) (type_at c.args.table.now c.args.constant.now.generic.0)) c.args.budget.now
+    c.args.budget.now c.constant.new.self c.in-Err-Refused-constant.field-0-0 (type_at c.ty_subst.new.self c.in-Ok.instance.0)
     (Holds-tree_at c.ty_subst.new.self.types c.in-Ok.instance.0 _ c.in-Ok.ensures.made)
-    (subst (λ f. RefusesTerm f (term.Term.constant c.args.constant.now.name (type_at c.ty_subst.new.self c.in-Ok.instance.0))) c.in-Err-Refused-constant.field-0-is c.in-Err-Refused-constant.ensures.refusal)
+    (subst (λ f. RefusesTerm f (term.Term.constant c.args.constant.now.name (type_at c.ty_subst.new.self c.in-Ok.instance.0)))
+    c.in-Err-Refused-constant.field-0-is c.in-Err-Refused-constant.ensures.refusal)
 
 pub returns-then-not-spend-clause-made : goal.returns-then-not-spend-clause-made
 returns-then-not-spend-clause-made c =
-    constant_short c.args.constant.now.name (substitute (pairs_at c.args.table.now.types c.args.pairs.now) (type_at c.args.table.now c.args.constant.now.generic.0)) c.args.budget.now c.spend.new.budget c.constant.new.self (type_at c.ty_subst.new.self c.in-Ok.instance.0)
+    constant_short c.args.constant.now.name
+    (substitute (pairs_at c.args.table.now.types c.args.pairs.now) (type_at c.args.table.now c.args.constant.now.generic.0)) c.args.budget.now
+    c.spend.new.budget c.constant.new.self (type_at c.ty_subst.new.self c.in-Ok.instance.0)
     (Holds-tree_at c.ty_subst.new.self.types c.in-Ok.instance.0 _ c.in-Ok.ensures.made)
-    (subst (λ n. c.args.budget.now < n) (c.size.ensures ∙ ap (λ u. min (term_size u) (2 ^ 64 - 1)) (Some-term_in c.constant.new.self.terms c.in-Ok-constant.made.0 _ c.in-Ok-constant.ensures.made)) (c.spend.ensures.short c.if-not-spend.true))
+    (subst (λ n. c.args.budget.now < n) (c.size.ensures
+    ∙ ap (λ u. min (term_size u) (2 ^ 64 - 1)) (Some-term_in c.constant.new.self.terms c.in-Ok-constant.made.0 _ c.in-Ok-constant.ensures.made))
+    (c.spend.ensures.short c.if-not-spend.true))
 
 pub returns-clause-made : goal.returns-clause-made
 returns-clause-made c =
-    constant-made c.args.constant.now.name (substitute (pairs_at c.args.table.now.types c.args.pairs.now) (type_at c.args.table.now c.args.constant.now.generic.0)) c.args.budget.now c.spend.new.budget c.constant.new.self (type_at c.ty_subst.new.self c.in-Ok.instance.0) c.in-Ok-constant.made
+    constant-made c.args.constant.now.name
+    (substitute (pairs_at c.args.table.now.types c.args.pairs.now) (type_at c.args.table.now c.args.constant.now.generic.0)) c.args.budget.now
+    c.spend.new.budget c.constant.new.self (type_at c.ty_subst.new.self c.in-Ok.instance.0) c.in-Ok-constant.made
     (Holds-tree_at c.ty_subst.new.self.types c.in-Ok.instance.0 _ c.in-Ok.ensures.made) c.requires.budget c.in-Ok-constant.ensures.made
-    (subst (λ n. c.spend.new.budget + n ≡ c.args.budget.now) (c.size.ensures ∙ ap (λ u. min (term_size u) (2 ^ 64 - 1)) (Some-term_in c.constant.new.self.terms c.in-Ok-constant.made.0 _ c.in-Ok-constant.ensures.made)) (c.spend.ensures.paid c.if-not-spend.false))
+    (subst (λ n. c.spend.new.budget + n ≡ c.args.budget.now)
+    (c.size.ensures ∙ ap (λ u. min (term_size u) (2 ^ 64 - 1))
+    (Some-term_in c.constant.new.self.terms c.in-Ok-constant.made.0 _ c.in-Ok-constant.ensures.made)) (c.spend.ensures.paid c.if-not-spend.false))
 
 pub returns-clause-known : goal.returns-clause-known
 returns-clause-known c = c.in-Ok-constant.ensures.known

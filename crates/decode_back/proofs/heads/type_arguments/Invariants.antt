@@ -14,5 +14,6 @@ invariant-loop-number l = record {
   pairs : ArePairsKnown l.table.types l.pairs.items;
   keeps : Keeps l.fn.table l.table;
   within : l.number ≤ l.count;
-  taken : AreTaken (declarations_of l.source.module.now) (at_place l.source.place) l.number (trees_at l.source.module.now.table l.fn.args) (trees_at l.source.module.now.table l.args) (pairs_at l.table.types l.pairs.items);
+  taken : AreTaken (declarations_of l.source.module.now) (at_place l.source.place) l.number (trees_at l.source.module.now.table l.fn.args)
+      (trees_at l.source.module.now.table l.args) (pairs_at l.table.types l.pairs.items);
 }

@@ -12,8 +12,10 @@ returns-then-not-numbered c = first-fails (λ e. not-told c.in_ok-numbered.numbe
 pub returns : goal.returns
 returns c =
     second-told c.are_these.result (sym c.names.ensures ∙ c.in_ok-numbered.ensures.0 c.if-not-numbered.false)
-    (subst (λ vs. Decides c.are_these.result (map free_of vs ≡ terms_at c.args.table.now c.args.variables.now)) (ap (variables_of c.args.table.now) c.variables.ensures)
-    (subst (λ b. Decides b (map free_of (variables_of c.args.table.now c.variables.result.now) ≡ terms_at c.args.table.now c.args.variables.now)) (sym c.are_these.ensures) (terms_eq-Decides _ _)))
+    (subst (λ vs. Decides c.are_these.result (map free_of vs ≡ terms_at c.args.table.now c.args.variables.now))
+    (ap (variables_of c.args.table.now) c.variables.ensures)
+    (subst (λ b. Decides b (map free_of (variables_of c.args.table.now c.variables.result.now) ≡ terms_at c.args.table.now c.args.variables.now))
+    (sym c.are_these.ensures) (terms_eq-Decides _ _)))
 
 pub are_these-requires-clause-found : goal.are_these-requires-clause-found
 are_these-requires-clause-found c = subst (HaveTypes c.args.table.now) (sym c.variables.ensures) c.requires.known

@@ -8,4 +8,5 @@ use Rattle.decode_back.proofs.judging.are_these.Given as goal
 
 abbrev pub invariant-loop-place : goal.invariant-loop-place
 invariant-loop-place l =
-    pointwise term_eq (map free_of (variables_of l.table l.found)) (terms_at l.table l.terms) ≡ pointwise term_eq (map free_of (variables_of l.table (drop l.place l.found))) (terms_at l.table (drop l.place l.terms))
+    pointwise term_eq (map free_of (variables_of l.table l.found)) (terms_at l.table l.terms)
+    ≡ pointwise term_eq (map free_of (variables_of l.table (drop l.place l.found))) (terms_at l.table (drop l.place l.terms))

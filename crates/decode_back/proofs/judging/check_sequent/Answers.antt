@@ -3,7 +3,8 @@ use Rattle.decode_back.proofs.judging.check_sequent.Goals as goal
 
 pub returns : goal.returns
 returns c = record {
-  judged = IfOk-weaker _ _ c.judge_sequent-found.result c.judge_sequent-found.ensures.judged (λ found h s made. h s (made, c.in_ok-hyps.ensures.terms c.args.table.now c.view-distinct.ensures.distinct c.requires.ids));
+  judged = IfOk-weaker _ _ c.judge_sequent-found.result c.judge_sequent-found.ensures.judged
+      (λ found h s made. h s (made, c.in_ok-hyps.ensures.terms c.args.table.now c.view-distinct.ensures.distinct c.requires.ids));
 }
 
 pub judge_sequent-found-requires-clause-known : goal.judge_sequent-found-requires-clause-known

@@ -11,7 +11,8 @@ use Rattle.decode_back.proofs.judging.is_this.Goals as goal
 
 pub returns-then-eq : goal.returns-then-eq
 returns-then-eq c =
-    variable-told c.eq-then-eq.result c.args.table.now c.args.variable.now.name c.in-Free.name.now c.args.variable.now.ty c.in-Free.ty c.args.id (subst type.IsDistinct c.types.ensures.types c.view-distinct.ensures.distinct)
+    variable-told c.eq-then-eq.result c.args.table.now c.args.variable.now.name c.in-Free.name.now c.args.variable.now.ty c.in-Free.ty c.args.id
+    (subst type.IsDistinct c.types.ensures.types c.view-distinct.ensures.distinct)
     c.requires.variable c.in-Free.ensures.lower ((name_eq-Decides c.args.variable.now.name c.in-Free.name.now).0 (sym c.eq.ensures ∙ c.if-eq.true))
     (Some-term_in c.args.table.now.terms c.args.id.0 (term.Term.free c.in-Free.name.now (type_at c.args.table.now c.in-Free.ty.0)) c.in-Free.ensures.is)
     (subst (λ b. Decides b (c.args.variable.now.ty.0 ≡ c.in-Free.ty.0)) (sym c.eq-then-eq.ensures) (Decides-eqb c.args.variable.now.ty.0 c.in-Free.ty.0))

@@ -6,8 +6,10 @@ use Rattle.decode_back.proofs.products.parts_of.Goals as goal
 
 pub returns-in_default-clause-parts : goal.returns-in_default-clause-parts
 returns-in_default-clause-parts c =
-    ap proof_part (end-is (tree_at c.args.table.now c.args.id.0) (tree_at c.args.table.now c.peel_types-type_variables.result.1.0) (tree_at c.args.table.now c.in_ok-variables.rest.0) (tree_at c.args.table.now c.in_ok-hypotheses.rest.0)
-    c.peel_types-type_variables.result.0 (trees_at c.args.table.now c.in_ok-variables.variables.items) (trees_at c.args.table.now c.in_ok-hypotheses.hypotheses.items)
+    ap proof_part (end-is (tree_at c.args.table.now c.args.id.0) (tree_at c.args.table.now c.peel_types-type_variables.result.1.0)
+    (tree_at c.args.table.now c.in_ok-variables.rest.0) (tree_at c.args.table.now c.in_ok-hypotheses.rest.0)
+    c.peel_types-type_variables.result.0 (trees_at c.args.table.now c.in_ok-variables.variables.items)
+    (trees_at c.args.table.now c.in_ok-hypotheses.hypotheses.items)
     c.peel_types-type_variables.ensures.peeled c.in_ok-variables.ensures.peeled c.in_ok-hypotheses.ensures.peeled) ∙ sym c.in_default.ensures.argument
 
 pub returns-clause-parts : goal.returns-clause-parts

@@ -10,7 +10,8 @@ abbrev pub invariant-loop-domain : goal.invariant-loop-domain
 invariant-loop-domain l = record {
   known : l.rest.0 < length l.table;
   parts : lp.AreKnown l.table l.parts.items;
-  goes : ◌≡◌ {A = List Tree × Tree} (peel l.symbol (tree_at l.table l.fn.id.0)) (behind_parts (trees_at l.table l.parts.items) (peel l.symbol (tree_at l.table l.rest.0)));
+  goes : ◌≡◌ {A = List Tree × Tree} (peel l.symbol (tree_at l.table l.fn.id.0))
+      (behind_parts (trees_at l.table l.parts.items) (peel l.symbol (tree_at l.table l.rest.0)));
 }
 
 abbrev pub decreases-loop-domain : goal.decreases-loop-domain

@@ -10,5 +10,6 @@ invariant-loop-number l = record {
   ids : AreKnown l.table l.ids.items;
   many : length l.ids.items ≡ l.number;
   keeps : Keeps l.fn.table l.table;
-  so_far : VariablesSoFar (declarations_of l.source) (trees_at l.source.table l.trees) (trees_at l.source.table (drop l.number l.trees)) l.count l.number l.table l.ids.items;
+  so_far : VariablesSoFar (declarations_of l.source) (trees_at l.source.table l.trees) (trees_at l.source.table (drop l.number l.trees)) l.count l.number
+      l.table l.ids.items;
 }

@@ -8,9 +8,11 @@ use Rattle.decode_back.proofs.sequents.innermost.Goals as goal
 
 pub returns-in-Lam-clause-held : goal.returns-in-Lam-clause-held
 returns-in-Lam-clause-held c =
-    bound-held c.raw_abstraction.new.self c.in_ok-made.made c.in-Lam.body (type_at c.free.new.self c.in-Ok-ty_op.ty.0) (type_at c.raw_abstraction.new.self c.in-Lam.field-0.0) c.in-Ok.name (term_at c.free.new.self c.in-Ok-free.free.0)
+    bound-held c.raw_abstraction.new.self c.in_ok-made.made c.in-Lam.body (type_at c.free.new.self c.in-Ok-ty_op.ty.0)
+    (type_at c.raw_abstraction.new.self c.in-Lam.field-0.0) c.in-Ok.name (term_at c.free.new.self c.in-Ok-free.free.0)
     c.in-Lam.ensures.is c.in_ok-made.ensures.made
-    (Some-term_in c.free.new.self.terms c.in-Ok-free.free.0 (term.Term.free c.in-Ok.name (type_at c.ty_op.new.self c.in-Ok-ty_op.ty.0)) c.in-Ok-free.ensures.made
+    (Some-term_in c.free.new.self.terms c.in-Ok-free.free.0 (term.Term.free c.in-Ok.name (type_at c.ty_op.new.self c.in-Ok-ty_op.ty.0))
+    c.in-Ok-free.ensures.made
     ∙ ap (term.Term.free c.in-Ok.name) (tree_at-Stays c.in-Ok-free.ensures.keeps.types.stays c.in-Ok-ty_op.ty.0 c.in-Ok-ty_op.ensures.known))
     (omega (arith, c.in-Lam.ensures.lower.1, c.in_ok-made.ensures.known))
 

@@ -8,5 +8,6 @@ use Rattle.decode_back.proofs.symbols.is_operator_type.Given as goal
 abbrev pub invariant-loop : goal.invariant-loop
 invariant-loop l = record {
   known : l.rest.0 < length l.table;
-  goes : tree_eq (tree_at l.table l.fn.id.0) (products (replicate l.arity types) types) ≡ tree_eq (tree_at l.table l.rest.0) (products (replicate (l.arity - l.counter) types) types);
+  goes : tree_eq (tree_at l.table l.fn.id.0) (products (replicate l.arity types) types)
+      ≡ tree_eq (tree_at l.table l.rest.0) (products (replicate (l.arity - l.counter) types) types);
 }

@@ -9,11 +9,13 @@ use Rattle.decode_back.proofs.symbols.name_behind.Goals as goal
 
 pub returns-in_default-found : goal.returns-in_default-found
 returns-in_default-found c =
-    no_name (declarations_of c.args.source.now) c.args.symbol c.args.front.now c.in-Some.text.now (ap (behind c.args.front.now) (sym c.symbol_name.ensures) ∙ sym c.in-Some.ensures)
+    no_name (declarations_of c.args.source.now) c.args.symbol c.args.front.now c.in-Some.text.now
+    (ap (behind c.args.front.now) (sym c.symbol_name.ensures) ∙ sym c.in-Some.ensures)
     (subst (λ o. MatchOption o (HasNoName c.in-Some.text.now) (λ n. mangled n ≡ c.in-Some.text.now)) c.in_default-found.is c.in-Ok.ensures.inverse)
 
 pub returns : goal.returns
 returns c =
-    has_name (declarations_of c.args.source.now) c.args.symbol c.args.front.now c.in-Some.text.now c.in-Some-found.name (ap (behind c.args.front.now) (sym c.symbol_name.ensures) ∙ sym c.in-Some.ensures)
+    has_name (declarations_of c.args.source.now) c.args.symbol c.args.front.now c.in-Some.text.now c.in-Some-found.name
+    (ap (behind c.args.front.now) (sym c.symbol_name.ensures) ∙ sym c.in-Some.ensures)
     c.mangled-text.ensures.name
     (subst (λ o. MatchOption o (HasNoName c.in-Some.text.now) (λ n. mangled n ≡ c.in-Some.text.now)) c.in-Some-found.is c.in-Ok.ensures.inverse)

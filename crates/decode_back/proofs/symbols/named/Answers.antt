@@ -15,9 +15,11 @@ returns-then-is_primitive c =
 pub returns-then-not-is_operator_type : goal.returns-then-not-is_operator_type
 returns-then-not-is_operator_type c =
     other-type (declarations_of c.args.source.now) c.args.symbol c.args.front.now c.args.arity c.in-Some.name (sym c.in-Some.is ∙ c.in_ok-name.ensures)
-    (tree_at c.args.source.now.table c.symbol_type.result.0) c.is_operator_type.result c.symbol_type.ensures.is c.is_operator_type.ensures c.if-not-is_operator_type.true
+    (tree_at c.args.source.now.table c.symbol_type.result.0) c.is_operator_type.result c.symbol_type.ensures.is c.is_operator_type.ensures
+    c.if-not-is_operator_type.true
 
 pub returns : goal.returns
 returns c =
     is-named (declarations_of c.args.source.now) c.args.symbol c.args.front.now c.args.arity c.in-Some.name (sym c.in-Some.is ∙ c.in_ok-name.ensures)
-    (tree_at c.args.source.now.table c.symbol_type.result.0) c.is_primitive.result c.is_operator_type.result c.is_primitive.ensures c.if-is_primitive.false c.symbol_type.ensures.is c.is_operator_type.ensures c.if-not-is_operator_type.false
+    (tree_at c.args.source.now.table c.symbol_type.result.0) c.is_primitive.result c.is_operator_type.result c.is_primitive.ensures c.if-is_primitive.false
+    c.symbol_type.ensures.is c.is_operator_type.ensures c.if-not-is_operator_type.false

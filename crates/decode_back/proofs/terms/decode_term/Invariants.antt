@@ -15,7 +15,13 @@ invariant-loop-task l = record {
   budget : l.walk.budget ≤ l.fn.budget;
   shaped : IsTermShape l.source.module.now.table l.table l.walk.tasks l.walk.made;
   walk : (types : List ClosedType) → AreVariables l.fn.table l.source.variables.now types
-      → IsTermWalk (declarations_of l.source.module.now) l.source.module.now.table (under l.source.place) types (record { told = term_from (declarations_of l.source.module.now) (tree_at l.source.module.now.table l.fn.id.0) (at_place l.source.place); size = l.fn.budget; depth = l.level }) l.table l.walk.budget l.walk.tasks
+      → IsTermWalk (declarations_of l.source.module.now) l.source.module.now.table (under l.source.place) types
+      (record {
+        told = term_from (declarations_of l.source.module.now) (tree_at l.source.module.now.table l.fn.id.0) (at_place l.source.place);
+        size =
+            l.fn.budget;
+        depth = l.level;
+      }) l.table l.walk.budget l.walk.tasks
       l.walk.made;
 }
 

@@ -14,6 +14,7 @@ loop-preserved c =
     let more = ap length pushed in
     let long = length-append c.loop.args.items (c.take.result ∷ []) in
     let old = c.loop.invariant.1 in (
-      c.loop.invariant.0 ∙ ap (λ l. c.loop.args.items ++ l) c.take.ensures ∙ sym (append_assoc c.loop.args.items (c.take.result ∷ []) c.take.new.made) ∙ ap (λ l. l ++ c.take.new.made) (sym pushed),
+      c.loop.invariant.0 ∙ ap (λ l. c.loop.args.items ++ l) c.take.ensures ∙ sym (append_assoc c.loop.args.items (c.take.result ∷ []) c.take.new.made)
+          ∙ ap (λ l. l ++ c.take.new.made) (sym pushed),
       omega (arith, more, long, old),
     )

@@ -10,7 +10,8 @@ use Rattle.decode_back.proofs.types.operator.Goals as goal
 
 pub returns-in_default-clause-decoded : goal.returns-in_default-clause-decoded
 returns-in_default-clause-decoded c at acc h =
-    symbol-none (declarations_of c.args.source.now) at c.args.level c.args.symbol c.len-2.result acc (arguments-count c.args.table.now c.args.args.items acc h ∙ long c.args.args ∙ sym c.len-2.ensures)
+    symbol-none (declarations_of c.args.source.now) at c.args.level c.args.symbol c.len-2.result acc
+    (arguments-count c.args.table.now c.args.args.items acc h ∙ long c.args.args ∙ sym c.len-2.ensures)
     (sym c.in_ok-name.ensures ∙ c.in_default.is)
 
 pub ty_op-requires : goal.ty_op-requires
@@ -18,15 +19,20 @@ ty_op-requires c = subst (AreKnown c.args.table.now.types) (sym c.deref.ensures.
 
 pub returns-in-Ok-clause-decoded : goal.returns-in-Ok-clause-decoded
 returns-in-Ok-clause-decoded c at acc h =
-    symbol-some (declarations_of c.args.source.now) at c.args.level c.args.symbol c.len-2.result acc (arguments-count c.args.table.now c.args.args.items acc h ∙ long c.args.args ∙ sym c.len-2.ensures)
-    c.in-Some.name c.args.table.now c.ty_op.new.self c.args.args.items c.deref.result.now c.in-Ok.made (sym c.in_ok-name.ensures ∙ c.in-Some.is) h c.deref.ensures.value c.in-Ok.ensures.made
+    symbol-some (declarations_of c.args.source.now) at c.args.level c.args.symbol c.len-2.result acc
+    (arguments-count c.args.table.now c.args.args.items acc h ∙ long c.args.args ∙ sym c.len-2.ensures)
+    c.in-Some.name c.args.table.now c.ty_op.new.self c.args.args.items c.deref.result.now c.in-Ok.made (sym c.in_ok-name.ensures ∙ c.in-Some.is) h
+    c.deref.ensures.value c.in-Ok.ensures.made
 
 pub returns-clause-decoded : goal.returns-clause-decoded
 returns-clause-decoded c at acc h =
-    symbol-refused (declarations_of c.args.source.now) at c.args.level c.args.symbol c.len-2.result acc (arguments-count c.args.table.now c.args.args.items acc h ∙ long c.args.args ∙ sym c.len-2.ensures)
+    symbol-refused (declarations_of c.args.source.now) at c.args.level c.args.symbol c.len-2.result acc
+    (arguments-count c.args.table.now c.args.args.items acc h ∙ long c.args.args ∙ sym c.len-2.ensures)
     c.in-Some.name c.args.table.now c.args.args.items c.deref.result.now (sym c.in_ok-name.ensures ∙ c.in-Some.is) h c.deref.ensures.value
-    (not-within c.in-Err-Refused.field-0-0 c.args.level (operator c.in-Some.name (types_of (types_at c.args.table.now.types c.deref.result.now))) c.requires.level
-    (subst (λ f. RefusesType f (operator c.in-Some.name (types_of (types_at c.args.table.now.types c.deref.result.now)))) c.in-Err-Refused.field-0-is c.in-Err-Refused.ensures.refusal))
+    (not-within c.in-Err-Refused.field-0-0 c.args.level (operator c.in-Some.name (types_of (types_at c.args.table.now.types c.deref.result.now)))
+    c.requires.level
+    (subst (λ f. RefusesType f (operator c.in-Some.name (types_of (types_at c.args.table.now.types c.deref.result.now)))) c.in-Err-Refused.field-0-is
+    c.in-Err-Refused.ensures.refusal))
 
 pub returns-then-symbol-len-clause-keeps : goal.returns-then-symbol-len-clause-keeps
 returns-then-symbol-len-clause-keeps c = Keeps-refl c.args.table.now
@@ -50,4 +56,5 @@ pub returns-in-Ok-clause-known : goal.returns-in-Ok-clause-known
 returns-in-Ok-clause-known c = c.in-Ok.ensures.known
 
 pub operator_at-requires-clause-declared : goal.operator_at-requires-clause-declared
-operator_at-requires-clause-declared c = omega (arith, c.if-symbol-len.false, c.len.ensures, length-map c.args.source.now.decls (declaration_in c.args.source.now.table))
+operator_at-requires-clause-declared c = omega
+    (arith, c.if-symbol-len.false, c.len.ensures, length-map c.args.source.now.decls (declaration_in c.args.source.now.table))

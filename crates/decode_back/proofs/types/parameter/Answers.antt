@@ -9,11 +9,13 @@ use Rattle.decode_back.proofs.types.parameter.Goals as goal
 
 pub returns-then-variable-depth-clause-decoded : goal.returns-then-variable-depth-clause-decoded
 returns-then-variable-depth-clause-decoded c d =
-    variable-none d (at_place c.args.place) c.args.level c.args.variable c.depth-depth.result (sym c.depth-depth.ensures) (λ l m. omega (arith, l, c.if-variable-depth.true)) ClosedTypes.none
+    variable-none d (at_place c.args.place) c.args.level c.args.variable c.depth-depth.result (sym c.depth-depth.ensures)
+    (λ l m. omega (arith, l, c.if-variable-depth.true)) ClosedTypes.none
 
 pub returns-in-Ok-clause-decoded : goal.returns-in-Ok-clause-decoded
 returns-in-Ok-clause-decoded c d =
-    variable-found d (at_place c.args.place) c.args.level c.args.variable c.depth-depth.result (sym c.depth-depth.ensures) c.if-variable-depth.false c.if-number-place.false c.ty_var.new.self c.in-Ok.made
+    variable-found d (at_place c.args.place) c.args.level c.args.variable c.depth-depth.result (sym c.depth-depth.ensures) c.if-variable-depth.false
+    c.if-number-place.false c.ty_var.new.self c.in-Ok.made
     (subst (λ n. Holds c.ty_var.new.self.types c.in-Ok.made.0 (variable n)) c.in_ok-name.ensures c.in-Ok.ensures.made)
 
 pub returns-then-variable-depth-clause-keeps : goal.returns-then-variable-depth-clause-keeps

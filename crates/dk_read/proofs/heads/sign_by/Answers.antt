@@ -4,7 +4,8 @@ use Rattle.dk_read.proofs.Signs.{left_paren, right_paren, assign, colon, arrow, 
 use Rattle.dk_read.proofs.heads.sign_by.Goals as goal
 
 pub returns-else-second-eq59 : goal.returns-else-second-eq59
-returns-else-second-eq59 c = record { signs = λ more. left_paren c.args.first c.args.second more c.in-40.is (let h = c.if-second-eq59.false in grind (arith, common_steps, h)) }
+returns-else-second-eq59 c = record
+    { signs = λ more. left_paren c.args.first c.args.second more c.in-40.is (let h = c.if-second-eq59.false in grind (arith, common_steps, h)) }
 
 pub returns-in-41 : goal.returns-in-41
 returns-in-41 c = record { signs = λ more. right_paren c.args.first (c.args.second ∷ more) c.in-41.is }
@@ -13,7 +14,8 @@ pub returns-then-second-eq61 : goal.returns-then-second-eq61
 returns-then-second-eq61 c = record { signs = λ more. assign c.args.first c.args.second more c.in-58.is c.if-second-eq61.true }
 
 pub returns-else-second-eq61 : goal.returns-else-second-eq61
-returns-else-second-eq61 c = record { signs = λ more. colon c.args.first c.args.second more c.in-58.is (let h = c.if-second-eq61.false in grind (arith, common_steps, h)) }
+returns-else-second-eq61 c = record
+    { signs = λ more. colon c.args.first c.args.second more c.in-58.is (let h = c.if-second-eq61.false in grind (arith, common_steps, h)) }
 
 pub returns-then-second-eq62 : goal.returns-then-second-eq62
 returns-then-second-eq62 c = record { signs = λ more. arrow c.args.first c.args.second more c.in-45.is c.if-second-eq62.true }

@@ -18,5 +18,6 @@ returns-in-Symbol c =
     let e = c.in_ok-number.ensures in
     record {
       nameless = λ n h. nameless_keeps c.args.names.now ms n e.keeps h;
-      symbols = λ h. symbol_stays c.args.symbol c.requires.name.0 c.args.names.now ms c.args.name.now c.requires.name.1 e.same (not_free c.meaning.result (looked ms c.args.name.now) c.in-Symbol.is (c.meaning.ensures ∙ ap (looked ms) e.named)) h;
+      symbols = λ h. symbol_stays c.args.symbol c.requires.name.0 c.args.names.now ms c.args.name.now c.requires.name.1 e.same
+          (not_free c.meaning.result (looked ms c.args.name.now) c.in-Symbol.is (c.meaning.ensures ∙ ap (looked ms) e.named)) h;
     }

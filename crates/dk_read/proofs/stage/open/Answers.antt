@@ -12,7 +12,8 @@ returns-then-same-piece-clause-comes c =
     let piece = c.args.piece.now in
     let n = c.common-same.result in
     let wanted : c.split_at.result.1.now ≡ drop c.args.count prelude = c.split_at.ensures.back in
-    opening_differs c.args.count piece prelude c.requires.within n (c.common-same.ensures.is ∙ ap (common piece) wanted) c.if-same-piece.true (subst (λ l. n < length l) wanted c.if-same-wanted.true)
+    opening_differs c.args.count piece prelude c.requires.within n (c.common-same.ensures.is ∙ ap (common piece) wanted) c.if-same-piece.true
+    (subst (λ l. n < length l) wanted c.if-same-wanted.true)
 
 pub returns-then-same-wanted-clause-comes : goal.returns-then-same-wanted-clause-comes
 returns-then-same-wanted-clause-comes c =
@@ -21,7 +22,8 @@ returns-then-same-wanted-clause-comes c =
     let wanted : c.split_at.result.1.now ≡ drop c.args.count prelude = c.split_at.ensures.back in
     let one : n ≤ length piece = c.common-same.ensures.one in
     let all : length piece ≤ n = c.if-same-piece.false in
-    opening_short c.args.count piece prelude c.requires.within n (c.common-same.ensures.is ∙ ap (common piece) wanted) (omega (arith, one, all)) (subst (λ l. n < length l) wanted c.if-same-wanted.true)
+    opening_short c.args.count piece prelude c.requires.within n (c.common-same.ensures.is ∙ ap (common piece) wanted) (omega (arith, one, all))
+    (subst (λ l. n < length l) wanted c.if-same-wanted.true)
 
 pub returns-clause-comes : goal.returns-clause-comes
 returns-clause-comes c =
@@ -33,5 +35,6 @@ returns-clause-comes c =
     let same : n ≡ length c.split_at.result.1.now = omega (arith, two, all) in
     let start = reading.read_bytes (reading.Inside (length prelude) tokens.Nothing [] reading.Between) in
     comes_as _ (start c.split_at-2.result.1.now) c.begin.result
-    (opening_whole c.args.count piece prelude c.requires.within n (c.common-same.ensures.is ∙ ap (common piece) wanted) (same ∙ ap length wanted) ∙ ap start (sym c.split_at-2.ensures.back))
+    (opening_whole c.args.count piece prelude c.requires.within n (c.common-same.ensures.is ∙ ap (common piece) wanted) (same ∙ ap length wanted)
+    ∙ ap start (sym c.split_at-2.ensures.back))
     c.begin.ensures.comes

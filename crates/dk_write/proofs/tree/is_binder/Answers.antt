@@ -7,4 +7,6 @@ use Rattle.dk_write.proofs.tree.is_binder.Goals as goal
 
 pub returns-in-Some : goal.returns-in-Some
 returns-in-Some c =
-    sym (ap is_binder (shortened-short (take c.args.before (declarations_of c.args.source.now)) (tree_at c.args.source.now.table c.args.id.0) c.in-Some.field-0 (sym c.short_name.ensures ∙ c.in-Some.is)))
+    sym (ap is_binder
+    (shortened-short (take c.args.before (declarations_of c.args.source.now)) (tree_at c.args.source.now.table c.args.id.0) c.in-Some.field-0
+    (sym c.short_name.ensures ∙ c.in-Some.is)))

@@ -6,14 +6,16 @@ pub returns-in_err-turn-in-Write-clause-writes : goal.returns-in_err-turn-in-Wri
 returns-in_err-turn-in-Write-clause-writes g c =
     let t = c.in-Write.is in
     let before = rw t at c.loop-turn.invariant.text in
-    writes_failed _ _ _ _ _ _ _ _ _ _ _ _ c.from_residual.ensures.0 before c.loop-turn.invariant.later c.in_err-turn-in-Write.ensures.err c.in_err-turn-in-Write.ensures.cause
+    writes_failed _ _ _ _ _ _ _ _ _ _ _ _ c.from_residual.ensures.0 before c.loop-turn.invariant.later c.in_err-turn-in-Write.ensures.err
+    c.in_err-turn-in-Write.ensures.cause
 
 pub returns-in_err-turn-in-Some-clause-writes : goal.returns-in_err-turn-in-Some-clause-writes
 returns-in_err-turn-in-Some-clause-writes g c =
     let t = c.in-Leave.is in
     let p = c.in-Some.ensures.popped in
     let before = rw (t, p) at c.loop-turn.invariant.text in
-    writes_failed _ _ _ _ _ _ _ _ _ _ _ _ c.from_residual-in_err-turn-in-Some.ensures.0 before c.loop-turn.invariant.later c.in_err-turn-in-Some.ensures.err c.in_err-turn-in-Some.ensures.cause
+    writes_failed _ _ _ _ _ _ _ _ _ _ _ _ c.from_residual-in_err-turn-in-Some.ensures.0 before c.loop-turn.invariant.later c.in_err-turn-in-Some.ensures.err
+    c.in_err-turn-in-Some.ensures.cause
 
 pub loop-turn-preserved-in_ok-turn-in-Write : goal.loop-turn-preserved-in_ok-turn-in-Write
 loop-turn-preserved-in_ok-turn-in-Write g c =

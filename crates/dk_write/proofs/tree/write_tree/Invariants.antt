@@ -10,7 +10,8 @@ abbrev pub invariant-loop-turn : goal.invariant-loop-turn
 invariant-loop-turn g l = record {
   turn : IsTurn l.path.room l.source.table l.path.frames l.turn;
   frames : AreFrames l.path.room l.source.table l.path.frames;
-  text : Gained (g.S.Sink.got l.fn.sink) (l.fn.gathered ++ tree_text (declarations_of l.fn.source) 0 (written_tree l.fn.source l.fn.before l.fn.id)) (l.gathered ++ left_text l.source l.before l.turn l.path.frames) (g.S.Sink.got l.sink);
+  text : Gained (g.S.Sink.got l.fn.sink) (l.fn.gathered ++ tree_text (declarations_of l.fn.source) 0 (written_tree l.fn.source l.fn.before l.fn.id))
+      (l.gathered ++ left_text l.source l.before l.turn l.path.frames) (g.S.Sink.got l.sink);
   room : l.path.room ≡ l.fn.path.room;
   later : g.S.Sink.faults l.fn.sink ≤ g.S.Sink.faults l.sink;
 }

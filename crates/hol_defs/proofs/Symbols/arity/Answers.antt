@@ -9,4 +9,6 @@ use Rattle.hol_defs.proofs.Symbols.arity.Goals as goal
 
 pub returns : goal.returns
 returns c = λ trees. rw (← c.self.view_is) (
-    c.or.ensures ∙ ap₂ option_or c.arity_of.ensures (c.find.ensures ∙ ap (lookup (name_eq c.args.name.now)) c.self.invariant.arities_are ∙ sym (arities-found trees c.args.name.now (map taken_of c.self.inside.taken.items))))
+    c.or.ensures ∙ ap₂ option_or c.arity_of.ensures
+    (c.find.ensures ∙ ap (lookup (name_eq c.args.name.now)) c.self.invariant.arities_are
+    ∙ sym (arities-found trees c.args.name.now (map taken_of c.self.inside.taken.items))))

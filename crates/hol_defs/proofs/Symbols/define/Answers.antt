@@ -11,7 +11,10 @@ use Rattle.hol_defs.proofs.JudgeLaws.{first_holds, known_term}
 use Rattle.hol_defs.proofs.Symbols.define.Goals as goal
 
 pub take_const-requires : goal.take_const-requires
-take_const-requires c = undefined c.args.table.now c.args.name.now c.args.self.now c.requires.known (first_holds (is_taken_constant (symbols_at c.args.table.now c.args.self.now) c.args.name.now) NameTaken ((is_closed (term_at c.args.table.now c.args.term.0), NotClosed) ∷ (has_own_variables (term_at c.args.table.now c.args.term.0), ExtraTypeVars) ∷ []) c.in-Ok.ensures.fits)
+take_const-requires c = undefined c.args.table.now c.args.name.now c.args.self.now c.requires.known
+    (first_holds (is_taken_constant (symbols_at c.args.table.now c.args.self.now) c.args.name.now) NameTaken
+    ((is_closed (term_at c.args.table.now c.args.term.0), NotClosed) ∷ (has_own_variables (term_at c.args.table.now c.args.term.0), ExtraTypeVars) ∷ [])
+    c.in-Ok.ensures.fits)
 
 pub returns-in_ok-take_const-in-Ok-clause-known : goal.returns-in_ok-take_const-in-Ok-clause-known
 returns-in_ok-take_const-in-Ok-clause-known c = subst (AreKnownSymbols c.args.table.now) (sym c.in_ok-take_const-in-Ok.ensures.takes) (
@@ -22,7 +25,8 @@ returns-in_ok-take_const-in-Ok-clause-known c = subst (AreKnownSymbols c.args.ta
 
 pub returns-in_ok-take_const-in-Ok-clause-takes : goal.returns-in_ok-take_const-in-Ok-clause-takes
 returns-in_ok-take_const-in-Ok-clause-takes c =
-    ap (symbols_at c.args.table.now) c.in_ok-take_const-in-Ok.ensures.takes ∙ symbols_at-append c.args.table.now c.args.self.now (Taken.constant c.args.name.now c.args.term c.type_of.result ∷ [])
+    ap (symbols_at c.args.table.now) c.in_ok-take_const-in-Ok.ensures.takes
+    ∙ symbols_at-append c.args.table.now c.args.self.now (Taken.constant c.args.name.now c.args.term c.type_of.result ∷ [])
 
 pub returns-in_err-take_const-in-Ok-clause-known : goal.returns-in_err-take_const-in-Ok-clause-known
 returns-in_err-take_const-in-Ok-clause-known c = subst (AreKnownSymbols c.args.table.now) (sym c.in_err-take_const-in-Ok.ensures.unchanged) c.requires.known

@@ -17,7 +17,9 @@ take_list-taken-requires-clause-same c =
 
 pub take_list-taken-requires-clause-new : goal.take_list-taken-requires-clause-new
 take_list-taken-requires-clause-new c =
-    list-new c.args.table.now c.args.self.now c.args.pairs.now (record { hypotheses = terms_at c.args.table.now c.args.hyps.now; conclusion = term_at c.args.table.now c.args.concl.0 }) c.requires.known c.in-Ok.ensures.fits
+    list-new c.args.table.now c.args.self.now c.args.pairs.now
+    (record { hypotheses = terms_at c.args.table.now c.args.hyps.now; conclusion = term_at c.args.table.now c.args.concl.0 }) c.requires.known
+    c.in-Ok.ensures.fits
 
 pub returns-in_ok-taken-in-Ok-clause-takes : goal.returns-in_ok-taken-in-Ok-clause-takes
 returns-in_ok-taken-in-Ok-clause-takes c =
@@ -25,7 +27,8 @@ returns-in_ok-taken-in-Ok-clause-takes c =
     let ps = c.args.pairs.now in
     let hs = terms_at trees c.args.hyps.now in
     let ts = c.in-Ok.terms.items in
-    ap (symbols_at trees) (c.in_ok-taken-in-Ok.ensures.takes ∙ ap (λ l. c.args.self.now ++ constants_of ps l) c.deref.ensures.value) ∙ symbols_at-append trees c.args.self.now (constants_of ps ts)
+    ap (symbols_at trees) (c.in_ok-taken-in-Ok.ensures.takes ∙ ap (λ l. c.args.self.now ++ constants_of ps l) c.deref.ensures.value)
+    ∙ symbols_at-append trees c.args.self.now (constants_of ps ts)
     ∙ ap (λ l. symbols_at trees c.args.self.now ++ l) (constants-symbols trees (pairs_at trees ps) hs ps ts c.in-Ok.ensures.defined)
 
 pub returns-in_ok-taken-in-Ok-clause-known : goal.returns-in_ok-taken-in-Ok-clause-known
@@ -35,7 +38,8 @@ returns-in_ok-taken-in-Ok-clause-known c =
     let hs = terms_at trees c.args.hyps.now in
     let ts = c.in-Ok.terms.items in
     subst (AreKnownSymbols trees) (sym (c.in_ok-taken-in-Ok.ensures.takes ∙ ap (λ l. c.args.self.now ++ constants_of ps l) c.deref.ensures.value)) (
-    AreKnownSymbols-append trees c.args.self.now (constants_of ps ts) c.requires.known (constants-known trees (pairs_at trees ps) hs ps ts c.requires.pairs c.in-Ok.ensures.defined))
+    AreKnownSymbols-append trees c.args.self.now (constants_of ps ts) c.requires.known
+    (constants-known trees (pairs_at trees ps) hs ps ts c.requires.pairs c.in-Ok.ensures.defined))
 
 pub returns-in_err-taken-in-Ok-clause-known : goal.returns-in_err-taken-in-Ok-clause-known
 returns-in_err-taken-in-Ok-clause-known c = subst (AreKnownSymbols c.args.table.now) (sym c.in_err-taken-in-Ok.ensures.unchanged) c.requires.known

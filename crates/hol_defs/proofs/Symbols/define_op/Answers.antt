@@ -21,7 +21,8 @@ returns-in-Err-clause-refusal c = λ f t d k h.
     let trees = c.args.table.now in
     let names = named c.args.op.now c.args.abs.now c.args.rep.now c.args.names.now in
     let p = term_at trees c.application_parts.result.0.0 in
-    operator_refused (symbols_at trees c.args.self.now) names p f (limit_fault (types_made names d)) (own_function (term_at trees c.args.term.0) p (term_at trees c.application_parts.result.1.0) f t c.application_parts.ensures.parts k) c.in-Err.fault
+    operator_refused (symbols_at trees c.args.self.now) names p f (limit_fault (types_made names d))
+    (own_function (term_at trees c.args.term.0) p (term_at trees c.application_parts.result.1.0) f t c.application_parts.ensures.parts k) c.in-Err.fault
     c.in-Err.ensures.refusal
 
 pub returns-in-Err-clause-keeps : goal.returns-in-Err-clause-keeps
@@ -44,32 +45,39 @@ returns-in-Err-within_limits-clause-refusal c = λ f t d k h.
     let p = term_at trees c.application_parts.result.0.0 in
     let w = term_at trees c.application_parts.result.1.0 in
     let a = type_at trees c.type_of-whole.result.0 in
-    limit_refused (symbols_at trees c.args.self.now) names p f a d (own_function u p w f t c.application_parts.ensures.parts k) (own_type u p w f t a d c.application_parts.ensures.parts k c.type_of-whole.ensures.is h)
+    limit_refused (symbols_at trees c.args.self.now) names p f a d (own_function u p w f t c.application_parts.ensures.parts k)
+    (own_type u p w f t a d c.application_parts.ensures.parts k c.type_of-whole.ensures.is h)
     c.in-Ok.ensures.fits c.in-Err-within_limits.fault
-    (subst (λ types. Refuses c.in-Err-within_limits.fault (limit_fault (types_made names (tree_at types c.type_of-whole.result.0)))) c.types.ensures.types (c.in-Err-within_limits.ensures.refusal names refl))
+    (subst (λ types. Refuses c.in-Err-within_limits.fault (limit_fault (types_made names (tree_at types c.type_of-whole.result.0)))) c.types.ensures.types
+    (c.in-Err-within_limits.ensures.refusal names refl))
 
 pub take_op-requires-clause-abs : goal.take_op-requires-clause-abs
 take_op-requires-clause-abs c = undefined c.args.table.now c.args.abs.now c.args.self.now c.requires.known (
-    new_names (symbols_at c.args.table.now c.args.self.now) (named c.args.op.now c.args.abs.now c.args.rep.now c.args.names.now) (term_at c.args.table.now c.application_parts.result.0.0) c.in-Ok.ensures.fits
+    new_names (symbols_at c.args.table.now c.args.self.now) (named c.args.op.now c.args.abs.now c.args.rep.now c.args.names.now)
+    (term_at c.args.table.now c.application_parts.result.0.0) c.in-Ok.ensures.fits
     ).abstraction
 
 pub take_op-requires-clause-rep : goal.take_op-requires-clause-rep
 take_op-requires-clause-rep c = undefined c.args.table.now c.args.rep.now c.args.self.now c.requires.known (
-    new_names (symbols_at c.args.table.now c.args.self.now) (named c.args.op.now c.args.abs.now c.args.rep.now c.args.names.now) (term_at c.args.table.now c.application_parts.result.0.0) c.in-Ok.ensures.fits
+    new_names (symbols_at c.args.table.now c.args.self.now) (named c.args.op.now c.args.abs.now c.args.rep.now c.args.names.now)
+    (term_at c.args.table.now c.application_parts.result.0.0) c.in-Ok.ensures.fits
     ).representation
 
 pub take_op-requires-clause-apart : goal.take_op-requires-clause-apart
 take_op-requires-clause-apart c = symmetric name_eq name_eq-Decides c.args.abs.now c.args.rep.now (
-    new_names (symbols_at c.args.table.now c.args.self.now) (named c.args.op.now c.args.abs.now c.args.rep.now c.args.names.now) (term_at c.args.table.now c.application_parts.result.0.0) c.in-Ok.ensures.fits
+    new_names (symbols_at c.args.table.now c.args.self.now) (named c.args.op.now c.args.abs.now c.args.rep.now c.args.names.now)
+    (term_at c.args.table.now c.application_parts.result.0.0) c.in-Ok.ensures.fits
     ).apart
 
 pub take_op-requires-clause-op : goal.take_op-requires-clause-op
 take_op-requires-clause-op c = unsettled c.args.table.now c.args.op.now c.args.self.now (
-    new_names (symbols_at c.args.table.now c.args.self.now) (named c.args.op.now c.args.abs.now c.args.rep.now c.args.names.now) (term_at c.args.table.now c.application_parts.result.0.0) c.in-Ok.ensures.fits
+    new_names (symbols_at c.args.table.now c.args.self.now) (named c.args.op.now c.args.abs.now c.args.rep.now c.args.names.now)
+    (term_at c.args.table.now c.application_parts.result.0.0) c.in-Ok.ensures.fits
     ).operator
 
 pub returns-in_err-take_op-clause-known : goal.returns-in_err-take_op-clause-known
-returns-in_err-take_op-clause-known c = subst (AreKnownSymbols c.take_op.new.table) (sym c.in_err-take_op.ensures.unchanged) (AreKnownSymbols-Keeps c.take_op.ensures.keeps c.args.self.now c.requires.known)
+returns-in_err-take_op-clause-known c = subst (AreKnownSymbols c.take_op.new.table) (sym c.in_err-take_op.ensures.unchanged)
+    (AreKnownSymbols-Keeps c.take_op.ensures.keeps c.args.self.now c.requires.known)
 
 pub returns-clause-takes : goal.returns-clause-takes
 returns-clause-takes c = λ f t d k h.
@@ -79,9 +87,11 @@ returns-clause-takes c = λ f t d k h.
     let p = term_at trees c.application_parts.result.0.0 in
     let w = term_at trees c.application_parts.result.1.0 in
     let a = type_at trees c.type_of-whole.result.0 in
-    operator-symbols trees c.take_op.new.table c.take_op.ensures.keeps c.args.self.now c.take_op.new.self names c.type_of-whole.result c.application_parts.result.0 c.requires.known c.type_of-whole.ensures.known
+    operator-symbols trees c.take_op.new.table c.take_op.ensures.keeps c.args.self.now c.take_op.new.self names c.type_of-whole.result
+    c.application_parts.result.0 c.requires.known c.type_of-whole.ensures.known
     c.application_parts.ensures.function c.in_ok-take_op.ensures.takes
-    ∙ ap₂ (λ x y. symbols_at trees c.args.self.now ++ Symbol.defined (Definition.type_operator names x y) ∷ []) (own_type u p w f t a d c.application_parts.ensures.parts k c.type_of-whole.ensures.is h)
+    ∙ ap₂ (λ x y. symbols_at trees c.args.self.now ++ Symbol.defined (Definition.type_operator names x y) ∷ [])
+    (own_type u p w f t a d c.application_parts.ensures.parts k c.type_of-whole.ensures.is h)
     (own_function u p w f t c.application_parts.ensures.parts k)
 
 pub returns-clause-fits : goal.returns-clause-fits
@@ -92,11 +102,14 @@ returns-clause-fits c = λ f t d k h.
     let p = term_at trees c.application_parts.result.0.0 in
     let w = term_at trees c.application_parts.result.1.0 in
     let a = type_at trees c.type_of-whole.result.0 in
-    none_refused (symbols_at trees c.args.self.now) names p f a d (own_function u p w f t c.application_parts.ensures.parts k) (own_type u p w f t a d c.application_parts.ensures.parts k c.type_of-whole.ensures.is h)
+    none_refused (symbols_at trees c.args.self.now) names p f a d (own_function u p w f t c.application_parts.ensures.parts k)
+    (own_type u p w f t a d c.application_parts.ensures.parts k c.type_of-whole.ensures.is h)
     c.in-Ok.ensures.fits
-    (subst (λ types. limit_fault (types_made names (tree_at types c.type_of-whole.result.0)) ≡ None) c.types.ensures.types (c.in-Ok-within_limits.ensures.fits names refl))
+    (subst (λ types. limit_fault (types_made names (tree_at types c.type_of-whole.result.0)) ≡ None) c.types.ensures.types
+    (c.in-Ok-within_limits.ensures.fits names refl))
 
 pub returns-clause-known : goal.returns-clause-known
 returns-clause-known c =
-    operator-known c.args.table.now c.take_op.new.table c.take_op.ensures.keeps c.args.self.now c.take_op.new.self (named c.args.op.now c.args.abs.now c.args.rep.now c.args.names.now) c.type_of-whole.result c.application_parts.result.0
+    operator-known c.args.table.now c.take_op.new.table c.take_op.ensures.keeps c.args.self.now c.take_op.new.self
+    (named c.args.op.now c.args.abs.now c.args.rep.now c.args.names.now) c.type_of-whole.result c.application_parts.result.0
     c.requires.known c.type_of-whole.ensures.known c.application_parts.ensures.function c.in_ok-take_op.ensures.takes

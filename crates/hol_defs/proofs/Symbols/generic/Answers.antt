@@ -17,4 +17,6 @@ returns-clause-tells c = rw (← c.self.view_is) (λ trees h.
 
 pub returns-clause-known : goal.returns-clause-known
 returns-clause-known c = rw (← c.self.view_is) (λ trees h.
-    c.told.ensures.known trees.types (subst (λ o. IfSome o (λ a. a.0 < length trees.types)) (sym (c.find.ensures ∙ ap (lookup (name_eq c.args.name.now)) c.self.invariant.generics_are)) (generics-known trees c.args.name.now (map taken_of c.self.inside.taken.items) h)))
+    c.told.ensures.known trees.types
+    (subst (λ o. IfSome o (λ a. a.0 < length trees.types)) (sym (c.find.ensures ∙ ap (lookup (name_eq c.args.name.now)) c.self.invariant.generics_are))
+    (generics-known trees c.args.name.now (map taken_of c.self.inside.taken.items) h)))

@@ -16,7 +16,8 @@ returns-then-is_constant c =
     let ps = c.args.pairs.now in
     let i = c.loop-pair.pair-index in
     let any = λ (l : List (Name × Variable)). list_any (is_taken_constant (symbols_at trees c.args.self.now)) (names_of (pairs_at trees l)) in
-    sym (at_element ps i c.pair-item.result c.loop-pair-test.true (sym c.pair-item.is) any c.loop-pair.invariant ∙ ap (λ b. b || any (drop (i + 1) ps)) (sym (c.is_constant.ensures trees c.requires) ∙ c.if-is_constant.true))
+    sym (at_element ps i c.pair-item.result c.loop-pair-test.true (sym c.pair-item.is) any c.loop-pair.invariant
+    ∙ ap (λ b. b || any (drop (i + 1) ps)) (sym (c.is_constant.ensures trees c.requires) ∙ c.if-is_constant.true))
 
 pub loop-pair-preserved : goal.loop-pair-preserved
 loop-pair-preserved c =
@@ -24,4 +25,5 @@ loop-pair-preserved c =
     let ps = c.args.pairs.now in
     let i = c.loop-pair.pair-index in
     let any = λ (l : List (Name × Variable)). list_any (is_taken_constant (symbols_at trees c.args.self.now)) (names_of (pairs_at trees l)) in
-    sym (at_element ps i c.pair-item.result c.loop-pair-test.true (sym c.pair-item.is) any c.loop-pair.invariant ∙ ap (λ b. b || any (drop (i + 1) ps)) (sym (c.is_constant.ensures trees c.requires) ∙ c.if-is_constant.false))
+    sym (at_element ps i c.pair-item.result c.loop-pair-test.true (sym c.pair-item.is) any c.loop-pair.invariant
+    ∙ ap (λ b. b || any (drop (i + 1) ps)) (sym (c.is_constant.ensures trees c.requires) ∙ c.if-is_constant.false))

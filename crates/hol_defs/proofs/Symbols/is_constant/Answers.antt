@@ -5,4 +5,5 @@ use Rattle.hol_defs.proofs.IndexLaws.{constant_kind-taken}
 use Rattle.hol_defs.proofs.Symbols.is_constant.Goals as goal
 
 pub returns : goal.returns
-returns c = λ trees h. c.is_some.ensures ∙ ap is_some (c.const_kind.ensures.kind trees h) ∙ constant_kind-taken (symbols_at trees c.args.self.now) c.args.name.now
+returns c = λ trees h. c.is_some.ensures ∙ ap is_some (c.const_kind.ensures.kind trees h)
+    ∙ constant_kind-taken (symbols_at trees c.args.self.now) c.args.name.now

@@ -15,5 +15,6 @@ returns-in-Err-clause-unchanged c = c.cut.ensures c.args.self.now (record {
 pub loop-index-preserved : goal.loop-index-preserved
 loop-index-preserved c =
     let inside : c.loop-index.index < length c.args.terms.now = omega (arith, c.requires.same, c.loop-index-test.true) in
-    taking_next c.args.self.now c.loop-index.self c.take_const.new.self c.args.pairs.now c.args.terms.now c.loop-index.index c.index-pairs-index.result _ c.loop-index-test.true (sym c.index-pairs-index.is) inside (grind (arith, common_steps)) c.loop-index.invariant
+    taking_next c.args.self.now c.loop-index.self c.take_const.new.self c.args.pairs.now c.args.terms.now c.loop-index.index c.index-pairs-index.result _
+    c.loop-index-test.true (sym c.index-pairs-index.is) inside (grind (arith, common_steps)) c.loop-index.invariant
     c.in-Ok.ensures.takes

@@ -5,7 +5,8 @@ pub fits-requires-clause-generic : goal.fits-requires-clause-generic
 fits-requires-clause-generic c = rw c.types.ensures.types (c.in-Some.ensures.known c.args.table.now c.requires.known)
 
 pub returns-in_ok-use_input-in-None-clause-takes : goal.returns-in_ok-use_input-in-None-clause-takes
-returns-in_ok-use_input-in-None-clause-takes c = c.in_ok-use_input-in-None.ensures.takes c.args.table.now (sym (c.in-None.ensures.tells c.args.table.now c.requires.known))
+returns-in_ok-use_input-in-None-clause-takes c = c.in_ok-use_input-in-None.ensures.takes c.args.table.now
+    (sym (c.in-None.ensures.tells c.args.table.now c.requires.known))
 
 pub returns-in_ok-use_input-in-None-clause-fits : goal.returns-in_ok-use_input-in-None-clause-fits
 returns-in_ok-use_input-in-None-clause-fits c = rw (← c.in-None.ensures.tells c.args.table.now c.requires.known) tt

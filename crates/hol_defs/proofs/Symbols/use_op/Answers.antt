@@ -4,7 +4,8 @@ use Rattle.hol_defs.proofs.UseLaws.{settled}
 use Rattle.hol_defs.proofs.Symbols.use_op.Goals as goal
 
 pub returns-then-own-arity-clause-takes : goal.returns-then-own-arity-clause-takes
-returns-then-own-arity-clause-takes c = λ trees. settled (symbols_at trees c.args.self.now) c.args.name.now c.in-Some.own c.args.arity (sym (c.in-Some.ensures trees))
+returns-then-own-arity-clause-takes c = λ trees. settled (symbols_at trees c.args.self.now) c.args.name.now c.in-Some.own c.args.arity
+    (sym (c.in-Some.ensures trees))
 
 pub returns-then-own-arity-clause-fits : goal.returns-then-own-arity-clause-fits
 returns-then-own-arity-clause-fits c = λ trees. rw (← c.in-Some.ensures trees) (sym c.if-own-arity.true)

@@ -3,4 +3,5 @@ use Rattle.hol_defs.proofs.UseLaws.{taken_of-last}
 use Rattle.hol_defs.proofs.constants.push_constant.Goals as goal
 
 pub returns-clause-takes : goal.returns-clause-takes
-returns-clause-takes c = taken_of-last c.args.taken.now.items c.push.new.self.items _ _ c.in_ok-push.ensures.items (λ j. Taken.constant (c.in_ok-clone.ensures.cases j) c.args.term c.args.ty)
+returns-clause-takes c = taken_of-last c.args.taken.now.items c.push.new.self.items _ _ c.in_ok-push.ensures.items
+    (λ j. Taken.constant (c.in_ok-clone.ensures.cases j) c.args.term c.args.ty)

@@ -9,4 +9,5 @@ pub returns : goal.returns
 returns c =
     let e : c.len.result ≡ length c.in_ok-variables.variables.items = grind (arith, common_steps) in
     ap (λ n. nat_eq n 0) (e ∙ sym (length-variables_of c.args.table.now c.in_ok-variables.variables.items))
-    ∙ is_closed-listed (term_at c.args.table.now c.args.term.0) (variables_of c.args.table.now c.in_ok-variables.variables.items) c.in_ok-variables.ensures.variables
+    ∙ is_closed-listed (term_at c.args.table.now c.args.term.0) (variables_of c.args.table.now c.in_ok-variables.variables.items)
+    c.in_ok-variables.ensures.variables

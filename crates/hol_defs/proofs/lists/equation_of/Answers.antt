@@ -21,7 +21,9 @@ returns-in_ok-name-in-Free-clause-says c =
     let l = term_at trees c.in-Some.left.0 in
     let r = term_at trees c.in-Some.term.0 in
     ap (λ n. Some ((n, type_at trees c.in-Free.ty.0), r)) c.in_ok-name-in-Free.ensures.cases
-    ∙ sym (says (term_at trees c.args.hyp.0) l r c.in-Some.ensures.sides ∙ side-says l r c.in-Free.name.now (type_at trees c.in-Free.ty.0) (Some-term_in trees.terms c.in-Some.left.0 (free c.in-Free.name.now (type_at trees c.in-Free.ty.0)) c.in-Free.ensures.is))
+    ∙ sym (says (term_at trees c.args.hyp.0) l r c.in-Some.ensures.sides
+    ∙ side-says l r c.in-Free.name.now (type_at trees c.in-Free.ty.0)
+    (Some-term_in trees.terms c.in-Some.left.0 (free c.in-Free.name.now (type_at trees c.in-Free.ty.0)) c.in-Free.ensures.is))
 
 pub returns-in_ok-name-in-Free-clause-known : goal.returns-in_ok-name-in-Free-clause-known
 returns-in_ok-name-in-Free-clause-known c =
@@ -31,6 +33,7 @@ returns-in_ok-name-in-Free-clause-known c =
     record {
       ty = c.in-Free.ensures.lower;
       term = omega (arith, h, r);
-      typed = said-typed (term_at trees c.args.hyp.0) (term_at trees c.in-Some.left.0) (term_at trees c.in-Some.term.0) c.in-Free.name.now (type_at trees c.in-Free.ty.0) c.requires c.in-Some.ensures.sides
+      typed = said-typed (term_at trees c.args.hyp.0) (term_at trees c.in-Some.left.0) (term_at trees c.in-Some.term.0) c.in-Free.name.now
+          (type_at trees c.in-Free.ty.0) c.requires c.in-Some.ensures.sides
           (Some-term_in trees.terms c.in-Some.left.0 (free c.in-Free.name.now (type_at trees c.in-Free.ty.0)) c.in-Free.ensures.is);
     }

@@ -17,13 +17,16 @@ loop-pair-preserved c =
     let es = c.args.equations.items in
     subst (λ done. AreFound done es c.push.new.self.items) (sym (taken_next ps i c.pair-item.result c.loop-pair-test.true (sym c.pair-item.is))) (
     subst (AreFound (take i ps ++ c.pair-item.result ∷ []) es) (sym c.in_ok-push-in-Some.ensures.items) (
-    found-last (take i ps) es c.loop-pair.terms.items c.pair-item.result c.in-Some.term c.loop-pair.invariant (sym (c.in_ok-note_all.ensures c.pair-item.result.1) ∙ sym c.in-Some.ensures)))
+    found-last (take i ps) es c.loop-pair.terms.items c.pair-item.result c.in-Some.term c.loop-pair.invariant
+    (sym (c.in_ok-note_all.ensures c.pair-item.result.1) ∙ sym c.in-Some.ensures)))
 
 pub returns-in-None-clause-refusal : goal.returns-in-None-clause-refusal
 returns-in-None-clause-refusal c =
     failing _ _ [] (
-    one_fails (λ p. is_some (term_of c.args.equations.items p.1)) c.args.pairs.now c.loop-pair.pair-index c.pair-item.result c.loop-pair-test.true (sym c.pair-item.is) (
+    one_fails (λ p. is_some (term_of c.args.equations.items p.1)) c.args.pairs.now c.loop-pair.pair-index c.pair-item.result c.loop-pair-test.true
+    (sym c.pair-item.is) (
     ap is_some (sym (c.in_ok-note_all.ensures c.pair-item.result.1) ∙ sym c.in-None.ensures)))
 
 pub returns-clause-found : goal.returns-clause-found
-returns-clause-found c = subst (λ done. AreFound done c.args.equations.items c.loop-pair.terms.items) (take_all c.loop-pair.pair-index c.args.pairs.now c.loop-pair-test.false) c.loop-pair.invariant
+returns-clause-found c = subst (λ done. AreFound done c.args.equations.items c.loop-pair.terms.items)
+    (take_all c.loop-pair.pair-index c.args.pairs.now c.loop-pair-test.false) c.loop-pair.invariant

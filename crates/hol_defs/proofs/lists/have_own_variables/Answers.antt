@@ -9,24 +9,30 @@ use Rattle.hol_defs.proofs.LoopLaws.{at_element, of_element}
 use Rattle.hol_defs.proofs.lists.have_own_variables.Goals as goal
 
 pub has_variables-requires-clause-ty : goal.has_variables-requires-clause-ty
-has_variables-requires-clause-ty c = (of_element (IsEquationKnown c.args.table.now) c.args.equations.now c.loop-equation.equation-index c.equation-item.result c.loop-equation-test.true (sym c.equation-item.is) c.requires).ty
+has_variables-requires-clause-ty c =
+    (of_element (IsEquationKnown c.args.table.now) c.args.equations.now c.loop-equation.equation-index c.equation-item.result c.loop-equation-test.true
+    (sym c.equation-item.is) c.requires).ty
 
 pub has_variables-requires-clause-term : goal.has_variables-requires-clause-term
-has_variables-requires-clause-term c = (of_element (IsEquationKnown c.args.table.now) c.args.equations.now c.loop-equation.equation-index c.equation-item.result c.loop-equation-test.true (sym c.equation-item.is) c.requires).term
+has_variables-requires-clause-term c =
+    (of_element (IsEquationKnown c.args.table.now) c.args.equations.now c.loop-equation.equation-index c.equation-item.result c.loop-equation-test.true
+    (sym c.equation-item.is) c.requires).term
 
 pub returns-then-not-branch : goal.returns-then-not-branch
 returns-then-not-branch c =
     let es = c.args.equations.now in
     let i = c.loop-equation.equation-index in
     let all = λ (l : List Equation). list_all (λ e. has_type_variables_of e.0.1 e.1) (map (equation_at c.args.table.now) l) in
-    sym (at_element es i c.equation-item.result c.loop-equation-test.true (sym c.equation-item.is) all c.loop-equation.invariant ∙ ap (λ b. b && all (drop (i + 1) es)) (sym c.in_ok-has_variables.ensures ∙ c.if-not-branch.true))
+    sym (at_element es i c.equation-item.result c.loop-equation-test.true (sym c.equation-item.is) all c.loop-equation.invariant
+    ∙ ap (λ b. b && all (drop (i + 1) es)) (sym c.in_ok-has_variables.ensures ∙ c.if-not-branch.true))
 
 pub loop-equation-preserved : goal.loop-equation-preserved
 loop-equation-preserved c =
     let es = c.args.equations.now in
     let i = c.loop-equation.equation-index in
     let all = λ (l : List Equation). list_all (λ e. has_type_variables_of e.0.1 e.1) (map (equation_at c.args.table.now) l) in
-    sym (at_element es i c.equation-item.result c.loop-equation-test.true (sym c.equation-item.is) all c.loop-equation.invariant ∙ ap (λ b. b && all (drop (i + 1) es)) (sym c.in_ok-has_variables.ensures ∙ c.if-not-branch.false))
+    sym (at_element es i c.equation-item.result c.loop-equation-test.true (sym c.equation-item.is) all c.loop-equation.invariant
+    ∙ ap (λ b. b && all (drop (i + 1) es)) (sym c.in_ok-has_variables.ensures ∙ c.if-not-branch.false))
 
 pub returns : goal.returns
 returns c =

@@ -6,4 +6,5 @@ use Rattle.hol_defs.proofs.lists.have_own_variables.Given as goal
 
 abbrev pub invariant-loop-equation : goal.invariant-loop-equation
 invariant-loop-equation l =
-    list_all (λ e. has_type_variables_of e.0.1 e.1) (map (equation_at l.table) (drop l.equation-index l.equations)) ≡ list_all (λ e. has_type_variables_of e.0.1 e.1) (map (equation_at l.table) l.equations)
+    list_all (λ e. has_type_variables_of e.0.1 e.1) (map (equation_at l.table) (drop l.equation-index l.equations))
+    ≡ list_all (λ e. has_type_variables_of e.0.1 e.1) (map (equation_at l.table) l.equations)

@@ -13,5 +13,6 @@ returns c =
     let ps = c.args.pairs.now in
     let vs = c.args.variables.now in
     c.all_four.ensures
-    ∙ listed trees ps c.args.hyps.now c.args.concl _ _ _ _ c.in_ok-names.ensures (ap (λ n. nat_eq n (length ps)) c.len.ensures ∙ variables-once trees c.requires.distinct ps vs c.requires.variables c.requires.pairs) refl
+    ∙ listed trees ps c.args.hyps.now c.args.concl _ _ _ _ c.in_ok-names.ensures
+    (ap (λ n. nat_eq n (length ps)) c.len.ensures ∙ variables-once trees c.requires.distinct ps vs c.requires.variables c.requires.pairs) refl
     (c.in_ok-among.ensures ∙ all-among trees c.requires.distinct ps vs c.requires.variables c.requires.pairs (free_places (term_at trees c.args.concl.0)))

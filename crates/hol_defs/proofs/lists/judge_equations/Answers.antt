@@ -24,35 +24,47 @@ pub returns-clause-known : goal.returns-clause-known
 returns-clause-known c = c.in_ok-push_equations.ensures.known
 
 pub returns-clause-said : goal.returns-clause-said
-returns-clause-said c = c.in_ok-push_equations.ensures.said ∙ equations-are c.args.table.now c.requires.distinct c.args.pairs.now c.args.variables.now c.requires.variables c.requires.pairs c.args.hyps.now
+returns-clause-said c = c.in_ok-push_equations.ensures.said ∙ equations-are c.args.table.now c.requires.distinct c.args.pairs.now c.args.variables.now
+    c.requires.variables c.requires.pairs c.args.hyps.now
 
 pub returns-then-not-branch-clause-refusal : goal.returns-then-not-branch-clause-refusal
 returns-then-not-branch-clause-refusal c =
     let trees = c.args.table.now in
-    let said = c.in_ok-push_equations.ensures.said ∙ equations-are trees c.requires.distinct c.args.pairs.now c.args.variables.now c.requires.variables c.requires.pairs c.args.hyps.now in
+    let said = c.in_ok-push_equations.ensures.said
+    ∙ equations-are trees c.requires.distinct c.args.pairs.now c.args.variables.now c.requires.variables c.requires.pairs c.args.hyps.now in
     let closed = c.in_ok-are_closed.ensures ∙ ap (λ (l : List Equation). list_all (λ e. is_closed e.1) (map (equation_at trees) l)) c.deref.ensures.value in
-    equations_fault-open trees (pairs_at trees c.args.pairs.now) (sequent_at trees c.args.hyps.now c.args.concl) c.push_equations.new.all.items said _ true closed c.if-not-branch.true
+    equations_fault-open trees (pairs_at trees c.args.pairs.now) (sequent_at trees c.args.hyps.now c.args.concl) c.push_equations.new.all.items said _ true
+    closed c.if-not-branch.true
 
 pub returns-then-not-branch-2-clause-refusal : goal.returns-then-not-branch-2-clause-refusal
 returns-then-not-branch-2-clause-refusal c =
     let trees = c.args.table.now in
-    let said = c.in_ok-push_equations.ensures.said ∙ equations-are trees c.requires.distinct c.args.pairs.now c.args.variables.now c.requires.variables c.requires.pairs c.args.hyps.now in
+    let said = c.in_ok-push_equations.ensures.said
+    ∙ equations-are trees c.requires.distinct c.args.pairs.now c.args.variables.now c.requires.variables c.requires.pairs c.args.hyps.now in
     let closed = c.in_ok-are_closed.ensures ∙ ap (λ (l : List Equation). list_all (λ e. is_closed e.1) (map (equation_at trees) l)) c.deref.ensures.value in
-    let own = c.in_ok-have_own_variables.ensures ∙ ap (λ (l : List Equation). list_all (λ e. has_type_variables_of e.0.1 e.1) (map (equation_at trees) l)) c.deref-2.ensures.value in
-    equations_fault-extra trees (pairs_at trees c.args.pairs.now) (sequent_at trees c.args.hyps.now c.args.concl) c.push_equations.new.all.items said _ _ closed own c.if-not-branch.false c.if-not-branch-2.true
+    let own = c.in_ok-have_own_variables.ensures ∙ ap (λ (l : List Equation). list_all (λ e. has_type_variables_of e.0.1 e.1) (map (equation_at trees) l))
+    c.deref-2.ensures.value in
+    equations_fault-extra trees (pairs_at trees c.args.pairs.now) (sequent_at trees c.args.hyps.now c.args.concl) c.push_equations.new.all.items said _ _ closed
+    own c.if-not-branch.false c.if-not-branch-2.true
 
 pub returns-then-not-branch-3-clause-refusal : goal.returns-then-not-branch-3-clause-refusal
 returns-then-not-branch-3-clause-refusal c =
     let trees = c.args.table.now in
-    let said = c.in_ok-push_equations.ensures.said ∙ equations-are trees c.requires.distinct c.args.pairs.now c.args.variables.now c.requires.variables c.requires.pairs c.args.hyps.now in
+    let said = c.in_ok-push_equations.ensures.said
+    ∙ equations-are trees c.requires.distinct c.args.pairs.now c.args.variables.now c.requires.variables c.requires.pairs c.args.hyps.now in
     let closed = c.in_ok-are_closed.ensures ∙ ap (λ (l : List Equation). list_all (λ e. is_closed e.1) (map (equation_at trees) l)) c.deref.ensures.value in
-    let own = c.in_ok-have_own_variables.ensures ∙ ap (λ (l : List Equation). list_all (λ e. has_type_variables_of e.0.1 e.1) (map (equation_at trees) l)) c.deref-2.ensures.value in
-    equations_fault-no_list trees (pairs_at trees c.args.pairs.now) (sequent_at trees c.args.hyps.now c.args.concl) c.push_equations.new.all.items said _ _ closed own c.if-not-branch.false c.if-not-branch-2.false (sym c.in_ok-is_list.ensures ∙ c.if-not-branch-3.true)
+    let own = c.in_ok-have_own_variables.ensures ∙ ap (λ (l : List Equation). list_all (λ e. has_type_variables_of e.0.1 e.1) (map (equation_at trees) l))
+    c.deref-2.ensures.value in
+    equations_fault-no_list trees (pairs_at trees c.args.pairs.now) (sequent_at trees c.args.hyps.now c.args.concl) c.push_equations.new.all.items said _ _
+    closed own c.if-not-branch.false c.if-not-branch-2.false (sym c.in_ok-is_list.ensures ∙ c.if-not-branch-3.true)
 
 pub returns-clause-fits : goal.returns-clause-fits
 returns-clause-fits c =
     let trees = c.args.table.now in
-    let said = c.in_ok-push_equations.ensures.said ∙ equations-are trees c.requires.distinct c.args.pairs.now c.args.variables.now c.requires.variables c.requires.pairs c.args.hyps.now in
+    let said = c.in_ok-push_equations.ensures.said
+    ∙ equations-are trees c.requires.distinct c.args.pairs.now c.args.variables.now c.requires.variables c.requires.pairs c.args.hyps.now in
     let closed = c.in_ok-are_closed.ensures ∙ ap (λ (l : List Equation). list_all (λ e. is_closed e.1) (map (equation_at trees) l)) c.deref.ensures.value in
-    let own = c.in_ok-have_own_variables.ensures ∙ ap (λ (l : List Equation). list_all (λ e. has_type_variables_of e.0.1 e.1) (map (equation_at trees) l)) c.deref-2.ensures.value in
-    equations_fault-none trees (pairs_at trees c.args.pairs.now) (sequent_at trees c.args.hyps.now c.args.concl) c.push_equations.new.all.items said _ _ closed own c.if-not-branch.false c.if-not-branch-2.false (sym c.in_ok-is_list.ensures ∙ c.if-not-branch-3.false)
+    let own = c.in_ok-have_own_variables.ensures ∙ ap (λ (l : List Equation). list_all (λ e. has_type_variables_of e.0.1 e.1) (map (equation_at trees) l))
+    c.deref-2.ensures.value in
+    equations_fault-none trees (pairs_at trees c.args.pairs.now) (sequent_at trees c.args.hyps.now c.args.concl) c.push_equations.new.all.items said _ _ closed
+    own c.if-not-branch.false c.if-not-branch-2.false (sym c.in_ok-is_list.ensures ∙ c.if-not-branch-3.false)

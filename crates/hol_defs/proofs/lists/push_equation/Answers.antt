@@ -12,7 +12,8 @@ returns-then-not-has-clause-said c =
     let old = map (equation_at trees) c.args.all.now.items in
     let known = subst (λ o. IfSome o (IsEquationKnown trees)) c.in-Some.is c.in_ok-equation.ensures.known in
     sym (ap (λ l. old ++ l) (
-    other_said trees c.args.variables.now c.args.hyp c.in-Some.equation (sym (ap (option_map (equation_at trees)) c.in-Some.is) ∙ c.in_ok-equation.ensures.says) c.requires.distinct c.requires.variables known.ty (
+    other_said trees c.args.variables.now c.args.hyp c.in-Some.equation (sym (ap (option_map (equation_at trees)) c.in-Some.is) ∙ c.in_ok-equation.ensures.says)
+    c.requires.distinct c.requires.variables known.ty (
     sym c.has.ensures ∙ c.if-not-has.true)) ∙ append-nil old)
 
 pub returns-clause-said : goal.returns-clause-said
@@ -22,5 +23,6 @@ returns-clause-said c =
     let known = subst (λ o. IfSome o (IsEquationKnown trees)) c.in-Some.is c.in_ok-equation.ensures.known in
     ap (map (equation_at trees)) c.in_ok-push.ensures.items ∙ map-append (equation_at trees) c.args.all.now.items (c.in-Some.equation ∷ [])
     ∙ ap (λ l. old ++ l) (sym (
-    one_said trees c.args.variables.now c.args.hyp c.in-Some.equation (sym (ap (option_map (equation_at trees)) c.in-Some.is) ∙ c.in_ok-equation.ensures.says) c.requires.distinct c.requires.variables known.ty (
+    one_said trees c.args.variables.now c.args.hyp c.in-Some.equation (sym (ap (option_map (equation_at trees)) c.in-Some.is) ∙ c.in_ok-equation.ensures.says)
+    c.requires.distinct c.requires.variables known.ty (
     sym c.has.ensures ∙ c.if-not-has.false)))

@@ -17,7 +17,8 @@ push_equation-requires-clause-hyp c =
     term_here c.args.table.now hs i h c.loop-hyp-test.true at c.requires.hyps
 
 pub loop-hyp-init : goal.loop-hyp-init
-loop-hyp-init c = subst (λ (es : List Equation). (map (equation_at c.args.table.now) es ≡ []) × AreEquationsKnown c.args.table.now es) (sym c.requires.none) (refl, tt)
+loop-hyp-init c = subst (λ (es : List Equation). (map (equation_at c.args.table.now) es ≡ []) × AreEquationsKnown c.args.table.now es) (sym c.requires.none)
+    (refl, tt)
 
 pub loop-hyp-preserved : goal.loop-hyp-preserved
 loop-hyp-preserved c =
@@ -27,12 +28,14 @@ loop-hyp-preserved c =
     let i = c.loop-hyp.hyp-index in
     let h : TermId = slice_index_or hs i (record { 0 = 0 }) in
     let at : get_or hs i h ≡ h = grind (arith, common_steps) in (
-      c.in_ok-push_equation.ensures.said ∙ ap (λ l. l ++ equations_of trees vs (h ∷ [])) c.loop-hyp.invariant.0 ∙ sym (equations_of-last trees vs (take i hs) h) ∙ ap (equations_of trees vs) (sym (taken_next hs i h c.loop-hyp-test.true at)),
+      c.in_ok-push_equation.ensures.said ∙ ap (λ l. l ++ equations_of trees vs (h ∷ [])) c.loop-hyp.invariant.0 ∙ sym (equations_of-last trees vs (take i hs) h)
+          ∙ ap (equations_of trees vs) (sym (taken_next hs i h c.loop-hyp-test.true at)),
       c.in_ok-push_equation.ensures.known c.loop-hyp.invariant.1,
     )
 
 pub returns-clause-said : goal.returns-clause-said
-returns-clause-said c = c.loop-hyp.invariant.0 ∙ ap (equations_of c.args.table.now c.args.variables.now) (take_all c.loop-hyp.hyp-index c.args.hyps.now c.loop-hyp-test.false)
+returns-clause-said c = c.loop-hyp.invariant.0 ∙ ap (equations_of c.args.table.now c.args.variables.now)
+    (take_all c.loop-hyp.hyp-index c.args.hyps.now c.loop-hyp-test.false)
 
 pub returns-clause-known : goal.returns-clause-known
 returns-clause-known c = c.loop-hyp.invariant.1

@@ -15,4 +15,5 @@ returns c =
     let once = ap (λ n. nat_eq n (length c.args.names.now)) c.len.ensures in
     let all = c.are_among-all.ensures ∙ ap (list_all (λ n. is_in name_eq n c.unite.new.self)) c.deref.ensures.value in
     c.all_of.ensures ∙ (λ i. once i && c.are_among-only.ensures i && all i)
-    ∙ are_variables-listed c.args.names.now (term_at c.args.table.now c.args.term.0) c.unite.new.self c.in_ok-variables.variables.items c.unite-2.new.self mine c.in_ok-variables.ensures places
+    ∙ are_variables-listed c.args.names.now (term_at c.args.table.now c.args.term.0) c.unite.new.self c.in_ok-variables.variables.items c.unite-2.new.self mine
+    c.in_ok-variables.ensures places

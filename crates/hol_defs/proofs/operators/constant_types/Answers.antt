@@ -14,7 +14,8 @@ returns-in_err-rep-clause-keeps c = Keeps-trans (Keeps-trans c.in_ok-part.ensure
 
 pub returns-clause-types : goal.returns-clause-types
 returns-clause-types c = λ abs rep.
-    AreConstantTypes-made c.in_ok-part.ensures.keeps c.in_ok-abs.ensures.keeps c.in_ok-rep.ensures.keeps (named c.args.op.now abs rep c.args.names.now) c.args.whole c.in_ok-part.part c.in_ok-abs.abs c.in_ok-rep.rep c.requires c.in_ok-part.ensures.known
+    AreConstantTypes-made c.in_ok-part.ensures.keeps c.in_ok-abs.ensures.keeps c.in_ok-rep.ensures.keeps (named c.args.op.now abs rep c.args.names.now)
+    c.args.whole c.in_ok-part.part c.in_ok-abs.abs c.in_ok-rep.rep c.requires c.in_ok-part.ensures.known
     c.in_ok-part.ensures.made c.in_ok-abs.ensures.known c.in_ok-abs.ensures.made c.in_ok-rep.ensures.known c.in_ok-rep.ensures.made
 
 pub returns-clause-keeps : goal.returns-clause-keeps

@@ -16,7 +16,9 @@ returns-in_default-clause-keeps c = Keeps-trans c.in_ok-push_variables.ensures.k
 
 pub returns-clause-made : goal.returns-clause-made
 returns-clause-made c =
-    Holds-tree_at c.ty_op.new.self.types c.in-Ok.part.0 (operator c.args.op.now (types_of (type.types_at c.push_variables.new.table.types c.deref.result.now))) c.in-Ok.ensures.made ∙ ap (λ l. operator c.args.op.now (types_of l)) (ap (type.types_at c.push_variables.new.table.types) c.deref.ensures.value ∙ c.in_ok-push_variables.ensures.made)
+    Holds-tree_at c.ty_op.new.self.types c.in-Ok.part.0 (operator c.args.op.now (types_of (type.types_at c.push_variables.new.table.types c.deref.result.now)))
+    c.in-Ok.ensures.made ∙ ap (λ l. operator c.args.op.now (types_of l))
+    (ap (type.types_at c.push_variables.new.table.types) c.deref.ensures.value ∙ c.in_ok-push_variables.ensures.made)
 
 pub returns-clause-keeps : goal.returns-clause-keeps
 returns-clause-keeps c = Keeps-trans c.in_ok-push_variables.ensures.keeps c.in-Ok.ensures.keeps

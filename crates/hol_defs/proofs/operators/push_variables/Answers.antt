@@ -18,7 +18,8 @@ returns-in_err-push-clause-keeps c = Keeps-trans c.loop-name.invariant.keeps c.i
 pub loop-name-preserved : goal.loop-name-preserved
 loop-name-preserved c =
     rw (take_more c.args.names.now c.loop-name.name-index c.name-item.result c.loop-name-test.true, ← c.name-item.is, c.in_ok-push.ensures.items) (
-    AreVariables-more (take c.loop-name.name-index c.args.names.now) c.loop-name.ids.items c.name-item.result c.in-Ok.id c.loop-name.invariant c.in-Ok.ensures.keeps c.in-Ok.ensures.known c.in-Ok.ensures.made)
+    AreVariables-more (take c.loop-name.name-index c.args.names.now) c.loop-name.ids.items c.name-item.result c.in-Ok.id c.loop-name.invariant
+    c.in-Ok.ensures.keeps c.in-Ok.ensures.known c.in-Ok.ensures.made)
 
 pub returns-clause-known : goal.returns-clause-known
 returns-clause-known c = c.loop-name.invariant.known

@@ -13,6 +13,10 @@ returns-then-is_bool c =
     let same = Decides-eqb f.0 g.0 in
     let known : f.0 < length c.args.types.now = omega (arith, c.in-Some.ensures.domain, c.requires) in
     let known_too : g.0 < length c.args.types.now = omega (arith, c.in-Some-function_parts.ensures.domain, c.in-Some.ensures.codomain, c.requires) in (
-      λ h. equality_made _ _ _ _ _ c.in-Some.ensures.parts c.in-Some-function_parts.ensures.parts (c.is_bool.ensures.is.0 c.if-is_bool.true) (ap (tree_at c.args.types.now) (same.0 (sym c.eq.ensures ∙ h))),
-      λ k. c.eq.ensures ∙ same.1 (ap (λ (id : TypeId). id.0) (tree_at-same c.is_bool.ensures.distinct f g known known_too (equality_parts _ _ _ _ _ c.in-Some.ensures.parts c.in-Some-function_parts.ensures.parts k).1)),
+      λ h. equality_made _ _ _ _ _ c.in-Some.ensures.parts c.in-Some-function_parts.ensures.parts (c.is_bool.ensures.is.0 c.if-is_bool.true)
+          (ap (tree_at c.args.types.now) (same.0 (sym c.eq.ensures ∙ h))),
+      λ k. c.eq.ensures ∙ same.1
+          (ap (λ (id : TypeId). id.0)
+          (tree_at-same c.is_bool.ensures.distinct f g known known_too
+          (equality_parts _ _ _ _ _ c.in-Some.ensures.parts c.in-Some-function_parts.ensures.parts k).1)),
     )

@@ -10,4 +10,5 @@ returns-in-Ok-clause-uses c = c.in_ok-add.ensures.added ∙ (λ j. union same_us
 
 pub returns-in-Err-clause-no_use : goal.returns-in-Err-clause-no_use
 returns-in-Err-clause-no_use c =
-    c.cut.ensures ∙ ap (λ n. take n c.add.new.self) c.len-count.ensures ∙ ap (take (length c.args.uses.now)) c.in_ok-add.ensures.added ∙ take-united same_use c.args.uses.now (c.in_ok-clone.field-0, c.args.arity)
+    c.cut.ensures ∙ ap (λ n. take n c.add.new.self) c.len-count.ensures ∙ ap (take (length c.args.uses.now)) c.in_ok-add.ensures.added
+    ∙ take-united same_use c.args.uses.now (c.in_ok-clone.field-0, c.args.arity)

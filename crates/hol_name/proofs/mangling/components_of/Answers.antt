@@ -8,8 +8,10 @@ returns-in-End-clause-inverse c =
 
 pub loop-components-preserved : goal.loop-components-preserved
 loop-components-preserved c =
-    rw (c.in_ok-push.ensures.items, map_push _ _ _) (read-on _ _ _ _ _ _ c.loop-components.invariant c.in_ok-component.ensures.read c.in_ok-component.ensures.bytes c.in-Boundary.ensures)
+    rw (c.in_ok-push.ensures.items, map_push _ _ _)
+    (read-on _ _ _ _ _ _ c.loop-components.invariant c.in_ok-component.ensures.read c.in_ok-component.ensures.bytes c.in-Boundary.ensures)
 
 pub returns-in-Fault-clause-inverse : goal.returns-in-Fault-clause-inverse
 returns-in-Fault-clause-inverse c =
-    read-fault _ _ _ _ _ c.loop-components.invariant c.in_ok-component.ensures.read c.in_ok-component.ensures.bytes c.in_ok-component.ensures.stops c.in-Fault.ensures
+    read-fault _ _ _ _ _ c.loop-components.invariant c.in_ok-component.ensures.read c.in_ok-component.ensures.bytes c.in_ok-component.ensures.stops
+    c.in-Fault.ensures

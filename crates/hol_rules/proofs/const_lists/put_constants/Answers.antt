@@ -10,7 +10,8 @@ loop-name-init c = rw c.requires.empty (ArePut-none c.args.terms.now)
 
 pub constant_of-requires : goal.constant_of-requires
 constant_of-requires c =
-    let known = known-at c.args.terms.now c.args.pairs.now c.loop-name.name-index c.loop-name-item.result c.requires.pairs c.loop-name-test.true c.loop-name-item.is in
+    let known = known-at c.args.terms.now c.args.pairs.now c.loop-name.name-index c.loop-name-item.result c.requires.pairs c.loop-name-test.true
+    c.loop-name-item.is in
     omega (arith, known, c.loop-name.invariant.keeps.types.longer)
 
 pub returns-in_err-reserve-clause-keeps : goal.returns-in_err-reserve-clause-keeps
@@ -25,7 +26,14 @@ returns-in_err-own-clause-keeps c = Keeps-trans c.loop-name.invariant.keeps c.co
 pub loop-name-preserved : goal.loop-name-preserved
 loop-name-preserved c =
     let item = c.loop-name-item.result in
-    let known = known-at c.args.terms.now c.args.pairs.now c.loop-name.name-index c.loop-name-item.result c.requires.pairs c.loop-name-test.true c.loop-name-item.is in
-    rw (take_more c.args.pairs.now c.loop-name.name-index item c.loop-name-test.true, ← c.loop-name-item.is, c.push_reserved.ensures.items, c.reserve.ensures.items) (
-    ArePut-more (take c.loop-name.name-index c.args.pairs.now) c.loop-name.put.items item.0 item.1 c.in_ok-own.own c.in_ok-constant.constant c.loop-name.invariant known c.constant_of.ensures.keeps c.in_ok-constant.ensures.made c.in_ok-own.ensures
+    let known = known-at c.args.terms.now c.args.pairs.now c.loop-name.name-index c.loop-name-item.result c.requires.pairs c.loop-name-test.true
+    c.loop-name-item.is in
+    rw (
+      take_more c.args.pairs.now c.loop-name.name-index item c.loop-name-test.true,
+      ← c.loop-name-item.is,
+      c.push_reserved.ensures.items,
+      c.reserve.ensures.items,
+    ) (
+    ArePut-more (take c.loop-name.name-index c.args.pairs.now) c.loop-name.put.items item.0 item.1 c.in_ok-own.own c.in_ok-constant.constant
+    c.loop-name.invariant known c.constant_of.ensures.keeps c.in_ok-constant.ensures.made c.in_ok-own.ensures
     )

@@ -22,4 +22,5 @@ pub returns-in-Err-clause-known : goal.returns-in-Err-clause-known
 returns-in-Err-clause-known c = rw c.in-Err.ensures.table at c.in-Err.ensures.known
 
 pub returns-in-Err-clause-unnoted : goal.returns-in-Err-clause-unnoted
-returns-in-Err-clause-unnoted c = rw (c.truncate.ensures.items, c.in_ok-note_made.ensures.noted, c.len-count.ensures ∙ c.args.made.now.ok.0) (take-append_seam c.args.made.now.items _)
+returns-in-Err-clause-unnoted c = rw (c.truncate.ensures.items, c.in_ok-note_made.ensures.noted, c.len-count.ensures ∙ c.args.made.now.ok.0)
+    (take-append_seam c.args.made.now.items _)

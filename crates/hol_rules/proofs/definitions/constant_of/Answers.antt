@@ -14,7 +14,9 @@ raw_subst-made-requires-clause-id c = c.in-Ok-general_constant.ensures.made.know
 pub returns-clause-made : goal.returns-clause-made
 returns-clause-made c =
     let pairs = c.deref.ensures.value ∙ c.in_ok-push.ensures.items ∙ ap (λ l. l ++ (c.in-Ok.variable, c.args.ty) ∷ []) c.new-pairs.ensures.items in
-    IfOk-held c.raw_subst-made.new.self _ _ (constant-image c.args.terms.now c.general_constant.new.terms c.general_constant.ensures.keeps c.deref.result.now c.in-Ok.variable c.args.name.now c.args.ty c.in-Ok-general_constant.constant c.requires pairs c.in-Ok-general_constant.ensures.made.is)
+    IfOk-held c.raw_subst-made.new.self _ _
+    (constant-image c.args.terms.now c.general_constant.new.terms c.general_constant.ensures.keeps c.deref.result.now c.in-Ok.variable c.args.name.now
+    c.args.ty c.in-Ok-general_constant.constant c.requires pairs c.in-Ok-general_constant.ensures.made.is)
     c.raw_subst-made.result c.raw_subst-made.ensures.known c.raw_subst-made.ensures.made
 
 pub returns-clause-keeps : goal.returns-clause-keeps

@@ -8,7 +8,8 @@ use Rattle.hol_rules.proofs.definitions.general_constant.Goals as goal
 pub returns-clause-made : goal.returns-clause-made
 returns-clause-made c = record {
   known = c.in-Ok-constant.ensures.known;
-  is = Some-term_in c.constant.new.self.terms _ _ c.in-Ok-constant.ensures.made ∙ ap (constant c.args.name.now) (Holds-tree_at c.ty_var.new.self.types c.in-Ok.general.0 (variable c.args.variable.now) c.in-Ok.ensures.made);
+  is = Some-term_in c.constant.new.self.terms _ _ c.in-Ok-constant.ensures.made
+      ∙ ap (constant c.args.name.now) (Holds-tree_at c.ty_var.new.self.types c.in-Ok.general.0 (variable c.args.variable.now) c.in-Ok.ensures.made);
 }
 
 pub returns-clause-keeps : goal.returns-clause-keeps

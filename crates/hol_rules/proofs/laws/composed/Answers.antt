@@ -22,5 +22,7 @@ returns-clause-made c =
     let k0 = c.args.terms.now in
     let k1 = c.raw_application.new.self in
     let outer = number-kept c.raw_application.ensures.keeps (own-number k0 c.args.outer c.requires.outer) in
-    let part = applied k0 k1 c.args.inner c.args.x c.in_ok-part.part _ _ (own-number k0 c.args.inner c.requires.inner) (own-number k0 c.args.x c.requires.argument) c.in_ok-part.ensures.known c.in_ok-part.ensures.made in
-    IfOk-applied k1 c.raw_application-2.new.self c.args.outer c.in_ok-part.part c.raw_application-2.result _ _ outer part c.raw_application-2.ensures.known c.raw_application-2.ensures.made
+    let part = applied k0 k1 c.args.inner c.args.x c.in_ok-part.part _ _ (own-number k0 c.args.inner c.requires.inner)
+    (own-number k0 c.args.x c.requires.argument) c.in_ok-part.ensures.known c.in_ok-part.ensures.made in
+    IfOk-applied k1 c.raw_application-2.new.self c.args.outer c.in_ok-part.part c.raw_application-2.result _ _ outer part c.raw_application-2.ensures.known
+    c.raw_application-2.ensures.made

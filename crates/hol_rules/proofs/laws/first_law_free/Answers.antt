@@ -17,7 +17,8 @@ pub composed-requires-clause-argument : goal.composed-requires-clause-argument
 composed-requires-clause-argument c = c.in-Ok.ensures.known
 
 pub raw_equation-requires-clause-ty : goal.raw_equation-requires-clause-ty
-raw_equation-requires-clause-ty c = (type-kept (Keeps-trans c.free.ensures.keeps c.composed.ensures.keeps) (own-type c.args.terms.now c.args.variable.now.ty c.requires.variable)).known
+raw_equation-requires-clause-ty c =
+    (type-kept (Keeps-trans c.free.ensures.keeps c.composed.ensures.keeps) (own-type c.args.terms.now c.args.variable.now.ty c.requires.variable)).known
 
 pub raw_equation-requires-clause-left : goal.raw_equation-requires-clause-left
 raw_equation-requires-clause-left c = c.in_ok-both.ensures.made.known
@@ -42,4 +43,5 @@ returns-clause-made c =
     let from = (number-kept c.free.ensures.keeps (own-number k0 c.args.part.rep c.requires.part.rep)).is in
     let both = subst (IsNumberOf k2 c.in_ok-both.both) (λ i. app (to i) (app (from i) (own.is i))) c.in_ok-both.ensures.made in
     let part = type-kept (Keeps-trans c.free.ensures.keeps c.composed.ensures.keeps) (own-type k0 v.ty c.requires.variable) in
-    IfOk-equated k2 c.raw_equation.new.self v.ty c.in_ok-both.both c.in-Ok.own c.raw_equation.result _ _ _ part both (number-kept c.composed.ensures.keeps own) c.raw_equation.ensures.known c.raw_equation.ensures.made
+    IfOk-equated k2 c.raw_equation.new.self v.ty c.in_ok-both.both c.in-Ok.own c.raw_equation.result _ _ _ part both (number-kept c.composed.ensures.keeps own)
+    c.raw_equation.ensures.known c.raw_equation.ensures.made

@@ -30,6 +30,8 @@ returns-clause-made c =
     let two = c.constant_of-2.ensures.keeps in
     record {
       ty = type-kept (Keeps-trans one two) t.part;
-      abs = number-kept two (subst (λ a. IsNumberOf c.constant_of.new.terms c.in_ok-abs.abs (constant c.args.names.abs.now a)) t.abs.is c.in_ok-abs.ensures.made);
-      rep = subst (λ b. IsNumberOf c.constant_of-2.new.terms c.in_ok-rep.rep (constant c.args.names.rep.now b)) (type-kept one t.rep).is c.in_ok-rep.ensures.made;
+      abs = number-kept two
+          (subst (λ a. IsNumberOf c.constant_of.new.terms c.in_ok-abs.abs (constant c.args.names.abs.now a)) t.abs.is c.in_ok-abs.ensures.made);
+      rep = subst (λ b. IsNumberOf c.constant_of-2.new.terms c.in_ok-rep.rep (constant c.args.names.rep.now b)) (type-kept one t.rep).is
+          c.in_ok-rep.ensures.made;
     }

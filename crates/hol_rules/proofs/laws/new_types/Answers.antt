@@ -15,7 +15,8 @@ pub function_type-requires-2-clause-domain : goal.function_type-requires-2-claus
 function_type-requires-2-clause-domain c = (type-kept c.function_type.ensures.keeps c.in_ok-part.ensures.made).known
 
 pub function_type-requires-2-clause-codomain : goal.function_type-requires-2-clause-codomain
-function_type-requires-2-clause-codomain c = (type-kept (Keeps-trans c.part_type.ensures.keeps c.function_type.ensures.keeps) (own-type c.args.terms.now c.args.whole c.requires)).known
+function_type-requires-2-clause-codomain c =
+    (type-kept (Keeps-trans c.part_type.ensures.keeps c.function_type.ensures.keeps) (own-type c.args.terms.now c.args.whole c.requires)).known
 
 pub returns-in_err-part-clause-keeps : goal.returns-in_err-part-clause-keeps
 returns-in_err-part-clause-keeps c = c.part_type.ensures.keeps
@@ -35,7 +36,8 @@ returns-clause-types c =
     let whole2 = type-kept c.function_type.ensures.keeps whole1 in
     record {
       part = type-kept c.function_type-2.ensures.keeps part2;
-      abs = type-kept c.function_type-2.ensures.keeps (subst (IsTypeOf c.function_type.new.terms c.in_ok-abs.abs) (λ i. function (whole1.is i) (part.is i)) c.in_ok-abs.ensures.made);
+      abs = type-kept c.function_type-2.ensures.keeps
+          (subst (IsTypeOf c.function_type.new.terms c.in_ok-abs.abs) (λ i. function (whole1.is i) (part.is i)) c.in_ok-abs.ensures.made);
       rep = subst (IsTypeOf c.function_type-2.new.terms c.in_ok-rep.rep) (λ i. function (part2.is i) (whole2.is i)) c.in_ok-rep.ensures.made;
     }
 

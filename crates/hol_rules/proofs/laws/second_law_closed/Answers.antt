@@ -19,7 +19,8 @@ pub composed-requires-clause-argument : goal.composed-requires-clause-argument
 composed-requires-clause-argument c = c.in-Ok.ensures.known
 
 pub raw_equation-requires-clause-ty : goal.raw_equation-requires-clause-ty
-raw_equation-requires-clause-ty c = (type-kept (Keeps-trans c.free.ensures.keeps c.composed.ensures.keeps) (own-type c.args.terms.now c.args.variable.now.ty c.requires.variable)).known
+raw_equation-requires-clause-ty c =
+    (type-kept (Keeps-trans c.free.ensures.keeps c.composed.ensures.keeps) (own-type c.args.terms.now c.args.variable.now.ty c.requires.variable)).known
 
 pub raw_equation-requires-clause-left : goal.raw_equation-requires-clause-left
 raw_equation-requires-clause-left c = c.in_ok-both.ensures.made.known
@@ -28,22 +29,32 @@ pub raw_equation-requires-clause-right : goal.raw_equation-requires-clause-right
 raw_equation-requires-clause-right c = omega (arith, c.in-Ok.ensures.known, c.composed.ensures.keeps.longer)
 
 pub raw_application-requires-clause-function : goal.raw_application-requires-clause-function
-raw_application-requires-clause-function c = (number-kept (Keeps-trans (Keeps-trans c.free.ensures.keeps c.composed.ensures.keeps) c.raw_equation.ensures.keeps) (own-number c.args.terms.now c.args.predicate c.requires.predicate)).known
+raw_application-requires-clause-function c =
+    (number-kept (Keeps-trans (Keeps-trans c.free.ensures.keeps c.composed.ensures.keeps) c.raw_equation.ensures.keeps)
+    (own-number c.args.terms.now c.args.predicate c.requires.predicate)).known
 
 pub raw_application-requires-clause-argument : goal.raw_application-requires-clause-argument
 raw_application-requires-clause-argument c = omega (arith, c.in-Ok.ensures.known, c.composed.ensures.keeps.longer, c.raw_equation.ensures.keeps.longer)
 
 pub function_type-requires-clause-domain : goal.function_type-requires-clause-domain
-function_type-requires-clause-domain c = (type-kept (Keeps-trans (Keeps-trans (Keeps-trans (Keeps-trans c.free.ensures.keeps c.composed.ensures.keeps) c.raw_equation.ensures.keeps) c.raw_application.ensures.keeps) c.truth_type.ensures.keeps) (own-type c.args.terms.now c.args.variable.now.ty c.requires.variable)).known
+function_type-requires-clause-domain c =
+    (type-kept (Keeps-trans
+    (Keeps-trans (Keeps-trans (Keeps-trans c.free.ensures.keeps c.composed.ensures.keeps) c.raw_equation.ensures.keeps) c.raw_application.ensures.keeps)
+    c.truth_type.ensures.keeps) (own-type c.args.terms.now c.args.variable.now.ty c.requires.variable)).known
 
 pub function_type-requires-clause-codomain : goal.function_type-requires-clause-codomain
 function_type-requires-clause-codomain c = c.in_ok-truth.ensures.made.known
 
 pub abstractions-requires-clause-variable : goal.abstractions-requires-clause-variable
-abstractions-requires-clause-variable c = (type-kept (Keeps-trans (Keeps-trans (Keeps-trans (Keeps-trans (Keeps-trans c.free.ensures.keeps c.composed.ensures.keeps) c.raw_equation.ensures.keeps) c.raw_application.ensures.keeps) c.truth_type.ensures.keeps) c.function_type.ensures.keeps) (own-type c.args.terms.now c.args.variable.now.ty c.requires.variable)).known
+abstractions-requires-clause-variable c =
+    (type-kept (Keeps-trans
+    (Keeps-trans (Keeps-trans (Keeps-trans (Keeps-trans c.free.ensures.keeps c.composed.ensures.keeps) c.raw_equation.ensures.keeps)
+    c.raw_application.ensures.keeps) c.truth_type.ensures.keeps) c.function_type.ensures.keeps)
+    (own-type c.args.terms.now c.args.variable.now.ty c.requires.variable)).known
 
 pub abstractions-requires-clause-left : goal.abstractions-requires-clause-left
-abstractions-requires-clause-left c = omega (arith, c.in_ok-back.ensures.known, c.raw_application.ensures.keeps.longer, c.truth_type.ensures.keeps.longer, c.function_type.ensures.keeps.longer)
+abstractions-requires-clause-left c = omega
+    (arith, c.in_ok-back.ensures.known, c.raw_application.ensures.keeps.longer, c.truth_type.ensures.keeps.longer, c.function_type.ensures.keeps.longer)
 
 pub abstractions-requires-clause-right : goal.abstractions-requires-clause-right
 abstractions-requires-clause-right c = omega (arith, c.in_ok-holds.ensures.known, c.truth_type.ensures.keeps.longer, c.function_type.ensures.keeps.longer)
@@ -58,16 +69,24 @@ pub returns-in_err-back-clause-keeps : goal.returns-in_err-back-clause-keeps
 returns-in_err-back-clause-keeps c = Keeps-trans (Keeps-trans c.free.ensures.keeps c.composed.ensures.keeps) c.raw_equation.ensures.keeps
 
 pub returns-in_err-holds-clause-keeps : goal.returns-in_err-holds-clause-keeps
-returns-in_err-holds-clause-keeps c = Keeps-trans (Keeps-trans (Keeps-trans c.free.ensures.keeps c.composed.ensures.keeps) c.raw_equation.ensures.keeps) c.raw_application.ensures.keeps
+returns-in_err-holds-clause-keeps c = Keeps-trans (Keeps-trans (Keeps-trans c.free.ensures.keeps c.composed.ensures.keeps) c.raw_equation.ensures.keeps)
+    c.raw_application.ensures.keeps
 
 pub returns-in_err-truth-clause-keeps : goal.returns-in_err-truth-clause-keeps
-returns-in_err-truth-clause-keeps c = Keeps-trans (Keeps-trans (Keeps-trans (Keeps-trans c.free.ensures.keeps c.composed.ensures.keeps) c.raw_equation.ensures.keeps) c.raw_application.ensures.keeps) c.truth_type.ensures.keeps
+returns-in_err-truth-clause-keeps c = Keeps-trans
+    (Keeps-trans (Keeps-trans (Keeps-trans c.free.ensures.keeps c.composed.ensures.keeps) c.raw_equation.ensures.keeps) c.raw_application.ensures.keeps)
+    c.truth_type.ensures.keeps
 
 pub returns-in_err-ty-clause-keeps : goal.returns-in_err-ty-clause-keeps
-returns-in_err-ty-clause-keeps c = Keeps-trans (Keeps-trans (Keeps-trans (Keeps-trans (Keeps-trans c.free.ensures.keeps c.composed.ensures.keeps) c.raw_equation.ensures.keeps) c.raw_application.ensures.keeps) c.truth_type.ensures.keeps) c.function_type.ensures.keeps
+returns-in_err-ty-clause-keeps c = Keeps-trans
+    (Keeps-trans (Keeps-trans (Keeps-trans (Keeps-trans c.free.ensures.keeps c.composed.ensures.keeps) c.raw_equation.ensures.keeps)
+    c.raw_application.ensures.keeps) c.truth_type.ensures.keeps) c.function_type.ensures.keeps
 
 pub returns-clause-keeps : goal.returns-clause-keeps
-returns-clause-keeps c = Keeps-trans (Keeps-trans (Keeps-trans (Keeps-trans (Keeps-trans (Keeps-trans c.free.ensures.keeps c.composed.ensures.keeps) c.raw_equation.ensures.keeps) c.raw_application.ensures.keeps) c.truth_type.ensures.keeps) c.function_type.ensures.keeps) c.abstractions.ensures.keeps
+returns-clause-keeps c = Keeps-trans
+    (Keeps-trans (Keeps-trans
+    (Keeps-trans (Keeps-trans (Keeps-trans c.free.ensures.keeps c.composed.ensures.keeps) c.raw_equation.ensures.keeps) c.raw_application.ensures.keeps)
+    c.truth_type.ensures.keeps) c.function_type.ensures.keeps) c.abstractions.ensures.keeps
 
 pub returns-clause-made : goal.returns-clause-made
 returns-clause-made c =
@@ -90,11 +109,14 @@ returns-clause-made c =
     let from4 = Keeps-trans c.truth_type.ensures.keeps c.function_type.ensures.keeps in
     let part = own-type k0 v.ty c.requires.variable in
     let own2 = number-kept c.composed.ensures.keeps own in
-    let back = equated k2 k3 v.ty c.in_ok-both.both c.in-Ok.own c.in_ok-back.back _ _ _ (type-kept at2 part) both own2 c.in_ok-back.ensures.known c.in_ok-back.ensures.made in
-    let holds = applied k3 k4 c.args.predicate c.in-Ok.own c.in_ok-holds.holds _ _ (number-kept at3 (own-number k0 c.args.predicate c.requires.predicate)) (number-kept c.raw_equation.ensures.keeps own2) c.in_ok-holds.ensures.known c.in_ok-holds.ensures.made in
+    let back = equated k2 k3 v.ty c.in_ok-both.both c.in-Ok.own c.in_ok-back.back _ _ _ (type-kept at2 part) both own2 c.in_ok-back.ensures.known
+    c.in_ok-back.ensures.made in
+    let holds = applied k3 k4 c.args.predicate c.in-Ok.own c.in_ok-holds.holds _ _ (number-kept at3 (own-number k0 c.args.predicate c.requires.predicate))
+    (number-kept c.raw_equation.ensures.keeps own2) c.in_ok-holds.ensures.known c.in_ok-holds.ensures.made in
     let at5whole = (type-kept at5 part).is in
     let truth = c.in_ok-truth.ensures.made.is in
     let ty = subst (IsTypeOf k6 c.in_ok-ty.ty) (λ i. function (at5whole i) (truth i)) c.in_ok-ty.ensures.made in
     let same = ap (λ t. (v.name, t)) (type-kept c.function_type.ensures.keeps (type-kept at5 part)).is in
-    IfOk-abstracted k6 c.abstractions.new.terms v (v.name, whole) c.in_ok-back.back c.in_ok-holds.holds c.abstractions.result c.in_ok-ty.ty _ _ _ same ty (number-kept (Keeps-trans c.raw_application.ensures.keeps from4) back) (number-kept from4 holds) _
+    IfOk-abstracted k6 c.abstractions.new.terms v (v.name, whole) c.in_ok-back.back c.in_ok-holds.holds c.abstractions.result c.in_ok-ty.ty _ _ _ same ty
+    (number-kept (Keeps-trans c.raw_application.ensures.keeps from4) back) (number-kept from4 holds) _
     (second-closed (v.name, whole) _ _ c.requires.part.abs_closed c.requires.part.rep_closed f c.requires.closed) c.abstractions.ensures.made

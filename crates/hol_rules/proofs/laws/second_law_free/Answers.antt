@@ -17,7 +17,8 @@ pub composed-requires-clause-argument : goal.composed-requires-clause-argument
 composed-requires-clause-argument c = c.in-Ok.ensures.known
 
 pub raw_equation-requires-clause-ty : goal.raw_equation-requires-clause-ty
-raw_equation-requires-clause-ty c = (type-kept (Keeps-trans c.free.ensures.keeps c.composed.ensures.keeps) (own-type c.args.terms.now c.args.variable.now.ty c.requires.variable)).known
+raw_equation-requires-clause-ty c =
+    (type-kept (Keeps-trans c.free.ensures.keeps c.composed.ensures.keeps) (own-type c.args.terms.now c.args.variable.now.ty c.requires.variable)).known
 
 pub raw_equation-requires-clause-left : goal.raw_equation-requires-clause-left
 raw_equation-requires-clause-left c = c.in_ok-both.ensures.made.known
@@ -26,7 +27,9 @@ pub raw_equation-requires-clause-right : goal.raw_equation-requires-clause-right
 raw_equation-requires-clause-right c = omega (arith, c.in-Ok.ensures.known, c.composed.ensures.keeps.longer)
 
 pub raw_application-requires-clause-function : goal.raw_application-requires-clause-function
-raw_application-requires-clause-function c = (number-kept (Keeps-trans (Keeps-trans c.free.ensures.keeps c.composed.ensures.keeps) c.raw_equation.ensures.keeps) (own-number c.args.terms.now c.args.predicate c.requires.predicate)).known
+raw_application-requires-clause-function c =
+    (number-kept (Keeps-trans (Keeps-trans c.free.ensures.keeps c.composed.ensures.keeps) c.raw_equation.ensures.keeps)
+    (own-number c.args.terms.now c.args.predicate c.requires.predicate)).known
 
 pub raw_application-requires-clause-argument : goal.raw_application-requires-clause-argument
 raw_application-requires-clause-argument c = omega (arith, c.in-Ok.ensures.known, c.composed.ensures.keeps.longer, c.raw_equation.ensures.keeps.longer)
@@ -47,13 +50,18 @@ pub returns-in_err-back-clause-keeps : goal.returns-in_err-back-clause-keeps
 returns-in_err-back-clause-keeps c = Keeps-trans (Keeps-trans c.free.ensures.keeps c.composed.ensures.keeps) c.raw_equation.ensures.keeps
 
 pub returns-in_err-holds-clause-keeps : goal.returns-in_err-holds-clause-keeps
-returns-in_err-holds-clause-keeps c = Keeps-trans (Keeps-trans (Keeps-trans c.free.ensures.keeps c.composed.ensures.keeps) c.raw_equation.ensures.keeps) c.raw_application.ensures.keeps
+returns-in_err-holds-clause-keeps c = Keeps-trans (Keeps-trans (Keeps-trans c.free.ensures.keeps c.composed.ensures.keeps) c.raw_equation.ensures.keeps)
+    c.raw_application.ensures.keeps
 
 pub returns-in_err-truth-clause-keeps : goal.returns-in_err-truth-clause-keeps
-returns-in_err-truth-clause-keeps c = Keeps-trans (Keeps-trans (Keeps-trans (Keeps-trans c.free.ensures.keeps c.composed.ensures.keeps) c.raw_equation.ensures.keeps) c.raw_application.ensures.keeps) c.truth_type.ensures.keeps
+returns-in_err-truth-clause-keeps c = Keeps-trans
+    (Keeps-trans (Keeps-trans (Keeps-trans c.free.ensures.keeps c.composed.ensures.keeps) c.raw_equation.ensures.keeps) c.raw_application.ensures.keeps)
+    c.truth_type.ensures.keeps
 
 pub returns-clause-keeps : goal.returns-clause-keeps
-returns-clause-keeps c = Keeps-trans (Keeps-trans (Keeps-trans (Keeps-trans (Keeps-trans c.free.ensures.keeps c.composed.ensures.keeps) c.raw_equation.ensures.keeps) c.raw_application.ensures.keeps) c.truth_type.ensures.keeps) c.raw_equation-2.ensures.keeps
+returns-clause-keeps c = Keeps-trans
+    (Keeps-trans (Keeps-trans (Keeps-trans (Keeps-trans c.free.ensures.keeps c.composed.ensures.keeps) c.raw_equation.ensures.keeps)
+    c.raw_application.ensures.keeps) c.truth_type.ensures.keeps) c.raw_equation-2.ensures.keeps
 
 pub returns-clause-made : goal.returns-clause-made
 returns-clause-made c =
@@ -71,7 +79,10 @@ returns-clause-made c =
     let at2 = Keeps-trans c.free.ensures.keeps c.composed.ensures.keeps in
     let at3 = Keeps-trans at2 c.raw_equation.ensures.keeps in
     let own2 = number-kept c.composed.ensures.keeps own in
-    let back = equated k2 k3 v.ty c.in_ok-both.both c.in-Ok.own c.in_ok-back.back _ _ _ (type-kept at2 (own-type k0 v.ty c.requires.variable)) both own2 c.in_ok-back.ensures.known c.in_ok-back.ensures.made in
-    let holds = applied k3 k4 c.args.predicate c.in-Ok.own c.in_ok-holds.holds _ _ (number-kept at3 (own-number k0 c.args.predicate c.requires.predicate)) (number-kept c.raw_equation.ensures.keeps own2) c.in_ok-holds.ensures.known c.in_ok-holds.ensures.made in
+    let back = equated k2 k3 v.ty c.in_ok-both.both c.in-Ok.own c.in_ok-back.back _ _ _ (type-kept at2 (own-type k0 v.ty c.requires.variable)) both own2
+    c.in_ok-back.ensures.known c.in_ok-back.ensures.made in
+    let holds = applied k3 k4 c.args.predicate c.in-Ok.own c.in_ok-holds.holds _ _ (number-kept at3 (own-number k0 c.args.predicate c.requires.predicate))
+    (number-kept c.raw_equation.ensures.keeps own2) c.in_ok-holds.ensures.known c.in_ok-holds.ensures.made in
     let later = Keeps-trans c.raw_application.ensures.keeps c.truth_type.ensures.keeps in
-    IfOk-equated k5 c.raw_equation-2.new.self c.in_ok-truth.truth c.in_ok-holds.holds c.in_ok-back.back c.raw_equation-2.result _ _ _ c.in_ok-truth.ensures.made (number-kept c.truth_type.ensures.keeps holds) (number-kept later back) c.raw_equation-2.ensures.known c.raw_equation-2.ensures.made
+    IfOk-equated k5 c.raw_equation-2.new.self c.in_ok-truth.truth c.in_ok-holds.holds c.in_ok-back.back c.raw_equation-2.result _ _ _ c.in_ok-truth.ensures.made
+    (number-kept c.truth_type.ensures.keeps holds) (number-kept later back) c.raw_equation-2.ensures.known c.raw_equation-2.ensures.made

@@ -15,10 +15,12 @@ returns-clause-made c =
     let trees = c.tree_image.new.terms in
     let known : AreKnown trees c.deref.result.now = rw c.deref.ensures.value c.in_ok-links.ensures.known in
     let one_each = c.tree_image.ensures.keeps.distinct (c.linked.ensures.keeps.distinct c.requires.distinct) in
-    image_stated c.args.terms.now c.linked.new.terms trees c.linked.ensures.keeps c.args.put.now.types.items c.args.put.now.terms.items c.requires.pairs c.args.sequent.now
+    image_stated c.args.terms.now c.linked.new.terms trees c.linked.ensures.keeps c.args.put.now.types.items c.args.put.now.terms.items c.requires.pairs
+    c.args.sequent.now
     c.in_ok-whole.whole c.in_ok-image.image (rw c.ids-ids.ensures.numbers at c.in_ok-whole.ensures.made) c.in_ok-image.ensures.made
     (length c.ids-ids.result.now) c.in_ok-links.links c.in_ok-links.ensures (ap length c.ids-ids.ensures.numbers)
-    c.in_ok-hyps.hyps (c.in_ok-hyps.ensures.known trees known) (c.in_ok-hyps.ensures.terms trees one_each known ∙ ap (λ l. distinct term_eq (terms_at trees l)) c.deref.ensures.value)
+    c.in_ok-hyps.hyps (c.in_ok-hyps.ensures.known trees known)
+    (c.in_ok-hyps.ensures.terms trees one_each known ∙ ap (λ l. distinct term_eq (terms_at trees l)) c.deref.ensures.value)
 
 pub returns-clause-keeps : goal.returns-clause-keeps
 returns-clause-keeps c = Keeps-trans c.linked.ensures.keeps c.tree_image.ensures.keeps

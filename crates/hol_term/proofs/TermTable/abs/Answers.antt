@@ -9,7 +9,16 @@ pub raw_abstraction-made-requires-clause-body : goal.raw_abstraction-made-requir
 raw_abstraction-made-requires-clause-body c = known_term c.args.self.now c.args.id.0 c.requires.body
 
 pub settle-requires-clause-earlier : goal.settle-requires-clause-earlier
-settle-requires-clause-earlier c = (c.args.self.now, record { keeps = c.raw_abstraction-made.ensures.keeps; own = c.mark-mark.ensures.own; types = c.mark-mark.ensures.types; terms = c.mark-mark.ensures.terms })
+settle-requires-clause-earlier c = (
+  c.args.self.now,
+  record {
+    keeps = c.raw_abstraction-made.ensures.keeps;
+    own = c.mark-mark.ensures.own;
+    types = c.mark-mark.ensures.types;
+    terms =
+        c.mark-mark.ensures.terms;
+  },
+)
 
 pub settle-requires-clause-made : goal.settle-requires-clause-made
 settle-requires-clause-made c = c.raw_abstraction-made.ensures.known
@@ -18,16 +27,37 @@ pub returns-clause-known : goal.returns-clause-known
 returns-clause-known c = c.settle.ensures.known
 
 pub returns-clause-made : goal.returns-clause-made
-returns-clause-made c = c.settle.ensures.made (lam (type_at c.args.self.now c.args.var.now.ty.0) (close (c.args.var.now.name, type_at c.args.self.now c.args.var.now.ty.0) (term_at c.args.self.now c.args.id.0))) c.raw_abstraction-made.ensures.made
+returns-clause-made c = c.settle.ensures.made
+    (lam (type_at c.args.self.now c.args.var.now.ty.0)
+    (close (c.args.var.now.name, type_at c.args.self.now c.args.var.now.ty.0) (term_at c.args.self.now c.args.id.0))) c.raw_abstraction-made.ensures.made
 
 pub returns-clause-within : goal.returns-clause-within
-returns-clause-within c = c.settle.ensures.within (lam (type_at c.args.self.now c.args.var.now.ty.0) (close (c.args.var.now.name, type_at c.args.self.now c.args.var.now.ty.0) (term_at c.args.self.now c.args.id.0))) c.raw_abstraction-made.ensures.made
+returns-clause-within c = c.settle.ensures.within
+    (lam (type_at c.args.self.now c.args.var.now.ty.0)
+    (close (c.args.var.now.name, type_at c.args.self.now c.args.var.now.ty.0) (term_at c.args.self.now c.args.id.0))) c.raw_abstraction-made.ensures.made
 
 pub returns-clause-keeps : goal.returns-clause-keeps
-returns-clause-keeps c = c.settle.ensures.keeps c.args.self.now (record { keeps = c.raw_abstraction-made.ensures.keeps; own = c.mark-mark.ensures.own; types = c.mark-mark.ensures.types; terms = c.mark-mark.ensures.terms })
+returns-clause-keeps c = c.settle.ensures.keeps c.args.self.now
+    (record {
+      keeps = c.raw_abstraction-made.ensures.keeps;
+      own = c.mark-mark.ensures.own;
+      types = c.mark-mark.ensures.types;
+      terms =
+          c.mark-mark.ensures.terms;
+    })
 
 pub returns-clause-refusal : goal.returns-clause-refusal
-returns-clause-refusal c = c.settle.ensures.refusal (lam (type_at c.args.self.now c.args.var.now.ty.0) (close (c.args.var.now.name, type_at c.args.self.now c.args.var.now.ty.0) (term_at c.args.self.now c.args.id.0))) c.raw_abstraction-made.ensures.made
+returns-clause-refusal c = c.settle.ensures.refusal
+    (lam (type_at c.args.self.now c.args.var.now.ty.0)
+    (close (c.args.var.now.name, type_at c.args.self.now c.args.var.now.ty.0) (term_at c.args.self.now c.args.id.0))) c.raw_abstraction-made.ensures.made
 
 pub returns-clause-unchanged : goal.returns-clause-unchanged
-returns-clause-unchanged c = on_err_weaker c.settle.result (λ back. back c.args.self.now (record { keeps = c.raw_abstraction-made.ensures.keeps; own = c.mark-mark.ensures.own; types = c.mark-mark.ensures.types; terms = c.mark-mark.ensures.terms })) c.settle.ensures.unchanged
+returns-clause-unchanged c = on_err_weaker c.settle.result
+    (λ back. back c.args.self.now
+    (record {
+      keeps = c.raw_abstraction-made.ensures.keeps;
+      own = c.mark-mark.ensures.own;
+      types = c.mark-mark.ensures.types;
+      terms =
+          c.mark-mark.ensures.terms;
+    })) c.settle.ensures.unchanged

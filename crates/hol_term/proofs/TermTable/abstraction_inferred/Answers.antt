@@ -24,7 +24,8 @@ inferred-requires-clause-typings c =
     let outer = list_in c.args.typings.now.scopes 0 in
     let none = ap (λ ls. list_in ls 0) c.requires.scopes in
     AreTypings-adds c.args.self.now c.args.typings.now.scopes c.enter.new.self c.args.typings.now.found (c.args.ty ∷ outer) (Keeps-refl c.args.self.now)
-    c.in_ok-scope.ensures.keeps c.in_ok-scope.ensures.adds (rw none (c.requires.ty, tt)) (AreTypings-none c.args.self.now c.args.typings.now.scopes c.args.typings.now.found c.requires.scopes c.requires.found)
+    c.in_ok-scope.ensures.keeps c.in_ok-scope.ensures.adds (rw none (c.requires.ty, tt))
+    (AreTypings-none c.args.self.now c.args.typings.now.scopes c.args.typings.now.found c.requires.scopes c.requires.found)
 
 pub abstracted-requires-clause-ty : goal.abstracted-requires-clause-ty
 abstracted-requires-clause-ty c = omega (arith, c.requires.ty, c.inferred.ensures.keeps.types.longer)
@@ -38,9 +39,11 @@ returns-clause-typed c =
     let list = c.in_ok-scope.ensures.entered ∙ ap (λ l. Some (c.args.ty ∷ l)) none in
     let same = Some-list_in c.enter.new.self c.in_ok-scope.scope.0 (c.args.ty ∷ []) list in
     let found = type_in c.args.self.now (c.args.ty ∷ []) c.args.body.0 in
-    let body = subst (λ bs. IsTypeNumber c.inferred.new.self.types c.in_ok-codomain.codomain (type_in c.args.self.now bs c.args.body.0)) same c.in_ok-codomain.ensures.typed in
+    let body = subst (λ bs. IsTypeNumber c.inferred.new.self.types c.in_ok-codomain.codomain (type_in c.args.self.now bs c.args.body.0)) same
+    c.in_ok-codomain.ensures.typed in
     IfOk-weaker c.abstracted.result _ _
-    (λ made h. subst (λ a. IsTypeNumber c.abstracted.new.self.types made (option_map (function a) found)) (sym (type_law.tree_at-Stays c.inferred.ensures.keeps.types.stays c.args.ty.0 c.requires.ty)) (h found body))
+    (λ made h. subst (λ a. IsTypeNumber c.abstracted.new.self.types made (option_map (function a) found))
+    (sym (type_law.tree_at-Stays c.inferred.ensures.keeps.types.stays c.args.ty.0 c.requires.ty)) (h found body))
     c.abstracted.ensures.typed
 
 pub returns-clause-terms : goal.returns-clause-terms

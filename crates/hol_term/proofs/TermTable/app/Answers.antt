@@ -30,7 +30,16 @@ it c =
     (c.in-Some.ensures (type_of (term_at c.args.self.now c.args.f.0)) (type_of (term_at c.args.self.now c.args.x.0)) c.ty.ensures.typed c.ty-2.ensures.typed)
 
 pub settle-requires-clause-earlier : goal.settle-requires-clause-earlier
-settle-requires-clause-earlier c = (c.args.self.now, record { keeps = c.raw_application-made.ensures.keeps; own = c.mark-mark.ensures.own; types = c.mark-mark.ensures.types; terms = c.mark-mark.ensures.terms })
+settle-requires-clause-earlier c = (
+  c.args.self.now,
+  record {
+    keeps = c.raw_application-made.ensures.keeps;
+    own = c.mark-mark.ensures.own;
+    types = c.mark-mark.ensures.types;
+    terms =
+        c.mark-mark.ensures.terms;
+  },
+)
 
 pub settle-requires-clause-made : goal.settle-requires-clause-made
 settle-requires-clause-made c = c.raw_application-made.ensures.known
@@ -39,16 +48,33 @@ pub returns-clause-known : goal.returns-clause-known
 returns-clause-known c = c.settle.ensures.known
 
 pub returns-clause-made : goal.returns-clause-made
-returns-clause-made c = c.settle.ensures.made (app (term_at c.args.self.now c.args.f.0) (term_at c.args.self.now c.args.x.0)) c.raw_application-made.ensures.made
+returns-clause-made c = c.settle.ensures.made (app (term_at c.args.self.now c.args.f.0) (term_at c.args.self.now c.args.x.0))
+    c.raw_application-made.ensures.made
 
 pub returns-clause-within : goal.returns-clause-within
-returns-clause-within c = c.settle.ensures.within (app (term_at c.args.self.now c.args.f.0) (term_at c.args.self.now c.args.x.0)) c.raw_application-made.ensures.made
+returns-clause-within c = c.settle.ensures.within (app (term_at c.args.self.now c.args.f.0) (term_at c.args.self.now c.args.x.0))
+    c.raw_application-made.ensures.made
 
 pub returns-clause-keeps : goal.returns-clause-keeps
-returns-clause-keeps c = c.settle.ensures.keeps c.args.self.now (record { keeps = c.raw_application-made.ensures.keeps; own = c.mark-mark.ensures.own; types = c.mark-mark.ensures.types; terms = c.mark-mark.ensures.terms })
+returns-clause-keeps c = c.settle.ensures.keeps c.args.self.now
+    (record {
+      keeps = c.raw_application-made.ensures.keeps;
+      own = c.mark-mark.ensures.own;
+      types = c.mark-mark.ensures.types;
+      terms =
+          c.mark-mark.ensures.terms;
+    })
 
 pub returns-clause-unchanged : goal.returns-clause-unchanged
-returns-clause-unchanged c = on_err_weaker c.settle.result (λ back. back c.args.self.now (record { keeps = c.raw_application-made.ensures.keeps; own = c.mark-mark.ensures.own; types = c.mark-mark.ensures.types; terms = c.mark-mark.ensures.terms })) c.settle.ensures.unchanged
+returns-clause-unchanged c = on_err_weaker c.settle.result
+    (λ back. back c.args.self.now
+    (record {
+      keeps = c.raw_application-made.ensures.keeps;
+      own = c.mark-mark.ensures.own;
+      types = c.mark-mark.ensures.types;
+      terms =
+          c.mark-mark.ensures.terms;
+    })) c.settle.ensures.unchanged
 
 pub returns-clause-typed : goal.returns-clause-typed
 returns-clause-typed c = IfOk-weaker c.settle.result _ _ (λ id k. it c) c.settle.ensures.known

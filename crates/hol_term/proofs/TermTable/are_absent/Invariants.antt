@@ -8,4 +8,5 @@ use Rattle.hol_term.proofs.TermTable.are_absent.Given as goal
 abbrev pub invariant-loop-variable : goal.invariant-loop-variable
 invariant-loop-variable l =
     AreTermPairsKnown l.self (drop l.variable-index l.pairs)
-    × (AreAbsent (term_pairs_at l.self (drop l.variable-index l.pairs)) (term_at l.self l.id.0) → AreAbsent (term_pairs_at l.self l.pairs) (term_at l.self l.id.0))
+    × (AreAbsent (term_pairs_at l.self (drop l.variable-index l.pairs)) (term_at l.self l.id.0)
+    → AreAbsent (term_pairs_at l.self l.pairs) (term_at l.self l.id.0))

@@ -7,4 +7,5 @@ remade-requires-clause-root c = (c.requires.id, omega (arith, c.requires.id, c.m
 
 pub returns-then-is_left_alone-clause-made : goal.returns-then-is_left_alone-clause-made
 returns-then-is_left_alone-clause-made c =
-    alone_wanted c.args.self.now c.args.args.now (record { id = c.args.id; depth = 0; change = c.args.change }) c.requires.id (c.is_left_alone.ensures c.if-is_left_alone.true)
+    alone_wanted c.args.self.now c.args.args.now (record { id = c.args.id; depth = 0; change = c.args.change }) c.requires.id
+    (c.is_left_alone.ensures c.if-is_left_alone.true)

@@ -15,17 +15,21 @@ changed-requires-clause-args c = (c.in_ok-variable.ensures.known, tt)
 pub changed-requires-clause-closing : goal.changed-requires-clause-closing
 changed-requires-clause-closing c = λ e. (
   (c.args.var.now.name, type_at c.args.self.now c.args.var.now.ty.0),
-  ap (λ (t : Term). t ∷ []) (Some-term_in c.free_node.new.self.terms c.in_ok-variable.variable.0 (free c.args.var.now.name (type_at c.args.self.now c.args.var.now.ty.0)) c.in_ok-variable.ensures.made),
+  ap (λ (t : Term). t ∷ [])
+      (Some-term_in c.free_node.new.self.terms c.in_ok-variable.variable.0 (free c.args.var.now.name (type_at c.args.self.now c.args.var.now.ty.0))
+      c.in_ok-variable.ensures.made),
 )
 
 pub returns-then-is_closed_as_it_is-clause-made : goal.returns-then-is_closed_as_it_is-clause-made
 returns-then-is_closed_as_it_is-clause-made c =
-    term_in-Some c.args.self.now.terms c.args.id.0 c.requires.body ∙ ap Some (sym (c.is_closed_as_it_is.ensures c.if-is_closed_as_it_is.true (type_at c.args.self.now c.args.var.now.ty.0)))
+    term_in-Some c.args.self.now.terms c.args.id.0 c.requires.body
+    ∙ ap Some (sym (c.is_closed_as_it_is.ensures c.if-is_closed_as_it_is.true (type_at c.args.self.now c.args.var.now.ty.0)))
 
 pub returns-clause-made : goal.returns-clause-made
 returns-clause-made c =
     IfOk-weaker c.changed.result _ _
-    (λ r h. made_closed c.args.self.now c.free_node.new.self c.changed.new.self c.in_ok-variable.variable.0 c.args.var.now.ty.0 r.0 c.args.id.0 c.args.var.now.name
+    (λ r h. made_closed c.args.self.now c.free_node.new.self c.changed.new.self c.in_ok-variable.variable.0 c.args.var.now.ty.0 r.0 c.args.id.0
+    c.args.var.now.name
     c.free_node.ensures.keeps c.requires.body c.in_ok-variable.ensures.made h)
     c.changed.ensures.made
 

@@ -17,4 +17,5 @@ returns-clause-measured c =
     rw (← c.self.view_is) (c.self.invariant.measured _ _ _ c.get.ensures (term_in-Some _ _ h))
 
 pub returns-clause-small : goal.returns-clause-small
-returns-clause-small c = rw (← c.self.view_is) (omega (arith, length-terms_of c.self.inside.types c.self.inside.entries, c.len-count.ensures.count, c.len-count.ensures.small))
+returns-clause-small c = rw (← c.self.view_is)
+    (omega (arith, length-terms_of c.self.inside.types c.self.inside.entries, c.len-count.ensures.count, c.len-count.ensures.small))

@@ -12,5 +12,6 @@ returns-then-ne c =
     = drop_more c.args.pairs.now c.loop-variable.variable-index item c.loop-variable-test.true ∙ ap (λ x. x ∷ rest) (sym c.loop-variable-item.is) in
     let n : c.type_of.result.0 ≡ item.0.ty.0 → ⊥ = grind arith in (
       λ h. absurd (cc),
-      λ a. absurd (fitting_fails c.args.self.now c.args.pairs.now rest item c.type_of.result c.type_of.ensures.distinct c.type_of.ensures.known c.type_of.ensures.is n (subst (IsFitting c.args.self.now c.args.pairs.now) front c.loop-variable.invariant) a),
+      λ a. absurd (fitting_fails c.args.self.now c.args.pairs.now rest item c.type_of.result c.type_of.ensures.distinct c.type_of.ensures.known
+          c.type_of.ensures.is n (subst (IsFitting c.args.self.now c.args.pairs.now) front c.loop-variable.invariant) a),
     )

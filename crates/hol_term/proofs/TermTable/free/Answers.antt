@@ -4,7 +4,16 @@ use Rattle.hol_term.specs.Tables.{type_at}
 use Rattle.hol_term.proofs.TermTable.free.Goals as goal
 
 pub settle-requires-clause-earlier : goal.settle-requires-clause-earlier
-settle-requires-clause-earlier c = (c.args.self.now, record { keeps = c.free_node-made.ensures.keeps; own = c.mark-mark.ensures.own; types = c.mark-mark.ensures.types; terms = c.mark-mark.ensures.terms })
+settle-requires-clause-earlier c = (
+  c.args.self.now,
+  record {
+    keeps = c.free_node-made.ensures.keeps;
+    own = c.mark-mark.ensures.own;
+    types = c.mark-mark.ensures.types;
+    terms =
+        c.mark-mark.ensures.terms;
+  },
+)
 
 pub settle-requires-clause-made : goal.settle-requires-clause-made
 settle-requires-clause-made c = c.free_node-made.ensures.known
@@ -19,10 +28,14 @@ pub returns-clause-within : goal.returns-clause-within
 returns-clause-within c = c.settle.ensures.within (free_tree c.args.name.now (type_at c.args.self.now c.args.ty.0)) c.free_node-made.ensures.made
 
 pub returns-clause-keeps : goal.returns-clause-keeps
-returns-clause-keeps c = c.settle.ensures.keeps c.args.self.now (record { keeps = c.free_node-made.ensures.keeps; own = c.mark-mark.ensures.own; types = c.mark-mark.ensures.types; terms = c.mark-mark.ensures.terms })
+returns-clause-keeps c = c.settle.ensures.keeps c.args.self.now
+    (record { keeps = c.free_node-made.ensures.keeps; own = c.mark-mark.ensures.own; types = c.mark-mark.ensures.types; terms = c.mark-mark.ensures.terms })
 
 pub returns-clause-refusal : goal.returns-clause-refusal
 returns-clause-refusal c = c.settle.ensures.refusal (free_tree c.args.name.now (type_at c.args.self.now c.args.ty.0)) c.free_node-made.ensures.made
 
 pub returns-clause-unchanged : goal.returns-clause-unchanged
-returns-clause-unchanged c = on_err_weaker c.settle.result (λ back. back c.args.self.now (record { keeps = c.free_node-made.ensures.keeps; own = c.mark-mark.ensures.own; types = c.mark-mark.ensures.types; terms = c.mark-mark.ensures.terms })) c.settle.ensures.unchanged
+returns-clause-unchanged c = on_err_weaker c.settle.result
+    (λ back. back c.args.self.now
+    (record { keeps = c.free_node-made.ensures.keeps; own = c.mark-mark.ensures.own; types = c.mark-mark.ensures.types; terms = c.mark-mark.ensures.terms }))
+    c.settle.ensures.unchanged

@@ -3,7 +3,9 @@ use Rattle.hol_term.proofs.SubstitutionTurns.{substituting_begins, substituting_
 use Rattle.hol_term.proofs.TermTable.image_by_parts.Goals as goal
 
 pub loop-task-init : goal.loop-task-init
-loop-task-init c = rw (c.in_ok-push.ensures.pushed, c.new-walk.ensures.tasks, c.new-walk.ensures.made) (substituting_begins c.args.self.now c.args.putting.now.types.now c.args.putting.now.terms.now c.args.id _ c.requires.id c.requires.pairs c.new-walk.ensures.images)
+loop-task-init c = rw (c.in_ok-push.ensures.pushed, c.new-walk.ensures.tasks, c.new-walk.ensures.made)
+    (substituting_begins c.args.self.now c.args.putting.now.types.now c.args.putting.now.terms.now c.args.id _ c.requires.id c.requires.pairs
+    c.new-walk.ensures.images)
 
 pub loop-task-smaller : goal.loop-task-smaller
 loop-task-smaller c =

@@ -7,7 +7,8 @@ pub loop-step-init : goal.loop-step-init
 loop-step-init c = (
   refl,
   Keeps-refl c.args.self.now,
-  rw (c.in_ok-push.ensures.pushed, c.requires.steps, c.requires.types) (inferring_begins c.args.self.now c.args.typings.now.scopes c.args.typings.now.found c.args.root c.requires.root c.requires.typings),
+  rw (c.in_ok-push.ensures.pushed, c.requires.steps, c.requires.types)
+      (inferring_begins c.args.self.now c.args.typings.now.scopes c.args.typings.now.found c.args.root c.requires.root c.requires.typings),
 )
 
 pub loop-step-smaller : goal.loop-step-smaller

@@ -9,7 +9,8 @@ pub insert_full-requires : goal.insert_full-requires
 insert_full-requires c = let h = rw (← c.self.view_is) at c.requires.parts in greater_part-known c.self.inside.types c.self.inside.entries c.args.entry.node h
 
 -- what the node's tree takes, of the entries
-parts_below : (c : goal.Joined-insert_full) → PartsBelow (length (terms_of c.self.inside.types c.self.inside.entries)) (length c.self.inside.types) c.args.entry.node
+parts_below : (c : goal.Joined-insert_full) → PartsBelow (length (terms_of c.self.inside.types c.self.inside.entries)) (length c.self.inside.types)
+    c.args.entry.node
 parts_below c = let h = rw (← c.self.view_is) at c.requires.parts in h
 
 measured : (c : goal.Joined-insert_full) → IsMeasured c.self.inside.types c.args.entry (tree_over c.self.inside.types c.self.inside.entries c.args.entry)

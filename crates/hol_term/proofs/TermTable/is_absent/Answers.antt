@@ -13,4 +13,5 @@ returns-then-measures_of-bit_mask-eq0 c =
 
 pub returns-in-Ok : goal.returns-in-Ok
 returns-in-Ok c =
-    λ told. subst (λ n. IsWithout (n, type_at c.args.self.now c.args.variable.now.ty.0) (term_at c.args.self.now c.args.id.0)) c.in-Ok.ensures.cases (c.comes_later.ensures told)
+    λ told. subst (λ n. IsWithout (n, type_at c.args.self.now c.args.variable.now.ty.0) (term_at c.args.self.now c.args.id.0)) c.in-Ok.ensures.cases
+    (c.comes_later.ensures told)

@@ -9,4 +9,5 @@ pub returns : goal.returns
 returns c =
     let it = c.measures_of-measures in
     λ none ty.
-    close-without it.result.mask (c.args.name.now, ty) (term_at c.args.self.now c.args.id.0) it.ensures.mask (ap (bit_and it.result.mask) (sym c.bit_mask.ensures) ∙ eqb-true _ 0 none) (omega (arith, it.ensures.loose, c.if-measures-gt0.false))
+    close-without it.result.mask (c.args.name.now, ty) (term_at c.args.self.now c.args.id.0) it.ensures.mask
+    (ap (bit_and it.result.mask) (sym c.bit_mask.ensures) ∙ eqb-true _ 0 none) (omega (arith, it.ensures.loose, c.if-measures-gt0.false))

@@ -4,7 +4,16 @@ use Rattle.hol_term.specs.Tables.{term_at}
 use Rattle.hol_term.proofs.TermTable.lift.Goals as goal
 
 pub settle-requires-clause-earlier : goal.settle-requires-clause-earlier
-settle-requires-clause-earlier c = (c.args.self.now, record { keeps = c.changed-made.ensures.keeps; own = c.mark-mark.ensures.own; types = c.mark-mark.ensures.types; terms = c.mark-mark.ensures.terms })
+settle-requires-clause-earlier c = (
+  c.args.self.now,
+  record {
+    keeps = c.changed-made.ensures.keeps;
+    own = c.mark-mark.ensures.own;
+    types = c.mark-mark.ensures.types;
+    terms =
+        c.mark-mark.ensures.terms;
+  },
+)
 
 pub settle-requires-clause-made : goal.settle-requires-clause-made
 settle-requires-clause-made c = c.changed-made.ensures.known
@@ -19,10 +28,14 @@ pub returns-clause-within : goal.returns-clause-within
 returns-clause-within c = c.settle.ensures.within (lift c.args.k (term_at c.args.self.now c.args.id.0)) c.changed-made.ensures.made
 
 pub returns-clause-keeps : goal.returns-clause-keeps
-returns-clause-keeps c = c.settle.ensures.keeps c.args.self.now (record { keeps = c.changed-made.ensures.keeps; own = c.mark-mark.ensures.own; types = c.mark-mark.ensures.types; terms = c.mark-mark.ensures.terms })
+returns-clause-keeps c = c.settle.ensures.keeps c.args.self.now
+    (record { keeps = c.changed-made.ensures.keeps; own = c.mark-mark.ensures.own; types = c.mark-mark.ensures.types; terms = c.mark-mark.ensures.terms })
 
 pub returns-clause-refusal : goal.returns-clause-refusal
 returns-clause-refusal c = c.settle.ensures.refusal (lift c.args.k (term_at c.args.self.now c.args.id.0)) c.changed-made.ensures.made
 
 pub returns-clause-unchanged : goal.returns-clause-unchanged
-returns-clause-unchanged c = on_err_weaker c.settle.result (λ back. back c.args.self.now (record { keeps = c.changed-made.ensures.keeps; own = c.mark-mark.ensures.own; types = c.mark-mark.ensures.types; terms = c.mark-mark.ensures.terms })) c.settle.ensures.unchanged
+returns-clause-unchanged c = on_err_weaker c.settle.result
+    (λ back. back c.args.self.now
+    (record { keeps = c.changed-made.ensures.keeps; own = c.mark-mark.ensures.own; types = c.mark-mark.ensures.types; terms = c.mark-mark.ensures.terms }))
+    c.settle.ensures.unchanged

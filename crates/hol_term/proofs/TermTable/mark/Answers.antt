@@ -10,4 +10,5 @@ pub returns-clause-own : goal.returns-clause-own
 returns-clause-own c = rw (← c.self.view_is) (owned c.self.inside.types c.self.inside.entries c.self.invariant)
 
 pub returns-clause-small : goal.returns-clause-small
-returns-clause-small c = rw (← c.self.view_is) (omega (arith, length-terms_of c.self.inside.types c.self.inside.entries, c.len.ensures.count, c.len.ensures.small))
+returns-clause-small c = rw (← c.self.view_is)
+    (omega (arith, length-terms_of c.self.inside.types c.self.inside.entries, c.len.ensures.count, c.len.ensures.small))

@@ -35,5 +35,6 @@ returns-in-Lam c =
       size = omega (arith, c.joined-in-Lam.ensures.size, c.type_measures.ensures.size, inner.ensures.size, body.ensures.size);
       depth = omega (arith, c.joined-in-Lam.ensures.depth, c.type_measures.ensures.depth, inner.ensures.depth, body.ensures.depth);
       loose = omega (arith, c.joined-in-Lam.ensures.loose, c.type_measures.ensures.loose, inner.ensures.loose, body.ensures.loose);
-      mask = HasBits-right c.joined-in-Lam.result.mask c.type_measures.result.mask inner.result.mask t c.joined-in-Lam.ensures.mask (subst (λ m. HasBits m t) (sym inner.ensures.mask) body.ensures.mask);
+      mask = HasBits-right c.joined-in-Lam.result.mask c.type_measures.result.mask inner.result.mask t c.joined-in-Lam.ensures.mask
+          (subst (λ m. HasBits m t) (sym inner.ensures.mask) body.ensures.mask);
     })

@@ -15,7 +15,8 @@ returns-then-ne-clause-keeps c = Keeps-refl c.args.self.now
 pub returns-then-ne-clause-refusal : goal.returns-then-ne-clause-refusal
 returns-then-ne-clause-refusal c =
     let n : c.type_of-ty.result.0 ≡ c.type_of.result.0 → ⊥ = grind arith in
-    equation_mismatch (term_at c.args.self.now c.args.l.0) (term_at c.args.self.now c.args.r.0) (type_at c.args.self.now c.type_of-ty.result.0) (type_at c.args.self.now c.type_of.result.0) c.type_of-ty.ensures.is c.type_of.ensures.is
+    equation_mismatch (term_at c.args.self.now c.args.l.0) (term_at c.args.self.now c.args.r.0) (type_at c.args.self.now c.type_of-ty.result.0)
+    (type_at c.args.self.now c.type_of.result.0) c.type_of-ty.ensures.is c.type_of.ensures.is
     (types_apart c.args.self.now.types c.type_of.ensures.distinct c.type_of-ty.result c.type_of.result c.type_of-ty.ensures.known c.type_of.ensures.known n)
 
 pub raw_equation-made-requires-clause-ty : goal.raw_equation-made-requires-clause-ty
@@ -31,17 +32,29 @@ raw_equation-made-requires-clause-right c = known_term c.args.self.now c.args.r.
 it : (c : goal.After-settle) → IsTerm (equation_of (term_at c.args.self.now c.args.l.0) (term_at c.args.self.now c.args.r.0))
 it c =
     let e : c.type_of.result.0 ≡ c.type_of-ty.result.0 = grind arith in
-    equation_term (term_at c.args.self.now c.args.l.0) (term_at c.args.self.now c.args.r.0) (type_at c.args.self.now c.type_of-ty.result.0) (type_at c.args.self.now c.type_of.result.0) c.type_of-ty.ensures.is c.type_of.ensures.is
+    equation_term (term_at c.args.self.now c.args.l.0) (term_at c.args.self.now c.args.r.0) (type_at c.args.self.now c.type_of-ty.result.0)
+    (type_at c.args.self.now c.type_of.result.0) c.type_of-ty.ensures.is c.type_of.ensures.is
     (ap (tree_at c.args.self.now.types) e)
 
 -- and the one that is made
-made : (c : goal.After-settle) → IfOk c.raw_equation-made.result (λ id. Holds c.raw_equation-made.new.self id.0 (equation_of (term_at c.args.self.now c.args.l.0) (term_at c.args.self.now c.args.r.0)))
+made : (c : goal.After-settle) → IfOk c.raw_equation-made.result
+    (λ id. Holds c.raw_equation-made.new.self id.0 (equation_of (term_at c.args.self.now c.args.l.0) (term_at c.args.self.now c.args.r.0)))
 made c =
-    let e = equation_is (term_at c.args.self.now c.args.l.0) (term_at c.args.self.now c.args.r.0) (type_at c.args.self.now c.type_of-ty.result.0) (type_at c.args.self.now c.type_of.result.0) c.type_of-ty.ensures.is c.type_of.ensures.is in
+    let e = equation_is (term_at c.args.self.now c.args.l.0) (term_at c.args.self.now c.args.r.0) (type_at c.args.self.now c.type_of-ty.result.0)
+    (type_at c.args.self.now c.type_of.result.0) c.type_of-ty.ensures.is c.type_of.ensures.is in
     IfOk-weaker c.raw_equation-made.result _ _ (λ id h. h ∙ ap Some e) c.raw_equation-made.ensures.made
 
 pub settle-requires-clause-earlier : goal.settle-requires-clause-earlier
-settle-requires-clause-earlier c = (c.args.self.now, record { keeps = c.raw_equation-made.ensures.keeps; own = c.mark-mark.ensures.own; types = c.mark-mark.ensures.types; terms = c.mark-mark.ensures.terms })
+settle-requires-clause-earlier c = (
+  c.args.self.now,
+  record {
+    keeps = c.raw_equation-made.ensures.keeps;
+    own = c.mark-mark.ensures.own;
+    types = c.mark-mark.ensures.types;
+    terms =
+        c.mark-mark.ensures.terms;
+  },
+)
 
 pub settle-requires-clause-made : goal.settle-requires-clause-made
 settle-requires-clause-made c = c.raw_equation-made.ensures.known
@@ -56,10 +69,14 @@ pub returns-clause-within : goal.returns-clause-within
 returns-clause-within c = c.settle.ensures.within (equation_of (term_at c.args.self.now c.args.l.0) (term_at c.args.self.now c.args.r.0)) (made c)
 
 pub returns-clause-keeps : goal.returns-clause-keeps
-returns-clause-keeps c = c.settle.ensures.keeps c.args.self.now (record { keeps = c.raw_equation-made.ensures.keeps; own = c.mark-mark.ensures.own; types = c.mark-mark.ensures.types; terms = c.mark-mark.ensures.terms })
+returns-clause-keeps c = c.settle.ensures.keeps c.args.self.now
+    (record { keeps = c.raw_equation-made.ensures.keeps; own = c.mark-mark.ensures.own; types = c.mark-mark.ensures.types; terms = c.mark-mark.ensures.terms })
 
 pub returns-clause-unchanged : goal.returns-clause-unchanged
-returns-clause-unchanged c = on_err_weaker c.settle.result (λ back. back c.args.self.now (record { keeps = c.raw_equation-made.ensures.keeps; own = c.mark-mark.ensures.own; types = c.mark-mark.ensures.types; terms = c.mark-mark.ensures.terms })) c.settle.ensures.unchanged
+returns-clause-unchanged c = on_err_weaker c.settle.result
+    (λ back. back c.args.self.now
+    (record { keeps = c.raw_equation-made.ensures.keeps; own = c.mark-mark.ensures.own; types = c.mark-mark.ensures.types; terms = c.mark-mark.ensures.terms }))
+    c.settle.ensures.unchanged
 
 pub returns-clause-typed : goal.returns-clause-typed
 returns-clause-typed c = IfOk-weaker c.settle.result _ _ (λ id k. it c) c.settle.ensures.known

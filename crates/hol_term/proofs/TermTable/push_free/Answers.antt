@@ -7,7 +7,8 @@ use Rattle.hol_term.proofs.TermTable.push_free.Goals as goal
 
 pub returns-in_ok-push-in-Free-clause-variables : goal.returns-in_ok-push-in-Free-clause-variables
 returns-in_ok-push-in-Free-clause-variables c =
-    let is : term_at c.args.self.now c.args.id.0 ≡ free c.in-Free.name (type_at c.args.self.now c.in-Free.ty.0) = Some-term_in c.args.self.now.terms c.args.id.0 _ (rw c.in-Free.is at c.entry.ensures.is) in
+    let is : term_at c.args.self.now c.args.id.0 ≡ free c.in-Free.name (type_at c.args.self.now c.in-Free.ty.0) =
+    Some-term_in c.args.self.now.terms c.args.id.0 _ (rw c.in-Free.is at c.entry.ensures.is) in
     rw (c.in_ok-push-in-Free.ensures.items, c.in_ok-name-in-Free.ensures.cases, is) (variables_of-last c.args.self.now c.args.found.now.items _)
 
 pub returns-in_ok-push-in-Free-clause-known : goal.returns-in_ok-push-in-Free-clause-known

@@ -9,7 +9,8 @@ loop-id-init c = rw c.requires.none (finding_begins _ _ c.requires.ids)
 pub loop-id-preserved : goal.loop-id-preserved
 loop-id-preserved c =
     finding_goes_on _ _ _ _ _ _
-    (subst (λ l. IsFinding c.args.self.now c.args.ids.now l c.loop-id.found.items) (drop_more c.args.ids.now c.loop-id.id-index _ c.loop-id-test.true) c.loop-id.invariant)
+    (subst (λ l. IsFinding c.args.self.now c.args.ids.now l c.loop-id.found.items) (drop_more c.args.ids.now c.loop-id.id-index _ c.loop-id-test.true)
+    c.loop-id.invariant)
     c.in_ok-push_free.ensures.variables c.in_ok-push_free.ensures.known
 
 pub returns-clause-variables : goal.returns-clause-variables

@@ -12,7 +12,8 @@ add-requires c = (omega (arith, c.requires.variable, c.closed.ensures.keeps.type
 pub returns-clause-made : goal.returns-clause-made
 returns-clause-made c =
     IfOk-weaker c.add.result _ _
-    (λ r h. made_abs c.args.self.now c.closed.new.self c.add.new.self c.args.var.now.ty.0 c.in_ok-body.body.0 r.0 (close (c.args.var.now.name, type_at c.args.self.now c.args.var.now.ty.0) (term_at c.args.self.now c.args.id.0))
+    (λ r h. made_abs c.args.self.now c.closed.new.self c.add.new.self c.args.var.now.ty.0 c.in_ok-body.body.0 r.0
+    (close (c.args.var.now.name, type_at c.args.self.now c.args.var.now.ty.0) (term_at c.args.self.now c.args.id.0))
     c.closed.ensures.keeps c.requires.variable c.in_ok-body.ensures.made h)
     c.add.ensures.made
 

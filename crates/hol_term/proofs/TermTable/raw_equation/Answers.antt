@@ -17,7 +17,8 @@ add-requires-2 c = (c.in_ok-left.ensures.known, omega (arith, c.requires.right, 
 pub returns-clause-made : goal.returns-clause-made
 returns-clause-made c =
     IfOk-weaker c.add-2.result _ _
-    (λ id h. made_equation c.args.self.now c.equality.new.self c.add.new.self c.add-2.new.self c.in_ok-constant.constant.0 c.args.l.0 c.in_ok-left.left.0 c.args.r.0 id.0 (type_at c.args.self.now c.args.ty.0)
+    (λ id h. made_equation c.args.self.now c.equality.new.self c.add.new.self c.add-2.new.self c.in_ok-constant.constant.0 c.args.l.0 c.in_ok-left.left.0
+    c.args.r.0 id.0 (type_at c.args.self.now c.args.ty.0)
     c.equality.ensures.keeps c.add.ensures.keeps c.requires.left c.requires.right c.in_ok-constant.ensures.made c.in_ok-left.ensures.made h)
     c.add-2.ensures.made
 

@@ -15,7 +15,8 @@ returns-in_err-predicate-clause-keeps c = Keeps-trans c.bool_type.ensures.keeps 
 
 pub returns-clause-made : goal.returns-clause-made
 returns-clause-made c =
-    let e = relation_at c.args.self.now c.bool_type.new.self c.function_type.new.self c.args.ty.0 c.in_ok-truth.truth.0 c.in_ok-predicate.predicate.0 c.bool_type.ensures.keeps c.function_type.ensures.keeps c.requires c.in_ok-truth.ensures.made c.in_ok-predicate.ensures.made in
+    let e = relation_at c.args.self.now c.bool_type.new.self c.function_type.new.self c.args.ty.0 c.in_ok-truth.truth.0 c.in_ok-predicate.predicate.0
+    c.bool_type.ensures.keeps c.function_type.ensures.keeps c.requires c.in_ok-truth.ensures.made c.in_ok-predicate.ensures.made in
     IfOk-weaker c.function_type-2.result _ _ (λ id h. h ∙ e) c.function_type-2.ensures.made
 
 pub returns-clause-terms : goal.returns-clause-terms

@@ -3,7 +3,8 @@ use Rattle.hol_term.proofs.WalkTurns.{walk_begins, walk_gives}
 use Rattle.hol_term.proofs.TermTable.remade.Goals as goal
 
 pub loop-task-init : goal.loop-task-init
-loop-task-init c = rw (c.in_ok-push.ensures.pushed, c.new-walk.ensures.tasks, c.new-walk.ensures.made) (walk_begins c.args.self.now c.args.args.now c.args.root _ c.requires.root c.requires.args c.requires.closing c.new-walk.ensures.memo)
+loop-task-init c = rw (c.in_ok-push.ensures.pushed, c.new-walk.ensures.tasks, c.new-walk.ensures.made)
+    (walk_begins c.args.self.now c.args.args.now c.args.root _ c.requires.root c.requires.args c.requires.closing c.new-walk.ensures.memo)
 
 pub loop-task-smaller : goal.loop-task-smaller
 loop-task-smaller c =

@@ -13,6 +13,7 @@ returns c =
     IfOk-weaker c.listed.result _ _
     (λ v e. e
     ∙ c.in_ok-unite_heads.ensures
-    ∙ ap (λ l. distinct name_eq (gathered type_head l)) (ap (terms_at c.args.self.now) c.ids.ensures ∙ came c.args.self.now c.args.id _ _ c.requires.empty c.in_ok-come_to.ensures)
+    ∙ ap (λ l. distinct name_eq (gathered type_head l))
+    (ap (terms_at c.args.self.now) c.ids.ensures ∙ came c.args.self.now c.args.id _ _ c.requires.empty c.in_ok-come_to.ensures)
     ∙ types_of_distinct (term_at c.args.self.now c.args.id.0))
     c.listed.ensures

@@ -9,7 +9,8 @@ loop-id-init c = rw c.requires.none (naming_begins _ _ c.requires.known)
 pub loop-id-preserved : goal.loop-id-preserved
 loop-id-preserved c =
     naming_goes_on _ _ _ _ _ _
-    (subst (λ l. IsNaming c.args.self.now c.args.ids.now l c.loop-id.names) (drop_more c.args.ids.now c.loop-id.id-index _ c.loop-id-test.true) c.loop-id.invariant)
+    (subst (λ l. IsNaming c.args.self.now c.args.ids.now l c.loop-id.names) (drop_more c.args.ids.now c.loop-id.id-index _ c.loop-id-test.true)
+    c.loop-id.invariant)
     c.in_ok-unite_head.ensures
 
 pub returns : goal.returns

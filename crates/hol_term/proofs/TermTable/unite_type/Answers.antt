@@ -11,5 +11,6 @@ use Rattle.hol_term.proofs.TermTable.unite_type.Goals as goal
 pub returns : goal.returns
 returns c =
     rw (← c.self.view_is) (on_ok_weaker c.unite.result
-    (λ e. e ∙ ap (union name_eq c.args.names.now) (c.deref.ensures.value ∙ c.in_ok-found.ensures) ∙ union-distinct name_eq name_eq-Decides (variable_places (tree_at c.self.inside.types c.args.ty.0)) c.args.names.now)
+    (λ e. e ∙ ap (union name_eq c.args.names.now) (c.deref.ensures.value ∙ c.in_ok-found.ensures)
+    ∙ union-distinct name_eq name_eq-Decides (variable_places (tree_at c.self.inside.types c.args.ty.0)) c.args.names.now)
     c.unite.ensures.united)

@@ -17,4 +17,6 @@ returns-in-Some-clause-walk c =
     c.push.ensures.pushed
 
 pub returns-in-Some-clause-less : goal.returns-in-Some-clause-less
-returns-in-Some-clause-less c = OnOk-map c.push.result (λ made from root w. visit_less from c.args.self.now root c.args.args.now c.args.place c.args.walk.now.tasks c.args.walk.now.made c.args.walk.now.memo) c.push.ensures.pushed
+returns-in-Some-clause-less c = OnOk-map c.push.result
+    (λ made from root w. visit_less from c.args.self.now root c.args.args.now c.args.place c.args.walk.now.tasks c.args.walk.now.made c.args.walk.now.memo)
+    c.push.ensures.pushed

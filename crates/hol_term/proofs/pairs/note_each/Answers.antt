@@ -14,5 +14,6 @@ loop-rest-init c = (
 pub loop-rest-preserved : goal.loop-rest-preserved
 loop-rest-preserved c = (
   omega (arith, c.loop-rest.invariant.0, length-take (length c.loop-rest.rest.now - 1) c.loop-rest.rest.now),
-  λ v. noted_goes_on v c.args.pairs.now c.loop-rest.rest.now c.loop-rest.firsts c.insert.new.self c.last-item.result c.in_ok-clone.field-0 c.in-len1-up.len_at_least c.last-item.is c.in_ok-clone.ensures.cases c.in_ok-insert.ensures.entries (c.loop-rest.invariant.1 v),
+  λ v. noted_goes_on v c.args.pairs.now c.loop-rest.rest.now c.loop-rest.firsts c.insert.new.self c.last-item.result c.in_ok-clone.field-0
+      c.in-len1-up.len_at_least c.last-item.is c.in_ok-clone.ensures.cases c.in_ok-insert.ensures.entries (c.loop-rest.invariant.1 v),
 )

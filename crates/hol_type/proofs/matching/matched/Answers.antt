@@ -2,7 +2,8 @@ use Rattle.hol_type.proofs.MatchTurns.{matching_begins, matching_ends, goes_on, 
 use Rattle.hol_type.proofs.matching.matched.Goals as goal
 
 pub loop-part-init : goal.loop-part-init
-loop-part-init c = rw (c.in_ok-push.ensures.pushed, c.new.ensures.empty, c.new-2.ensures.items) (matching_begins _ c.args.general c.args.instance _ c.requires.distinct c.requires.general c.requires.instance c.new-3.ensures.empty)
+loop-part-init c = rw (c.in_ok-push.ensures.pushed, c.new.ensures.empty, c.new-2.ensures.items)
+    (matching_begins _ c.args.general c.args.instance _ c.requires.distinct c.requires.general c.requires.instance c.new-3.ensures.empty)
 
 pub returns-then-not-branch-clause-matches : goal.returns-then-not-branch-clause-matches
 returns-then-not-branch-clause-matches c =

@@ -11,8 +11,10 @@ view-requires-2 c = (c.requires.matching.2.known c.args.part c.args.image (inr (
 
 pub returns-then-ne-clause-turn : goal.returns-then-ne-clause-turn
 returns-then-ne-clause-turn c = elim c.then-ne.branch [
-  | then-ne-via-then-ne w ↦ never _ _ _ _ _ _ (never_named _ _ _ _ _ _ _ c.in-Op-Op.ensures.is c.in-Op-Op.ensures'.is (names_differ _ _ (sym c.ne.ensures ∙ w.if-ne.true)))
-  | then-ne-via-else-ne+then-parts-images w ↦ never _ _ _ _ _ _ (never_counted _ _ _ _ _ _ _ c.in-Op-Op.ensures.is c.in-Op-Op.ensures'.is w.if-parts-images.true)
+  | then-ne-via-then-ne w ↦ never _ _ _ _ _ _
+      (never_named _ _ _ _ _ _ _ c.in-Op-Op.ensures.is c.in-Op-Op.ensures'.is (names_differ _ _ (sym c.ne.ensures ∙ w.if-ne.true)))
+  | then-ne-via-else-ne+then-parts-images w ↦ never _ _ _ _ _ _
+      (never_counted _ _ _ _ _ _ _ c.in-Op-Op.ensures.is c.in-Op-Op.ensures'.is w.if-parts-images.true)
 ]
 
 pub returns-in_ok-note-in-Var-default-clause-turn : goal.returns-in_ok-note-in-Var-default-clause-turn
@@ -26,7 +28,8 @@ returns-in_ok-note-in-Op-Op-clause-turn c =
     let e = c.in_ok-note-in-Op-Op.ensures in
     let k = rw (← names_same c.in-Op-Op.name.now c.in-Op-Op.other.now (sym c.ne.ensures ∙ c.if-ne.false)) at c.in-Op-Op.ensures'.is in
     rw c.in_ok-set_out-in-Op-Op.ensures
-    (meets_operator _ _ _ _ _ _ _ c.requires.new e.noted e.new e.kept c.in-Op-Op.name.now c.in-Op-Op.parts.now c.in-Op-Op.images.now c.in-Op-Op.ensures.is k c.in-Op-Op.ensures.lower c.in-Op-Op.ensures'.lower (omega (arith, c.if-parts-images.false)))
+    (meets_operator _ _ _ _ _ _ _ c.requires.new e.noted e.new e.kept c.in-Op-Op.name.now c.in-Op-Op.parts.now c.in-Op-Op.images.now c.in-Op-Op.ensures.is k
+    c.in-Op-Op.ensures.lower c.in-Op-Op.ensures'.lower (omega (arith, c.if-parts-images.false)))
 
 pub returns-in_ok-note-in-Op-Op-clause-less : goal.returns-in_ok-note-in-Op-Op-clause-less
 returns-in_ok-note-in-Op-Op-clause-less c = rw c.in_ok-set_out-in-Op-Op.ensures (with_pairs_less _ c.args.part _ _ _ _ c.in-Op-Op.ensures.is)

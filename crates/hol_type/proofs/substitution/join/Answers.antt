@@ -21,7 +21,8 @@ pub returns-clause-walk : goal.returns-clause-walk
 returns-clause-walk c =
     let held = rw c.in_ok-clone.ensures.cases at c.in_ok-id_made.ensures.made in
     OnOk-map3 c.note.result
-    (λ only new kept. walk_join _ _ c.args.id _ _ _ _ c.in_ok-id_made.id_made c.in-Op.name.now c.in-Op.args.now c.in_ok-made.made.items c.add.ensures.keeps c.in-Op.ensures.is c.in_ok-made.ensures held only new kept)
+    (λ only new kept. walk_join _ _ c.args.id _ _ _ _ c.in_ok-id_made.id_made c.in-Op.name.now c.in-Op.args.now c.in_ok-made.made.items c.add.ensures.keeps
+    c.in-Op.ensures.is c.in_ok-made.ensures held only new kept)
     c.note.ensures.noted c.note.ensures.new c.note.ensures.kept
 
 pub returns-clause-less : goal.returns-clause-less

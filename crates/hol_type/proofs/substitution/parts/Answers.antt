@@ -9,16 +9,19 @@ loop-id-init c = rw c.new-parts.ensures.items (gathering_begins _ _ c.requires)
 
 pub unwrap-requires : goal.unwrap-requires
 unwrap-requires c =
-    let done = (subst (AreDone c.args.made.now) (drop_more c.args.ids.now c.loop-id.id-index (record { 0 = 0 }) c.loop-id-test.true) c.loop-id.invariant.done).0 in
+    let done = (subst (AreDone c.args.made.now) (drop_more c.args.ids.now c.loop-id.id-index (record { 0 = 0 }) c.loop-id-test.true) c.loop-id.invariant.done).0
+    in
     is_some c.find.result c.find.ensures.absent (λ absent. absent done.0 done.1)
 
 pub loop-id-preserved : goal.loop-id-preserved
 loop-id-preserved c =
     rw c.in_ok-push.ensures.items
     (gathering_goes_on _ _ _ c.loop-id.parts.items _ c.unwrap.result (if_some _ c.find.result c.unwrap.result c.unwrap.ensures c.find.ensures.noted)
-    (subst (λ l. IsGathering c.args.made.now c.args.ids.now l c.loop-id.parts.items) (drop_more c.args.ids.now c.loop-id.id-index _ c.loop-id-test.true) c.loop-id.invariant))
+    (subst (λ l. IsGathering c.args.made.now c.args.ids.now l c.loop-id.parts.items) (drop_more c.args.ids.now c.loop-id.id-index _ c.loop-id-test.true)
+    c.loop-id.invariant))
 
 pub returns : goal.returns
 returns c =
     gathering_ends _ _ _
-    (subst (λ l. IsGathering c.args.made.now c.args.ids.now l c.loop-id.parts.items) (drop_all c.loop-id.id-index c.args.ids.now (omega (arith, c.loop-id-test.false))) c.loop-id.invariant)
+    (subst (λ l. IsGathering c.args.made.now c.args.ids.now l c.loop-id.parts.items)
+    (drop_all c.loop-id.id-index c.args.ids.now (omega (arith, c.loop-id-test.false))) c.loop-id.invariant)

@@ -17,7 +17,9 @@ returns-in-Var-clause-walk c =
 
 pub returns-in-Op-clause-walk : goal.returns-in-Op-clause-walk
 returns-in-Op-clause-walk c =
-    on_ok_weaker c.set_out.result (λ m. rw m (walk_set_out _ _ _ _ _ _ (record { name = c.in-Op.field-0.now; is = c.in-Op.ensures.is; lower = c.in-Op.ensures.lower }))) c.set_out.ensures
+    on_ok_weaker c.set_out.result
+    (λ m. rw m (walk_set_out _ _ _ _ _ _ (record { name = c.in-Op.field-0.now; is = c.in-Op.ensures.is; lower = c.in-Op.ensures.lower }))) c.set_out.ensures
 
 pub returns-in-Op-clause-less : goal.returns-in-Op-clause-less
-returns-in-Op-clause-less c = on_ok_weaker c.set_out.result (λ m. rw m (set_out_less _ _ c.in-Op.field-0.now c.in-Op.args.now _ c.in-Op.ensures.is)) c.set_out.ensures
+returns-in-Op-clause-less c = on_ok_weaker c.set_out.result (λ m. rw m (set_out_less _ _ c.in-Op.field-0.now c.in-Op.args.now _ c.in-Op.ensures.is))
+    c.set_out.ensures

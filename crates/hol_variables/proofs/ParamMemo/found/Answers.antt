@@ -12,7 +12,9 @@ returns-in-Some c =
     let trees = c.args.terms.now in
     let memo = c.args.self.now in
     let own = c.index.result.now in
-    let w = term_noted trees memo.names memo.variables memo.terms.items c.requires.noted.terms c.args.id.0 _ own c.index.ensures (omega (arith, c.requires.known, c.requires.all_terms)) in
+    let w = term_noted trees memo.names memo.variables memo.terms.items c.requires.noted.terms c.args.id.0 _ own c.index.ensures
+    (omega (arith, c.requires.known, c.requires.all_terms)) in
     c.is_among.ensures
     ∙ found_free trees (variable_view trees c.args.variable.now) c.args.id.0 c.numbers.result.now
-    (variables_listed trees (free_places (term_at trees c.args.id.0)) memo.variables own.variables c.in-Some.list _ _ w.free_variables c.in-Some.is c.list.ensures c.numbers.ensures.numbers)
+    (variables_listed trees (free_places (term_at trees c.args.id.0)) memo.variables own.variables c.in-Some.list _ _ w.free_variables c.in-Some.is
+    c.list.ensures c.numbers.ensures.numbers)

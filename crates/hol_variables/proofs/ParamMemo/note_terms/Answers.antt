@@ -24,10 +24,13 @@ loop-self-preserved c =
     let at : c.len-in-loop-self.result ≡ length memo.terms.items = omega (arith, c.len-in-loop-self.ensures, memo.terms.ok.0) in
     let below : length memo.terms.items < length trees.terms = omega (arith, c.loop-self-test.true, c.len.ensures, c.count.ensures, memo.terms.ok.0) in (
       record {
-        types = subst (AreTypesNoted trees.types new.names) (sym e.types) (AreTypesNoted-kept trees.types memo.names new.names memo.types.items e.names noted.types);
+        types = subst (AreTypesNoted trees.types new.names) (sym e.types)
+            (AreTypesNoted-kept trees.types memo.names new.names memo.types.items e.names noted.types);
         terms =
-            AreTermsNoted-pushed trees new.names new.variables memo.terms.items c.push.new.self.items own below (c.in_ok-push.ensures.items ∙ ap (λ l. l ++ own ∷ []) e.terms)
-            (AreTermsNoted-kept trees memo.names new.names memo.variables new.variables memo.terms.items e.names e.variables noted.terms) (subst (λ i. IsOwn trees new.names new.variables i own) at e.own);
+            AreTermsNoted-pushed trees new.names new.variables memo.terms.items c.push.new.self.items own below
+            (c.in_ok-push.ensures.items ∙ ap (λ l. l ++ own ∷ []) e.terms)
+            (AreTermsNoted-kept trees memo.names new.names memo.variables new.variables memo.terms.items e.names e.variables noted.terms)
+            (subst (λ i. IsOwn trees new.names new.variables i own) at e.own);
       },
       ap length e.types ∙ c.loop-self.invariant.1,
     )

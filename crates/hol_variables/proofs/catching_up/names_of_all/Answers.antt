@@ -11,7 +11,8 @@ unite-requires-clause-second c =
     let noted = c.args.noted.now in
     let lists = c.loop-arg.lists in
     let n = AreTypesNoted-kept types c.args.lists.now lists noted c.loop-arg.invariant.0 c.requires.noted in
-    let h = subst (λ rest. IsGathering types noted c.args.args.now rest lists c.loop-arg.list) (drop_more c.args.args.now c.loop-arg.arg-index (record { 0 = 0 }) c.loop-arg-test.true) c.loop-arg.invariant.1 in
+    let h = subst (λ rest. IsGathering types noted c.args.args.now rest lists c.loop-arg.list)
+    (drop_more c.args.args.now c.loop-arg.arg-index (record { 0 = 0 }) c.loop-arg-test.true) c.loop-arg.invariant.1 in
     type_there types lists _ _ (type_noted types lists noted n _ None _ refl h.below.0)
 
 pub loop-arg-preserved : goal.loop-arg-preserved
@@ -20,7 +21,9 @@ loop-arg-preserved c =
     let noted = c.args.noted.now in
     let lists = c.loop-arg.lists in
     let n = AreTypesNoted-kept types c.args.lists.now lists noted c.loop-arg.invariant.0 c.requires.noted in
-    let h = subst (λ rest. IsGathering types noted c.args.args.now rest lists c.loop-arg.list) (drop_more c.args.args.now c.loop-arg.arg-index (record { 0 = 0 }) c.loop-arg-test.true) c.loop-arg.invariant.1 in (
+    let h = subst (λ rest. IsGathering types noted c.args.args.now rest lists c.loop-arg.list)
+    (drop_more c.args.args.now c.loop-arg.arg-index (record { 0 = 0 }) c.loop-arg-test.true) c.loop-arg.invariant.1 in (
       KeepsLists-trans c.loop-arg.invariant.0 c.in_ok-list.ensures.keeps,
-      gathering_goes_on types noted c.args.args.now c.count-count.ensures.distinct _ _ lists c.unite.new.self c.loop-arg.list _ c.in_ok-list.list n (item_at noted _ None _ refl h.below.0) c.in_ok-list.ensures.united h,
+      gathering_goes_on types noted c.args.args.now c.count-count.ensures.distinct _ _ lists c.unite.new.self c.loop-arg.list _ c.in_ok-list.list n
+          (item_at noted _ None _ refl h.below.0) c.in_ok-list.ensures.united h,
     )

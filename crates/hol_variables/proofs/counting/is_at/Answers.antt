@@ -18,4 +18,5 @@ returns-then-eq c =
     c.eq-then-eq.ensures
     ∙ type_numbers trees.types d v.ty c.in-Free.ty c.requires.variable c.in-Free.ensures.lower
     ∙ ap (λ b. b && type_eq (type_at trees v.ty.0) (type_at trees c.in-Free.ty.0)) (sym named)
-    ∙ ap (variable_eq (variable_view trees v)) (sym (ap variable_of (Some-term_in trees.terms c.args.id.0 (free c.in-Free.name.now (type_at trees c.in-Free.ty.0)) c.in-Free.ensures.is)))
+    ∙ ap (variable_eq (variable_view trees v))
+    (sym (ap variable_of (Some-term_in trees.terms c.args.id.0 (free c.in-Free.name.now (type_at trees c.in-Free.ty.0)) c.in-Free.ensures.is)))

@@ -11,5 +11,6 @@ apply-requires-clause-args c = AreKnown-Keeps c.in_ok-head.ensures.keeps _ c.req
 pub returns-clause-made : goal.returns-clause-made
 returns-clause-made c =
     IfOk-weaker c.apply.result _ _
-    (λ r h. h ∙ ap₂ (λ f xs. Some (applied f xs)) (Holds-tree_at _ c.in_ok-head.head.0 _ c.in_ok-head.ensures.made) (trees_at-Keeps c.in_ok-head.ensures.keeps _ c.requires))
+    (λ r h. h ∙ ap₂ (λ f xs. Some (applied f xs)) (Holds-tree_at _ c.in_ok-head.head.0 _ c.in_ok-head.ensures.made)
+    (trees_at-Keeps c.in_ok-head.ensures.keeps _ c.requires))
     c.apply.ensures.made

@@ -13,5 +13,7 @@ applied-requires-clause-args c = AreKnown-Keeps c.put.ensures.keeps _ ((subst (A
 
 pub returns-in_ok-whole-in-Some-clause-is : goal.returns-in_ok-whole-in-Some-clause-is
 returns-in_ok-whole-in-Some-clause-is c =
-    beta-applied c.args.base.now (record { table = c.put.new.self; decls = c.args.base.now.decls }) c.applied.new.base c.args.body c.in-Some.x c.in_ok-made-in-Some.made c.in_ok-whole-in-Some.whole c.args.args c.pop.new.self
-    (record { keeps = c.put.ensures.keeps; decls = refl }) c.in-Some.ensures.popped ((subst (AreKnown c.args.base.now.table) c.in-Some.ensures.popped c.requires.args).1) c.in_ok-made-in-Some.ensures.made c.in_ok-whole-in-Some.ensures.is
+    beta-applied c.args.base.now (record { table = c.put.new.self; decls = c.args.base.now.decls }) c.applied.new.base c.args.body c.in-Some.x
+    c.in_ok-made-in-Some.made c.in_ok-whole-in-Some.whole c.args.args c.pop.new.self
+    (record { keeps = c.put.ensures.keeps; decls = refl }) c.in-Some.ensures.popped
+    ((subst (AreKnown c.args.base.now.table) c.in-Some.ensures.popped c.requires.args).1) c.in_ok-made-in-Some.ensures.made c.in_ok-whole-in-Some.ensures.is

@@ -7,7 +7,8 @@ pub returns-then-s-lt-SIGNATURE-clause-is : goal.returns-then-s-lt-SIGNATURE-cla
 returns-then-s-lt-SIGNATURE-clause-is c =
     elim c.then-s-lt-SIGNATURE.branch [
       | then-s-lt-SIGNATURE-via-then-s-lt-SIGNATURE w ↦ signature-none _ c.args.s w.if-s-lt-SIGNATURE.true
-      | then-s-lt-SIGNATURE-via-else-s-lt-SIGNATURE+then-len-s w ↦ beyond-none _ _ c.args.s (omega (arith, w.len.ensures, w.if-s-lt-SIGNATURE.false, w.if-len-s.true))
+      | then-s-lt-SIGNATURE-via-else-s-lt-SIGNATURE+then-len-s w ↦ beyond-none _ _ c.args.s
+          (omega (arith, w.len.ensures, w.if-s-lt-SIGNATURE.false, w.if-len-s.true))
     ]
 
 pub returns-in-Def-clause-known : goal.returns-in-Def-clause-known

@@ -6,7 +6,8 @@ use Rattle.lp_conv.proofs.heads.unfold.Goals as goal
 
 pub loop-inner-preserved : goal.loop-inner-preserved
 loop-inner-preserved c =
-    given-more _ _ c.args.id c.loop-inner.body c.in-Some.inner c.in-Some-pop.x c.args.args c.loop-inner.before.items _ c.loop-inner.rest c.pop.new.self c.loop-inner.invariant c.in-Some-pop.ensures.popped
+    given-more _ _ c.args.id c.loop-inner.body c.in-Some.inner c.in-Some-pop.x c.args.args c.loop-inner.before.items _ c.loop-inner.rest c.pop.new.self
+    c.loop-inner.invariant c.in-Some-pop.ensures.popped
     c.in_ok-push-in-Some-pop.ensures.items c.in-Some.ensures
 
 pub applied-requires-clause-held : goal.applied-requires-clause-held
@@ -17,5 +18,7 @@ applied-requires-clause-args c = AreKnown-Keeps c.put_all.ensures.keeps _ c.loop
 
 pub returns-clause-is : goal.returns-clause-is
 returns-clause-is c =
-    given-applied c.args.base.now (record { table = c.put_all.new.self; decls = c.args.base.now.decls }) c.applied.new.base c.args.id c.loop-inner.body c.in_ok-made.made c.in_ok-whole.whole c.args.args _ c.loop-inner.rest
-    (record { keeps = c.put_all.ensures.keeps; decls = refl }) c.loop-inner.invariant c.in_default.ensures (rw c.deref.ensures.value at c.in_ok-made.ensures.made) c.in_ok-whole.ensures.is
+    given-applied c.args.base.now (record { table = c.put_all.new.self; decls = c.args.base.now.decls }) c.applied.new.base c.args.id c.loop-inner.body
+    c.in_ok-made.made c.in_ok-whole.whole c.args.args _ c.loop-inner.rest
+    (record { keeps = c.put_all.ensures.keeps; decls = refl }) c.loop-inner.invariant c.in_default.ensures
+    (rw c.deref.ensures.value at c.in_ok-made.ensures.made) c.in_ok-whole.ensures.is

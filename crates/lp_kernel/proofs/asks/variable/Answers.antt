@@ -8,5 +8,7 @@ lifted-requires-clause-entry c = known-entry _ _ _ c.in-Some.entry c.requires.kn
 
 pub returns-clause-is : goal.returns-clause-is
 returns-clause-is c =
-    lifted-entry _ _ c.args.context.now c.args.n _ c.in-Some.entry c.in_ok-ty.ty c.lifted.ensures.grows.keeps.stays (known-entry _ _ _ c.in-Some.entry c.requires.known c.in-Some.ensures) c.in-Some.ensures
-    (tree_at-Holds c.lifted.new.base.table c.in_ok-ty.ty.0 c.in_ok-ty.ensures.known ∙ ap Some c.in_ok-ty.ensures.is) (omega (arith, c.in-Some-checked_add.ensures))
+    lifted-entry _ _ c.args.context.now c.args.n _ c.in-Some.entry c.in_ok-ty.ty c.lifted.ensures.grows.keeps.stays
+    (known-entry _ _ _ c.in-Some.entry c.requires.known c.in-Some.ensures) c.in-Some.ensures
+    (tree_at-Holds c.lifted.new.base.table c.in_ok-ty.ty.0 c.in_ok-ty.ensures.known ∙ ap Some c.in_ok-ty.ensures.is)
+    (omega (arith, c.in-Some-checked_add.ensures))

@@ -10,7 +10,12 @@ use Rattle.lp_kernel.proofs.Levels.{empty-right}
 use Rattle.lp_kernel.proofs.checks.check_all.Goals as goal
 
 pub loop-i-init : goal.loop-i-init
-loop-i-init c = record { passing = passing-start c.args.rechecks _ c.requires.held; right = empty-right c.args.rechecks _ _ c.new-memo.result c.new-memo.ensures.rechecks c.new-memo.ensures.types c.new-memo.ensures.products c.new-memo.ensures.lifts c.new-memo.ensures.open_types }
+loop-i-init c = record {
+  passing = passing-start c.args.rechecks _ c.requires.held;
+  right =
+      empty-right c.args.rechecks _ _ c.new-memo.result c.new-memo.ensures.rechecks c.new-memo.ensures.types c.new-memo.ensures.products c.new-memo.ensures.lifts
+      c.new-memo.ensures.open_types;
+}
 
 pub check_noted-requires-clause-held : goal.check_noted-requires-clause-held
 check_noted-requires-clause-held c = c.loop-i.invariant.passing.held
@@ -19,7 +24,8 @@ pub check_noted-requires-clause-is_module : goal.check_noted-requires-clause-is_
 check_noted-requires-clause-is_module c = subst IsModule (sym c.loop-i.invariant.passing.same) c.requires.is_module
 
 pub check_noted-requires-clause-right : goal.check_noted-requires-clause-right
-check_noted-requires-clause-right c = subst (λ r. AreRight r (declarations_of c.loop-i.base) c.loop-i.base.table c.loop-i.memo) (sym c.loop-i.invariant.right.rechecked) c.loop-i.invariant.right
+check_noted-requires-clause-right c = subst (λ r. AreRight r (declarations_of c.loop-i.base) c.loop-i.base.table c.loop-i.memo)
+    (sym c.loop-i.invariant.right.rechecked) c.loop-i.invariant.right
 
 pub check_noted-requires-clause-i : goal.check_noted-requires-clause-i
 check_noted-requires-clause-i c = omega (arith, c.loop-i-test.true, c.requires.budgets, ap length c.loop-i.invariant.passing.grows.decls)
@@ -29,7 +35,8 @@ returns-in_err-check_noted-clause-grows c = Grows-trans c.loop-i.invariant.passi
 
 pub returns-in-No : goal.returns-in-No
 returns-in-No c =
-    let no = passing-no c.args.rechecks c.args.base.now c.loop-i.base _ c.loop-i.i _ _ c.loop-i.invariant.passing c.check_noted.ensures.grows _ c.loop-i.invariant.right.rechecked (rw c.in-No.is at c.in_ok-check_noted.ensures.answered) in
+    let no = passing-no c.args.rechecks c.args.base.now c.loop-i.base _ c.loop-i.i _ _ c.loop-i.invariant.passing c.check_noted.ensures.grows _
+    c.loop-i.invariant.right.rechecked (rw c.in-No.is at c.in_ok-check_noted.ensures.answered) in
     record {
       grows = Grows-trans c.loop-i.invariant.passing.grows c.check_noted.ensures.grows;
       judged = no;
@@ -40,7 +47,9 @@ returns-in-No c =
 
 pub returns-in-Over : goal.returns-in-Over
 returns-in-Over c =
-    let over = passing-over c.args.rechecks c.args.base.now c.loop-i.base _ c.loop-i.i _ c.check_noted.new.budget.left c.loop-i.invariant.passing c.check_noted.ensures.grows _ c.loop-i.invariant.right.rechecked c.args.budgets.now (slice_get-get_or c.args.budgets.now c.loop-i.i 0 c.loop-i-test.true) (rw c.in-Over.is at c.in_ok-check_noted.ensures.answered) in
+    let over = passing-over c.args.rechecks c.args.base.now c.loop-i.base _ c.loop-i.i _ c.check_noted.new.budget.left c.loop-i.invariant.passing
+    c.check_noted.ensures.grows _ c.loop-i.invariant.right.rechecked c.args.budgets.now
+    (slice_get-get_or c.args.budgets.now c.loop-i.i 0 c.loop-i-test.true) (rw c.in-Over.is at c.in_ok-check_noted.ensures.answered) in
     record {
       grows = Grows-trans c.loop-i.invariant.passing.grows c.check_noted.ensures.grows;
       judged = over;
@@ -54,13 +63,18 @@ cut_back-requires c = omega (arith, c.count-kept.ensures.count, c.loop-i.invaria
 
 pub loop-i-preserved : goal.loop-i-preserved
 loop-i-preserved c =
-    let back = c.cut_back.ensures c.args.rechecks c.args.base.now (sym c.count-kept.ensures.count) c.requires.held (Grows-trans c.loop-i.invariant.passing.grows c.check_noted.ensures.grows) (subst (λ r. AreRight r (declarations_of c.check_noted.new.base) c.check_noted.new.base.table c.check_noted.new.memo) c.loop-i.invariant.right.rechecked c.in_ok-check_noted.ensures.right) in
-    let passing = passing-more c.args.rechecks c.args.base.now c.loop-i.base _ c.loop-i.i _ c.check_noted.new.budget.left c.loop-i.invariant.passing c.check_noted.ensures.grows _ c.loop-i.invariant.right.rechecked (rw c.in-Yes.is at c.in_ok-check_noted.ensures.answered) in
+    let back = c.cut_back.ensures c.args.rechecks c.args.base.now (sym c.count-kept.ensures.count) c.requires.held
+    (Grows-trans c.loop-i.invariant.passing.grows c.check_noted.ensures.grows)
+    (subst (λ r. AreRight r (declarations_of c.check_noted.new.base) c.check_noted.new.base.table c.check_noted.new.memo) c.loop-i.invariant.right.rechecked
+    c.in_ok-check_noted.ensures.right) in
+    let passing = passing-more c.args.rechecks c.args.base.now c.loop-i.base _ c.loop-i.i _ c.check_noted.new.budget.left c.loop-i.invariant.passing
+    c.check_noted.ensures.grows _ c.loop-i.invariant.right.rechecked (rw c.in-Yes.is at c.in_ok-check_noted.ensures.answered) in
     record { right = back.right; passing = passing-cut c.args.rechecks c.args.base.now _ c.cut_back.new.base _ passing c.requires.held back.grows }
 
 pub returns : goal.returns
 returns c =
-    let all = passing-all c.args.rechecks c.args.base.now c.args.budgets.now c.requires.budgets c.loop-i.base c.loop-i.i c.loop-i.invariant.passing (omega (arith, c.loop-i-test.false, c.loop-i.auto.i-end)) in
+    let all = passing-all c.args.rechecks c.args.base.now c.args.budgets.now c.requires.budgets c.loop-i.base c.loop-i.i c.loop-i.invariant.passing
+    (omega (arith, c.loop-i-test.false, c.loop-i.auto.i-end)) in
     record {
       grows = c.loop-i.invariant.passing.grows;
       judged = all;

@@ -20,23 +20,29 @@ pub check_body-requires-clause-is_module : goal.check_body-requires-clause-is_mo
 check_body-requires-clause-is_module c = subst IsModule (sym (declarations_of-Grows _ _ c.infer_noted.ensures.grows c.requires.held)) c.requires.is_module
 
 pub check_body-requires-clause-right : goal.check_body-requires-clause-right
-check_body-requires-clause-right c = subst (λ r. AreRight r (declarations_of c.infer_noted.new.base) c.infer_noted.new.base.table c.infer_noted.new.memo) (sym c.in_ok-sort.ensures.right.rechecked) c.in_ok-sort.ensures.right
+check_body-requires-clause-right c = subst (λ r. AreRight r (declarations_of c.infer_noted.new.base) c.infer_noted.new.base.table c.infer_noted.new.memo)
+    (sym c.in_ok-sort.ensures.right.rechecked) c.in_ok-sort.ensures.right
 
 pub returns-in-SortType-clause-right : goal.returns-in-SortType-clause-right
-returns-in-SortType-clause-right c = subst (λ r. IfOk c.check_body.result (λ a. AreRight r (declarations_of c.check_body.new.base) c.check_body.new.base.table c.check_body.new.memo)) c.in_ok-sort.ensures.right.rechecked c.check_body.ensures.right
+returns-in-SortType-clause-right c = subst
+    (λ r. IfOk c.check_body.result (λ a. AreRight r (declarations_of c.check_body.new.base) c.check_body.new.base.table c.check_body.new.memo))
+    c.in_ok-sort.ensures.right.rechecked c.check_body.ensures.right
 
 pub check_body-requires-clause-ty : goal.check_body-requires-clause-ty
-check_body-requires-clause-ty c = omega (arith, c.infer_noted.ensures.grows.keeps.longer, (decl-known c.args.base.now c.args.i c.get-decl.result.now c.requires.held c.get-decl.ensures).ty)
+check_body-requires-clause-ty c = omega
+    (arith, c.infer_noted.ensures.grows.keeps.longer, (decl-known c.args.base.now c.args.i c.get-decl.result.now c.requires.held c.get-decl.ensures).ty)
 
 pub check_body-requires-clause-body : goal.check_body-requires-clause-body
-check_body-requires-clause-body c = body-known c.infer_noted.ensures.grows.keeps c.get-decl.result.now (decl-known c.args.base.now c.args.i c.get-decl.result.now c.requires.held c.get-decl.ensures)
+check_body-requires-clause-body c = body-known c.infer_noted.ensures.grows.keeps c.get-decl.result.now
+    (decl-known c.args.base.now c.args.i c.get-decl.result.now c.requires.held c.get-decl.ensures)
 
 pub returns-in-SortType-clause-answered : goal.returns-in-SortType-clause-answered
 returns-in-SortType-clause-answered c =
     IfOk-map c.check_body.result
     (λ a h.
     plan-checked c.args.memo.now.turns.rechecks c.args.base.now c.requires.is_module c.args.i c.get-decl.result.now c.get-decl.ensures _ _ a
-    (sorted-replied c.args.memo.now.turns.rechecks c.args.base.now c.infer_noted.new.base c.infer_noted.ensures.grows c.requires.held c.args.i c.get-decl.result.now c.get-decl.ensures c.in-Found.sort _ _ c.infer_noted.ensures.less (rw c.in-Found.is at c.in_ok-sort.ensures.answered)
+    (sorted-replied c.args.memo.now.turns.rechecks c.args.base.now c.infer_noted.new.base c.infer_noted.ensures.grows c.requires.held c.args.i
+    c.get-decl.result.now c.get-decl.ensures c.in-Found.sort _ _ c.infer_noted.ensures.less (rw c.in-Found.is at c.in_ok-sort.ensures.answered)
     (rw c.in-SortType.is at c.view.ensures.is) _ a c.check_body.ensures.less _ c.in_ok-sort.ensures.right.rechecked h))
     c.check_body.ensures.answered
 
@@ -45,7 +51,8 @@ returns-in-SortType-clause-sound c =
     IfOk-map c.check_body.result
     (λ a h e.
     plan-typed c.args.memo.now.turns.rechecks c.args.base.now c.requires.is_module c.args.i c.get-decl.result.now c.get-decl.ensures _ _ a
-    (sorted-replied c.args.memo.now.turns.rechecks c.args.base.now c.infer_noted.new.base c.infer_noted.ensures.grows c.requires.held c.args.i c.get-decl.result.now c.get-decl.ensures c.in-Found.sort _ _ c.infer_noted.ensures.less (rw c.in-Found.is at c.in_ok-sort.ensures.answered)
+    (sorted-replied c.args.memo.now.turns.rechecks c.args.base.now c.infer_noted.new.base c.infer_noted.ensures.grows c.requires.held c.args.i
+    c.get-decl.result.now c.get-decl.ensures c.in-Found.sort _ _ c.infer_noted.ensures.less (rw c.in-Found.is at c.in_ok-sort.ensures.answered)
     (rw c.in-SortType.is at c.view.ensures.is) _ a c.check_body.ensures.less _ c.in_ok-sort.ensures.right.rechecked h) e)
     c.check_body.ensures.answered
 
@@ -55,7 +62,8 @@ returns-in_default c = record {
   less = c.infer_noted.ensures.less;
   answered =
       plan-checked c.args.memo.now.turns.rechecks c.args.base.now c.requires.is_module c.args.i c.get-decl.result.now c.get-decl.ensures _ _ answer.No
-      (unsorted-replied c.args.memo.now.turns.rechecks c.args.base.now c.infer_noted.new.base c.infer_noted.ensures.grows c.requires.held c.args.i c.get-decl.result.now c.get-decl.ensures c.in-Found.sort _ _ c.infer_noted.ensures.less (rw c.in-Found.is at c.in_ok-sort.ensures.answered)
+      (unsorted-replied c.args.memo.now.turns.rechecks c.args.base.now c.infer_noted.new.base c.infer_noted.ensures.grows c.requires.held c.args.i
+      c.get-decl.result.now c.get-decl.ensures c.in-Found.sort _ _ c.infer_noted.ensures.less (rw c.in-Found.is at c.in_ok-sort.ensures.answered)
       c.view.result c.view.ensures.is c.in_default.not-SortType);
   sound = λ e. absurd (cc);
   right = c.in_ok-sort.ensures.right;
@@ -64,9 +72,12 @@ returns-in_default c = record {
 pub returns-in-No-clause-answered : goal.returns-in-No-clause-answered
 returns-in-No-clause-answered c =
     plan-checked c.args.memo.now.turns.rechecks c.args.base.now c.requires.is_module c.args.i c.get-decl.result.now c.get-decl.ensures _ _ answer.No
-    (no-replied c.args.memo.now.turns.rechecks _ c.infer_noted.new.base.table _ (tree_at c.args.base.now.table c.get-decl.result.now.ty.0) _ _ _ (rw c.in-No.is at c.in_ok-sort.ensures.answered))
+    (no-replied c.args.memo.now.turns.rechecks _ c.infer_noted.new.base.table _ (tree_at c.args.base.now.table c.get-decl.result.now.ty.0) _ _ _
+    (rw c.in-No.is at c.in_ok-sort.ensures.answered))
 
 pub returns-in-Over-clause-answered : goal.returns-in-Over-clause-answered
 returns-in-Over-clause-answered c =
-    plan-checked c.args.memo.now.turns.rechecks c.args.base.now c.requires.is_module c.args.i c.get-decl.result.now c.get-decl.ensures _ c.infer_noted.new.budget.left answer.Over
-    (over-replied c.args.memo.now.turns.rechecks _ c.infer_noted.new.base.table _ (tree_at c.args.base.now.table c.get-decl.result.now.ty.0) _ _ c.infer_noted.new.budget.left (rw c.in-Over.is at c.in_ok-sort.ensures.answered))
+    plan-checked c.args.memo.now.turns.rechecks c.args.base.now c.requires.is_module c.args.i c.get-decl.result.now c.get-decl.ensures _
+    c.infer_noted.new.budget.left answer.Over
+    (over-replied c.args.memo.now.turns.rechecks _ c.infer_noted.new.base.table _ (tree_at c.args.base.now.table c.get-decl.result.now.ty.0) _ _
+    c.infer_noted.new.budget.left (rw c.in-Over.is at c.in_ok-sort.ensures.answered))

@@ -6,7 +6,8 @@ use Rattle.lp_kernel.proofs.lifts.lifted.Goals as goal
 
 pub returns-clause-lifts : goal.returns-clause-lifts
 returns-clause-lifts c =
-    AreLifts-only c.raised.new.base.table c.args.lifts.now c.keep.new.self (record { id = c.args.entry; by = c.args.by; found = c.in_ok-made.made }) c.in_ok-keep.ensures.only
+    AreLifts-only c.raised.new.base.table c.args.lifts.now c.keep.new.self (record { id = c.args.entry; by = c.args.by; found = c.in_ok-made.made })
+    c.in_ok-keep.ensures.only
     (record {
       known = omega (arith, c.requires.entry, c.raised.ensures.grows.keeps.longer);
       lifted_known = c.in_ok-made.ensures.known;

@@ -5,7 +5,8 @@ use Rattle.lp_conv.specs.GrowthLaws.{IsHeld-Grows}
 use Rattle.lp_kernel.proofs.tells.tell_function.Goals as goal
 
 pub returns-in-Pi-clause-turned : goal.returns-in-Pi-clause-turned
-returns-in-Pi-clause-turned c = told-product c.args.turns.now.rechecks _ _ _ _ c.args.app c.args.found c.in-Pi.a c.in-Pi.b _ _ c.in-Pi.ensures.is c.requires.application c.in_ok-push.ensures.pushed (omega arith)
+returns-in-Pi-clause-turned c = told-product c.args.turns.now.rechecks _ _ _ _ c.args.app c.args.found c.in-Pi.a c.in-Pi.b _ _ c.in-Pi.ensures.is
+    c.requires.application c.in_ok-push.ensures.pushed (omega arith)
 
 pub returns-in_ok-push-in-Found : goal.returns-in_ok-push-in-Found
 returns-in_ok-push-in-Found c =
@@ -14,10 +15,12 @@ returns-in_ok-push-in-Found c =
     let known = rw c.in-Found.is at c.in_ok-product.ensures.known in
     record {
       grows = c.reach_noted.ensures.grows;
-      known = known-pushed _ c.args.state.now _ _ (known-state keeps _ c.requires.known) (known, known-application keeps c.args.app c.requires.application) c.in_ok-push-in-Found.ensures.pushed;
+      known = known-pushed _ c.args.state.now _ _ (known-state keeps _ c.requires.known) (known, known-application keeps c.args.app c.requires.application)
+          c.in_ok-push-in-Found.ensures.pushed;
       next = known;
       less = c.reach_noted.ensures.less;
-      turned = told-reached c.args.turns.now.rechecks _ _ _ _ _ c.args.app c.args.found c.view.result c.if-not-turns.false c.in-Found.product _ _ keeps.stays c.requires.found c.view.ensures.is c.in_default.not-Pi answered c.in_ok-push-in-Found.ensures.pushed;
+      turned = told-reached c.args.turns.now.rechecks _ _ _ _ _ c.args.app c.args.found c.view.result c.if-not-turns.false c.in-Found.product _ _ keeps.stays
+          c.requires.found c.view.ensures.is c.in_default.not-Pi answered c.in_ok-push-in-Found.ensures.pushed;
       fewer = omega (arith, c.reach_noted.ensures.less, ap length c.in_ok-push-in-Found.ensures.pushed);
       products = c.in_ok-product.ensures.products;
       rechecks = refl;
@@ -33,7 +36,8 @@ returns-in-No c =
       known = known-state keeps _ c.requires.known;
       next = tt;
       less = c.reach_noted.ensures.less;
-      turned = told-unreached c.args.turns.now.rechecks _ _ _ _ _ c.args.app c.args.found c.view.result _ keeps.stays c.requires.found c.view.ensures.is c.in_default.not-Pi (rw c.in-No.is at c.in_ok-product.ensures.answered);
+      turned = told-unreached c.args.turns.now.rechecks _ _ _ _ _ c.args.app c.args.found c.view.result _ keeps.stays c.requires.found c.view.ensures.is
+          c.in_default.not-Pi (rw c.in-No.is at c.in_ok-product.ensures.answered);
       fewer = omega (arith, c.reach_noted.ensures.less);
       products = c.in_ok-product.ensures.products;
       rechecks = refl;
@@ -49,7 +53,8 @@ returns-in-Over c =
       known = known-state keeps _ c.requires.known;
       next = tt;
       less = c.reach_noted.ensures.less;
-      turned = told-over c.args.turns.now.rechecks _ _ _ c.args.state.now.context c.args.state.now.frames c.args.app c.args.found c.view.result _ keeps.stays c.requires.found c.view.ensures.is c.in_default.not-Pi (rw c.in-Over.is at c.in_ok-product.ensures.answered);
+      turned = told-over c.args.turns.now.rechecks _ _ _ c.args.state.now.context c.args.state.now.frames c.args.app c.args.found c.view.result _ keeps.stays
+          c.requires.found c.view.ensures.is c.in_default.not-Pi (rw c.in-Over.is at c.in_ok-product.ensures.answered);
       fewer = omega (arith, c.reach_noted.ensures.less);
       products = c.in_ok-product.ensures.products;
       rechecks = refl;
@@ -76,10 +81,13 @@ returns-then-not-turns c = record {
   turned =
       IfOk-map c.to_argument.result
       (λ n h.
-      told-unchecked c.args.turns.now.rechecks c.if-not-turns.true c.reach_noted.new.base c.args.base.now.table c.args.state.now c.to_argument.new.state c.args.app c.args.found c.in-Found.product c.view.result _ _ n c.reach_noted.ensures.grows.keeps.stays c.requires.found c.view.ensures.is
-      c.in_default.not-Pi (rw c.in-Found.is at c.in_ok-product.ensures.answered) c.reach_noted.ensures.less (h c.args.turns.now.rechecks c.reach_noted.new.budget.left))
+      told-unchecked c.args.turns.now.rechecks c.if-not-turns.true c.reach_noted.new.base c.args.base.now.table c.args.state.now c.to_argument.new.state
+      c.args.app c.args.found c.in-Found.product c.view.result _ _ n c.reach_noted.ensures.grows.keeps.stays c.requires.found c.view.ensures.is
+      c.in_default.not-Pi (rw c.in-Found.is at c.in_ok-product.ensures.answered) c.reach_noted.ensures.less
+      (h c.args.turns.now.rechecks c.reach_noted.new.budget.left))
       c.to_argument.ensures.turned;
-  fewer = IfOk-map c.to_argument.result (λ n h. let f = h c.reach_noted.new.budget.left in omega (arith, f, c.reach_noted.ensures.less)) c.to_argument.ensures.fewer;
+  fewer = IfOk-map c.to_argument.result (λ n h. let f = h c.reach_noted.new.budget.left in omega (arith, f, c.reach_noted.ensures.less))
+      c.to_argument.ensures.fewer;
   products = IfOk-map c.to_argument.result (λ n h. c.in_ok-product.ensures.products) c.to_argument.ensures.fewer;
   rechecks = refl;
   contexts = refl;

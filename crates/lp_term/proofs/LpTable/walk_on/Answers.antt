@@ -5,7 +5,8 @@ use Rattle.lp_term.proofs.LpTable.walk_on.Goals as goal
 pub loop-task-init : goal.loop-task-init
 loop-task-init c = (
   Keeps-refl _,
-  rw (c.in_ok-push.ensures.pushed, c.new.ensures.empty, c.new-2.ensures.empty) (walk_begins _ _ c.args.root _ c.requires.root c.requires.given c.new-3.ensures.empty),
+  rw (c.in_ok-push.ensures.pushed, c.new.ensures.empty, c.new-2.ensures.empty)
+      (walk_begins _ _ c.args.root _ c.requires.root c.requires.given c.new-3.ensures.empty),
 )
 
 pub returns-clause-made : goal.returns-clause-made

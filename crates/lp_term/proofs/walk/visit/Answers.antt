@@ -6,7 +6,8 @@ use Rattle.lp_term.proofs.walk.visit.Goals as goal
 pub returns-in-Some-clause-walk : goal.returns-in-Some-clause-walk
 returns-in-Some-clause-walk c =
     rw (c.give.ensures.tasks, c.give.ensures.memo)
-    (on_ok_weaker c.give.result (λ m. rw m (visit_given (Keeps-refl _) _ _ _ _ _ c.in-Some.id (already_wanted _ _ _ _ _ _ c.in-Some.ensures))) c.give.ensures.made)
+    (on_ok_weaker c.give.result (λ m. rw m (visit_given (Keeps-refl _) _ _ _ _ _ c.in-Some.id (already_wanted _ _ _ _ _ _ c.in-Some.ensures)))
+    c.give.ensures.made)
 
 pub returns-in-Some-clause-less : goal.returns-in-Some-clause-less
 returns-in-Some-clause-less c =

@@ -8,7 +8,10 @@ pub returns-in_ok-id-in-Renamed-clause-walk : goal.returns-in_ok-id-in-Renamed-c
 returns-in_ok-id-in-Renamed-clause-walk c =
     let r = subst (IsReplaced c.args.args.now c.args.place c.args.n) c.in-Renamed.is c.in_ok-n.ensures in
     rw (c.give.ensures.tasks, c.give.ensures.memo)
-    (on_ok_weaker c.give.result (λ m. rw m (visit_given c.node.ensures.keeps _ _ _ _ _ c.in_ok-id-in-Renamed.id (renamed_wanted c.node.ensures.keeps _ _ _ _ _ c.args.n c.in-Renamed.n _ c.requires.variable r c.in_ok-id-in-Renamed.ensures.made))) c.give.ensures.made)
+    (on_ok_weaker c.give.result
+    (λ m. rw m (visit_given c.node.ensures.keeps _ _ _ _ _ c.in_ok-id-in-Renamed.id
+    (renamed_wanted c.node.ensures.keeps _ _ _ _ _ c.args.n c.in-Renamed.n _ c.requires.variable r c.in_ok-id-in-Renamed.ensures.made)))
+    c.give.ensures.made)
 
 pub returns-in_ok-id-in-Renamed-clause-less : goal.returns-in_ok-id-in-Renamed-clause-less
 returns-in_ok-id-in-Renamed-clause-less c =
@@ -23,4 +26,5 @@ returns-in_ok-push-in-Argument-clause-walk c =
 pub returns-in_ok-push-in-Argument-clause-less : goal.returns-in_ok-push-in-Argument-clause-less
 returns-in_ok-push-in-Argument-clause-less c =
     let r = subst (IsReplaced c.args.args.now c.args.place c.args.n) c.in-Argument.is c.in_ok-n.ensures in
-    rw c.in_ok-push-in-Argument.ensures.pushed (argument_less _ _ _ _ c.args.walk.now.made c.args.walk.now.memo c.args.n c.in-Argument.id c.requires.small c.requires.variable r)
+    rw c.in_ok-push-in-Argument.ensures.pushed
+    (argument_less _ _ _ _ c.args.walk.now.made c.args.walk.now.memo c.args.n c.in-Argument.id c.requires.small c.requires.variable r)

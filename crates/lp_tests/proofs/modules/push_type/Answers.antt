@@ -19,8 +19,10 @@ declared : (ts : List Tree) (bytes name : List ℕ) (ty : LpId) → Holds ts ty.
 declared ts bytes name ty held e = let t : tree_at ts ty.0 ≡ types = Holds-tree_at ts ty.0 types held in cc
 
 -- the declaration that is pushed
-the_symbol : (c : goal.After-push-arg-1) → declaration_in c.node.new.self (record { name = c.new-name.result; form = Symbol; ty = c.in_ok-ty.ty; body = None }) ≡ symbol c.args.name.now types
-the_symbol c = declared c.node.new.self c.new-name.result c.args.name.now c.in_ok-ty.ty c.in_ok-ty.ensures.made (c.new-name.ensures ∙ c.in_ok-from_slice.ensures.items)
+the_symbol : (c : goal.After-push-arg-1) → declaration_in c.node.new.self (record { name = c.new-name.result; form = Symbol; ty = c.in_ok-ty.ty; body = None })
+    ≡ symbol c.args.name.now types
+the_symbol c = declared c.node.new.self c.new-name.result c.args.name.now c.in_ok-ty.ty c.in_ok-ty.ensures.made
+    (c.new-name.ensures ∙ c.in_ok-from_slice.ensures.items)
 
 grown : (c : goal.After-push-arg-1) → declarations_of (record { table = c.node.new.self; decls = c.args.into.now.decls }) ≡ declarations_of c.args.into.now
 grown c = declarations_of-Keeps c.args.into.now c.node.new.self c.node.ensures.keeps c.requires.held
@@ -35,11 +37,15 @@ pub push-requires-clause-follows : goal.push-requires-clause-follows
 push-requires-clause-follows c =
     subst (MayFollow (signature ++ declarations_of (record { table = c.node.new.self; decls = c.args.into.now.decls }))) (sym (the_symbol c))
     (subst (λ ds. MayFollow (signature ++ ds) (symbol c.args.name.now types)) (sym (grown c))
-    (follows (signature ++ declarations_of c.args.into.now) c.args.name.now (omega (arith, length-append signature (declarations_of c.args.into.now))) c.requires.new_name))
+    (follows (signature ++ declarations_of c.args.into.now) c.args.name.now (omega (arith, length-append signature (declarations_of c.args.into.now)))
+    c.requires.new_name))
 
 pub returns-clause-ok : goal.returns-clause-ok
 returns-clause-ok c =
     let ds = declarations_of c.args.into.now in
-    let same = declared c.node.new.self c.new-name.result c.args.name.now c.in_ok-ty.ty c.in_ok-ty.ensures.made (c.new-name.ensures ∙ c.in_ok-from_slice.ensures.items) in
+    let same = declared c.node.new.self c.new-name.result c.args.name.now c.in_ok-ty.ty c.in_ok-ty.ensures.made
+    (c.new-name.ensures ∙ c.in_ok-from_slice.ensures.items) in
     let old = declarations_of-Keeps c.args.into.now c.node.new.self c.node.ensures.keeps c.requires.held in
-    on_ok_weaker c.push.result (λ e. e ∙ ap (λ l. l ++ declaration_in c.node.new.self (record { name = c.new-name.result; form = Symbol; ty = c.in_ok-ty.ty; body = None }) ∷ []) old ∙ ap (λ d. ds ++ d ∷ []) same) c.push.ensures.declared
+    on_ok_weaker c.push.result (λ e. e
+    ∙ ap (λ l. l ++ declaration_in c.node.new.self (record { name = c.new-name.result; form = Symbol; ty = c.in_ok-ty.ty; body = None }) ∷ []) old
+    ∙ ap (λ d. ds ++ d ∷ []) same) c.push.ensures.declared

@@ -15,8 +15,10 @@ loop-preserved c =
     let k = c.node-in-loop.ensures.keeps in
     let l = c.node-in-loop-2.ensures.keeps in
     let t = tree_at old c.loop.id.0 in
-    let half : tree_at one c.in_ok-half.half.0 ≡ App (Sym 3) t = Holds-tree_at one c.in_ok-half.half.0 _ c.in_ok-half.ensures.made ∙ ap (λ a. App a t) (Holds-tree_at old c.in_ok-arr.arr.0 (Sym 3) i.arr) in
-    let made : Holds two c.in_ok-id.id.0 (App (App (Sym 3) t) t) = subst (Holds two c.in_ok-id.id.0) (ap₂ App half (sym (tree_at-Stays k.stays c.loop.id.0 i.known))) c.in_ok-id.ensures.made in
+    let half : tree_at one c.in_ok-half.half.0 ≡ App (Sym 3) t =
+    Holds-tree_at one c.in_ok-half.half.0 _ c.in_ok-half.ensures.made ∙ ap (λ a. App a t) (Holds-tree_at old c.in_ok-arr.arr.0 (Sym 3) i.arr) in
+    let made : Holds two c.in_ok-id.id.0 (App (App (Sym 3) t) t) =
+    subst (Holds two c.in_ok-id.id.0) (ap₂ App half (sym (tree_at-Stays k.stays c.loop.id.0 i.known))) c.in_ok-id.ensures.made in
     record {
       keeps = Keeps-trans i.keeps (Keeps-trans k l);
       arr = l.stays.each c.in_ok-arr.arr.0 (Sym 3) (k.stays.each c.in_ok-arr.arr.0 (Sym 3) i.arr);

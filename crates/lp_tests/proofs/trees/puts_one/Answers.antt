@@ -8,5 +8,6 @@ put-requires-clause-arg g c = (tree_at c.node-9.new.table c.in_ok-four.four.0, t
 
 pub put-requires-clause-body : goal.put-requires-clause-body
 put-requires-clause-body g c =
-    let known : c.in_ok-abstraction.abstraction.0 < length c.node-9.new.table = omega (arith, c.in_ok-abstraction.ensures.known, c.node-8.ensures.longer, c.node-9.ensures.longer) in
+    let known : c.in_ok-abstraction.abstraction.0 < length c.node-9.new.table =
+    omega (arith, c.in_ok-abstraction.ensures.known, c.node-8.ensures.longer, c.node-9.ensures.longer) in
     (tree_at c.node-9.new.table c.in_ok-abstraction.abstraction.0, tree_at-Holds _ _ known)

@@ -5,8 +5,18 @@ use Rattle.lp_tests.proofs.trees.puts_two.Goals as goal
 
 pub put_all-requires-clause-args : goal.put_all-requires-clause-args
 put_all-requires-clause-args g c =
-    let first : c.in_ok-first.first.0 < length c.node-9.new.table = omega (arith, c.in_ok-first.ensures.known, c.node-5.ensures.longer, c.node-6.ensures.longer, c.node-7.ensures.longer, c.node-8.ensures.longer, c.node-9.ensures.longer) in
-    let last : c.in_ok-last.last.0 < length c.node-9.new.table = omega (arith, c.in_ok-last.ensures.known, c.node-6.ensures.longer, c.node-7.ensures.longer, c.node-8.ensures.longer, c.node-9.ensures.longer) in (
+    let first : c.in_ok-first.first.0 < length c.node-9.new.table =
+    omega (
+      arith,
+      c.in_ok-first.ensures.known,
+      c.node-5.ensures.longer,
+      c.node-6.ensures.longer,
+      c.node-7.ensures.longer,
+      c.node-8.ensures.longer,
+      c.node-9.ensures.longer,
+    ) in
+    let last : c.in_ok-last.last.0 < length c.node-9.new.table =
+    omega (arith, c.in_ok-last.ensures.known, c.node-6.ensures.longer, c.node-7.ensures.longer, c.node-8.ensures.longer, c.node-9.ensures.longer) in (
       tree_at c.node-9.new.table c.in_ok-first.first.0 ∷ tree_at c.node-9.new.table c.in_ok-last.last.0 ∷ [],
       (tree_at-Holds _ _ first, (tree_at-Holds _ _ last, tt)),
     )

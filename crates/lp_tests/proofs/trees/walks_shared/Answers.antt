@@ -5,5 +5,6 @@ use Rattle.lp_tests.proofs.trees.walks_shared.Goals as goal
 
 pub lifted_by-requires : goal.lifted_by-requires
 lifted_by-requires g c =
-    let known : c.in_ok-tree.tree.0 < length c.doubled-3.new.table = omega (arith, c.in_ok-tree.ensures.known, c.doubled-2.ensures.longer, c.doubled-3.ensures.longer) in
+    let known : c.in_ok-tree.tree.0 < length c.doubled-3.new.table =
+    omega (arith, c.in_ok-tree.ensures.known, c.doubled-2.ensures.longer, c.doubled-3.ensures.longer) in
     (tree_at c.doubled-3.new.table c.in_ok-tree.tree.0, tree_at-Holds _ _ known)

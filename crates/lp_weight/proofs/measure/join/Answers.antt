@@ -11,4 +11,5 @@ returns-clause-walk c =
     (on_ok_weaker c.give.result (λ m. rw m (join_walk c.args.place _ _ _ _ _ _ _ _ c.two-first.ensures sum c.in_ok-note.ensures.noted)) c.give.ensures.amounts)
 
 pub returns-clause-noted : goal.returns-clause-noted
-returns-clause-noted c = rw c.give.ensures.memo (on_ok_weaker c.give.result (λ m. (c.saturating_add-amount.result, c.in_ok-note.ensures.new)) c.give.ensures.amounts)
+returns-clause-noted c = rw c.give.ensures.memo
+    (on_ok_weaker c.give.result (λ m. (c.saturating_add-amount.result, c.in_ok-note.ensures.new)) c.give.ensures.amounts)

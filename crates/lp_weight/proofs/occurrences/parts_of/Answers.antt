@@ -5,4 +5,8 @@ use Rattle.lp_weight.proofs.occurrences.parts_of.Goals as goal
 
 pub returns-then-is_closed_under : goal.returns-then-is_closed_under
 returns-then-is_closed_under c =
-    omega (arith, occurrences-closed c.args.place.depth (tree_at c.args.base.now.table c.args.place.id.0) (c.if-is_closed_under.ensures.closed (omega (arith, c.requires.counted))))
+    omega (
+      arith,
+      occurrences-closed c.args.place.depth (tree_at c.args.base.now.table c.args.place.id.0)
+          (c.if-is_closed_under.ensures.closed (omega (arith, c.requires.counted))),
+    )

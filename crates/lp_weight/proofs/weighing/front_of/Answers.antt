@@ -9,5 +9,6 @@ returns-then-symbol-len c = symbol-front c.args.base.now c.args.symbol c.symbol_
 
 pub returns-else-symbol-len : goal.returns-else-symbol-len
 returns-else-symbol-len c =
-    let beyond = symbol_declaration-beyond c.args.base.now.table c.args.base.now.decls c.args.symbol (omega (arith, c.len.ensures.count, c.if-symbol-len.false)) in
+    let beyond = symbol_declaration-beyond c.args.base.now.table c.args.base.now.decls c.args.symbol (omega (arith, c.len.ensures.count, c.if-symbol-len.false))
+    in
     no_symbol-front c.args.base.now c.args.symbol (ap (option_map (λ d. d.ty)) beyond)

@@ -5,12 +5,14 @@ use Rattle.name_table.proofs.spelling.packed.Goals as goal
 
 -- what is known where one more byte is read
 known : (c : goal.After-row_known-1) → (255 * c.loop-left.number + 256 ≤ 2 ^ 120) × (get_or c.loop-left.left.now (length c.loop-left.left.now - 1) 0 < 256)
-known c = let i = c.loop-left.invariant in room c.args.name.now c.loop-left.left.now i.0 c.loop-left.number (get_or-AreBytes c.args.name.now (λ i. omega (arith, c.type_inv.name i))) i.1 i.2 c.requires.short c.in-len1-up.len_at_least
+known c = let i = c.loop-left.invariant in room c.args.name.now c.loop-left.left.now i.0 c.loop-left.number
+    (get_or-AreBytes c.args.name.now (λ i. omega (arith, c.type_inv.name i))) i.1 i.2 c.requires.short c.in-len1-up.len_at_least
 
 pub overflow_mul-number : goal.overflow_mul-number
 overflow_mul-number c =
     let i = c.loop-left.invariant in
-    let k = room c.args.name.now c.loop-left.left.now i.0 c.loop-left.number (get_or-AreBytes c.args.name.now (λ j. omega (arith, c.type_inv.name j))) i.1 i.2 c.requires.short c.in-len1-up.len_at_least in
+    let k = room c.args.name.now c.loop-left.left.now i.0 c.loop-left.number (get_or-AreBytes c.args.name.now (λ j. omega (arith, c.type_inv.name j))) i.1 i.2
+    c.requires.short c.in-len1-up.len_at_least in
     omega (arith, k.0)
 
 pub overflow_add-number : goal.overflow_add-number
@@ -36,4 +38,5 @@ pub returns-clause-number : goal.returns-clause-number
 returns-clause-number c = whole c
 
 pub returns-clause-gives_back : goal.returns-clause-gives_back
-returns-clause-gives_back c = ap unpacked (whole c) ∙ digits-packed 15 c.args.name.now c.requires.short (get_or-AreBytes c.args.name.now (λ i. omega (arith, c.type_inv.name i)))
+returns-clause-gives_back c = ap unpacked (whole c) ∙ digits-packed 15 c.args.name.now c.requires.short
+    (get_or-AreBytes c.args.name.now (λ i. omega (arith, c.type_inv.name i)))

@@ -10,4 +10,5 @@ loop-left-preserved c =
     (r.0, r.1 ∙ ap (λ l. l ++ r.0) (sym c.in_ok-push.ensures.items), r.2, r.3)
 
 pub returns : goal.returns
-returns c = let i = c.loop-left.invariant in no_digits_left (unpacked c.args.number) c.loop-left.bytes.items i.0 i.1 (let m = i.2 in omega (arith, m, c.loop-left-test.false))
+returns c = let i = c.loop-left.invariant in no_digits_left (unpacked c.args.number) c.loop-left.bytes.items i.0 i.1
+    (let m = i.2 in omega (arith, m, c.loop-left-test.false))

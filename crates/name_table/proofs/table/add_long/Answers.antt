@@ -10,4 +10,6 @@ returns-clause-placed c = λ x.
     let long = get_long c.args.longs.now in
     get_long-updated c.args.longs.now c.insert.new.self c.in_ok-key.key (Some c.len-number.result) c.in_ok-insert.ensures.updates x
     ∙ ap (λ bytes. if bytes_eq bytes x then Some c.len-number.result else long x) c.in_ok-key.ensures.items
-    ∙ ap (λ n. if bytes_eq c.args.name.now x then Some n else long x) (let e : c.len-number.result ≡ length c.args.names.now.items = omega (arith, c.len-number.ensures, c.reserve.new.self.ok, ap length c.reserve.ensures.items) in e)
+    ∙ ap (λ n. if bytes_eq c.args.name.now x then Some n else long x)
+    (let e : c.len-number.result ≡ length c.args.names.now.items =
+    omega (arith, c.len-number.ensures, c.reserve.new.self.ok, ap length c.reserve.ensures.items) in e)

@@ -23,6 +23,8 @@ returns-in-None-clause-names c = added_names _ _ _ _ (sym c.requires.found ∙ s
 
 pub returns-in-None-clause-placed : goal.returns-in-None-clause-placed
 returns-in-None-clause-placed c = λ short a.
-    added_places _ _ _ (λ names. ArePlaced short (get_long c.add_long.new.longs) names) _ c.add_long.ensures.names c.add_long.ensures.placed c.add_long.ensures.unchanged
-    (λ u. ArePlaced-long short c.args.longs.now c.add_long.new.longs c.args.names.now.items c.args.name.now c.requires.long a (sym c.get.ensures.value ∙ ap option_copied c.in-None.is) u)
+    added_places _ _ _ (λ names. ArePlaced short (get_long c.add_long.new.longs) names) _ c.add_long.ensures.names c.add_long.ensures.placed
+    c.add_long.ensures.unchanged
+    (λ u. ArePlaced-long short c.args.longs.now c.add_long.new.longs c.args.names.now.items c.args.name.now c.requires.long a
+    (sym c.get.ensures.value ∙ ap option_copied c.in-None.is) u)
     (λ e. ArePlaced-same short _ (get_long c.args.longs.now) _ _ (λ k. refl) (λ x. ap (lookup (is_at (λ k. slice_cmp nat_cmp x k.items))) e) a)

@@ -22,6 +22,8 @@ returns-in-None-clause-names c = added_names _ _ _ _ (sym c.requires.found ∙ s
 
 pub returns-in-None-clause-placed : goal.returns-in-None-clause-placed
 returns-in-None-clause-placed c = λ long a.
-    added_places _ _ _ (λ names. ArePlaced (get nat_cmp c.add_short.new.shorts) long names) _ c.add_short.ensures.names c.add_short.ensures.placed c.add_short.ensures.unchanged
-    (λ u. ArePlaced-short c.args.shorts.now c.add_short.new.shorts long c.args.names.now.items c.args.key c.requires.short a (sym c.get.ensures.value ∙ ap option_copied c.in-None.is) u)
+    added_places _ _ _ (λ names. ArePlaced (get nat_cmp c.add_short.new.shorts) long names) _ c.add_short.ensures.names c.add_short.ensures.placed
+    c.add_short.ensures.unchanged
+    (λ u. ArePlaced-short c.args.shorts.now c.add_short.new.shorts long c.args.names.now.items c.args.key c.requires.short a
+    (sym c.get.ensures.value ∙ ap option_copied c.in-None.is) u)
     (λ e. ArePlaced-same (get nat_cmp c.args.shorts.now) _ long _ _ (λ k. ap (lookup (is_at (nat_cmp k))) e) (λ x. refl) a)

@@ -6,7 +6,8 @@ use Rattle.sequent.proofs.Sequent.params.Goals as goal
 pub loop-id-preserved : goal.loop-id-preserved
 loop-id-preserved c =
     visit_goes_on _ _ _ _ _ _
-    (subst (λ l. IsVisit c.args.table.now c.args.self.now.hyps l c.loop-id.params) (drop_more c.ids-id-items.result.now c.loop-id.id-index _ c.loop-id-test.true) c.loop-id.invariant)
+    (subst (λ l. IsVisit c.args.table.now c.args.self.now.hyps l c.loop-id.params)
+    (drop_more c.ids-id-items.result.now c.loop-id.id-index _ c.loop-id-test.true) c.loop-id.invariant)
     c.in_ok-visit.ensures.type_vars c.in_ok-visit.ensures.free_vars c.in_ok-visit.ensures.known
 
 pub returns-clause-type_vars : goal.returns-clause-type_vars

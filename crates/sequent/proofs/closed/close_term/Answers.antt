@@ -11,7 +11,9 @@ loop-next-preserved c =
     let trees = c.args.table.now in
     let names = c.args.params.now.type_vars in
     let variables = variables_of trees c.args.params.now.free_vars in
-    c.in_ok-visit.ensures.walk _ (subst (λ tasks. IsWalk trees names variables (close_term names variables (term_at trees c.args.id.0)) tasks c.loop-next.nodes.items) c.in-Some.ensures.popped c.loop-next.invariant)
+    c.in_ok-visit.ensures.walk _
+    (subst (λ tasks. IsWalk trees names variables (close_term names variables (term_at trees c.args.id.0)) tasks c.loop-next.nodes.items)
+    c.in-Some.ensures.popped c.loop-next.invariant)
 
 pub returns : goal.returns
 returns c =
@@ -19,4 +21,5 @@ returns c =
     let names = c.args.params.now.type_vars in
     let variables = variables_of trees c.args.params.now.free_vars in
     let root = close_term names variables (term_at trees c.args.id.0) in
-    walk_ends trees names variables root c.loop-next.nodes.items (subst (λ tasks. IsWalk trees names variables root tasks c.loop-next.nodes.items) c.in_default.ensures.popped c.loop-next.invariant)
+    walk_ends trees names variables root c.loop-next.nodes.items
+    (subst (λ tasks. IsWalk trees names variables root tasks c.loop-next.nodes.items) c.in_default.ensures.popped c.loop-next.invariant)

@@ -6,4 +6,5 @@ use Rattle.sequent.specs.Closed.{closed_term_view}
 use Rattle.sequent.proofs.closed.close_terms.Given as goal
 
 abbrev pub invariant-loop-id : goal.invariant-loop-id
-invariant-loop-id l = map closed_term_view l.closed.items ≡ map (close_term l.params.type_vars (variables_of l.table l.params.free_vars)) (terms_at l.table (take l.id-index l.ids))
+invariant-loop-id l = map closed_term_view l.closed.items ≡ map (close_term l.params.type_vars (variables_of l.table l.params.free_vars))
+    (terms_at l.table (take l.id-index l.ids))

@@ -7,7 +7,9 @@ use Rattle.sequent.proofs.closed.close_variables.Goals as goal
 
 pub close_type-requires : goal.close_type-requires
 close_type-requires c =
-    rw c.types.ensures.types (has_type_at c.args.table.now c.variables-variable-items.result.now c.loop-variable.variable-index c.variable-item.result c.variable-item.is c.loop-variable-test.true (rw c.variables-variable-items.ensures c.requires))
+    rw c.types.ensures.types
+    (has_type_at c.args.table.now c.variables-variable-items.result.now c.loop-variable.variable-index c.variable-item.result c.variable-item.is
+    c.loop-variable-test.true (rw c.variables-variable-items.ensures c.requires))
 
 pub loop-variable-preserved : goal.loop-variable-preserved
 loop-variable-preserved c =

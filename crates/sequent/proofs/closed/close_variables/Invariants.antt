@@ -6,4 +6,5 @@ use Rattle.sequent.specs.Closed.{closed_type_view}
 use Rattle.sequent.proofs.closed.close_variables.Given as goal
 
 abbrev pub invariant-loop-variable : goal.invariant-loop-variable
-invariant-loop-variable l = map closed_type_view l.closed.items ≡ map (λ (v : Variable). close_type l.params.type_vars v.1) (variables_of l.table (take l.variable-index l.variable-items))
+invariant-loop-variable l = map closed_type_view l.closed.items ≡ map (λ (v : Variable). close_type l.params.type_vars v.1)
+    (variables_of l.table (take l.variable-index l.variable-items))

@@ -7,7 +7,8 @@ use Rattle.share.proofs.DeclaringLaws.{declared-next, declares-next, follows-nex
 use Rattle.share.proofs.declaring.declare.Goals as goal
 
 pub declare_one-requires-clause-listed : goal.declare_one-requires-clause-listed
-declare_one-requires-clause-listed c = AreListed-at _ _ _ c.args.entries.now c.loop-i.i _ c.requires.listed (at-index c.args.entries.now c.loop-i.i _ c.loop-i-test.true)
+declare_one-requires-clause-listed c = AreListed-at _ _ _ c.args.entries.now c.loop-i.i _ c.requires.listed
+    (at-index c.args.entries.now c.loop-i.i _ c.loop-i-test.true)
 
 pub declare_one-requires-clause-follows : goal.declare_one-requires-clause-follows
 declare_one-requires-clause-follows c =
@@ -17,7 +18,8 @@ declare_one-requires-clause-follows c =
     let at = at-index c.args.entries.now c.loop-i.i (listed.Kept 0) c.loop-i-test.true in (
       f.0,
       subst (λ t. AreMade f.0 source.table t c.args.made.now) (sym i.table) f.1,
-      follows-next (declarations_of source) source.table f.0 c.loop-i.number c.loop-i.i c.args.entries.now _ at (declarations_of c.loop-i.target) (i.follow f.0 f.1 f.2),
+      follows-next (declarations_of source) source.table f.0 c.loop-i.number c.loop-i.i c.args.entries.now _ at (declarations_of c.loop-i.target)
+          (i.follow f.0 f.1 f.2),
     )
 
 pub loop-i-preserved : goal.loop-i-preserved
@@ -34,9 +36,13 @@ loop-i-preserved c =
       held = one.held;
       near = (let x = i.near in let y = next.ensures.near in omega (arith, x, y));
       follow = λ place a d.
-          declared-next m source.table place c.loop-i.number c.loop-i.i entries _ at (declarations_of c.loop-i.target) (declarations_of c.declare_one.new.target) next.result (one.declared place (subst (λ t. AreMade place source.table t c.args.made.now) (sym i.table) a))
+          declared-next m source.table place c.loop-i.number c.loop-i.i entries _ at (declarations_of c.loop-i.target)
+          (declarations_of c.declare_one.new.target) next.result
+          (one.declared place (subst (λ t. AreMade place source.table t c.args.made.now) (sym i.table) a))
           (next.ensures.is m source.table) (i.follow place a d);
       declared = λ place a.
-          declares-next m source.table place c.loop-i.number c.loop-i.i entries _ at (declarations_of c.loop-i.target) (declarations_of c.declare_one.new.target) _ next.result (one.declared place (subst (λ t. AreMade place source.table t c.args.made.now) (sym i.table) a))
+          declares-next m source.table place c.loop-i.number c.loop-i.i entries _ at (declarations_of c.loop-i.target)
+          (declarations_of c.declare_one.new.target) _ next.result
+          (one.declared place (subst (λ t. AreMade place source.table t c.args.made.now) (sym i.table) a))
           (next.ensures.is m source.table) (i.declared place a);
     }

@@ -12,8 +12,11 @@ invariant-loop-i l = record {
   table : l.target.table ≡ l.fn.target.table;
   held : IsHeld l.target;
   near : l.number ≤ l.i;
-  follow : (place : ℕ → ℕ) → AreMade place l.source.table l.fn.target.table l.made → AreDeclared (signature ++ declarations_of l.fn.target) (declarations place 0 (entries_in (declarations_of l.source) l.source.table l.entries))
-      → AreDeclared (signature ++ declarations_of l.target) (declarations place l.number (entries_in (declarations_of l.source) l.source.table (drop l.i l.entries)));
+  follow : (place : ℕ → ℕ) → AreMade place l.source.table l.fn.target.table l.made
+      → AreDeclared (signature ++ declarations_of l.fn.target) (declarations place 0 (entries_in (declarations_of l.source) l.source.table l.entries))
+      → AreDeclared (signature ++ declarations_of l.target)
+      (declarations place l.number (entries_in (declarations_of l.source) l.source.table (drop l.i l.entries)));
   declared : (place : ℕ → ℕ) → AreMade place l.source.table l.fn.target.table l.made
-      → declarations_of l.target ++ declarations place l.number (entries_in (declarations_of l.source) l.source.table (drop l.i l.entries)) ≡ declarations_of l.fn.target ++ declarations place 0 (entries_in (declarations_of l.source) l.source.table l.entries);
+      → declarations_of l.target ++ declarations place l.number (entries_in (declarations_of l.source) l.source.table (drop l.i l.entries))
+      ≡ declarations_of l.fn.target ++ declarations place 0 (entries_in (declarations_of l.source) l.source.table l.entries);
 }

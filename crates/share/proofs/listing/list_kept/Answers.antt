@@ -9,7 +9,8 @@ loop-i-preserved c =
     let i = c.loop-i.invariant in
     record {
       listed = λ m ts l. kept-next m ts c.loop-i.i c.loop-i.entries.items c.push.new.self.items c.in_ok-push.ensures.items l (i.listed m ts (omega (arith, l)));
-      known = λ n b t l. kept-known n b t c.loop-i.i c.loop-i.entries.items c.push.new.self.items c.in_ok-push.ensures.items l (i.known n b t (omega (arith, l)));
+      known = λ n b t l. kept-known n b t c.loop-i.i c.loop-i.entries.items c.push.new.self.items c.in_ok-push.ensures.items l
+          (i.known n b t (omega (arith, l)));
     }
 
 pub returns-clause-listed : goal.returns-clause-listed

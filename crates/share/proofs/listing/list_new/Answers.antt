@@ -5,7 +5,8 @@ use Rattle.share.proofs.ListingLaws.{at-index, lists-last, lists-next, AreIdsBel
 use Rattle.share.proofs.listing.list_new.Goals as goal
 
 pub list_shared-requires-clause-known : goal.list_shared-requires-clause-known
-list_shared-requires-clause-known c = AreIdsBelow-at _ c.args.order.now c.loop-i.i _ c.requires.known (at-index c.args.order.now c.loop-i.i _ c.loop-i-test.true)
+list_shared-requires-clause-known c = AreIdsBelow-at _ c.args.order.now c.loop-i.i _ c.requires.known
+    (at-index c.args.order.now c.loop-i.i _ c.loop-i-test.true)
 
 pub loop-i-preserved : goal.loop-i-preserved
 loop-i-preserved c =
@@ -18,10 +19,13 @@ loop-i-preserved c =
       keeps = Keeps-trans i.keeps one.keeps;
       listing = one.listing;
       more = λ all a.
-          lists-next first c.loop-i.source c.list_shared.new.source c.args.listing.now.entries.items c.loop-i.listing.entries.items c.list_shared.new.listing.entries.items c.args.counts.now c.args.order.now c.loop-i.i c.args.from _ all i.decls i.keeps c.requires.listing.asking.held
+          lists-next first c.loop-i.source c.list_shared.new.source c.args.listing.now.entries.items c.loop-i.listing.entries.items
+          c.list_shared.new.listing.entries.items c.args.counts.now c.args.order.now c.loop-i.i c.args.from _ all i.decls i.keeps
+          c.requires.listing.asking.held
           c.requires.listing.within at (AreIdsBelow-at _ c.args.order.now c.loop-i.i _ c.requires.known at) a (one.more all) (i.more all a);
     }
 
 pub returns-clause-more : goal.returns-clause-more
 returns-clause-more c = λ all a.
-    lists-last (declarations_of c.args.source.now) c.args.source.now.table c.loop-i.source.table c.args.listing.now.entries.items c.loop-i.listing.entries.items c.args.order.now c.loop-i.i c.args.from all (omega (arith, c.loop-i-test.false)) (c.loop-i.invariant.more all a)
+    lists-last (declarations_of c.args.source.now) c.args.source.now.table c.loop-i.source.table c.args.listing.now.entries.items c.loop-i.listing.entries.items
+    c.args.order.now c.loop-i.i c.args.from all (omega (arith, c.loop-i-test.false)) (c.loop-i.invariant.more all a)

@@ -12,5 +12,8 @@ invariant-loop-i l = record {
   keeps : Keeps l.fn.source.table l.source.table;
   listing : IsListing l.source (length l.counts) l.listing;
   more : (all : List Tree) → Agrees l.fn.source.table l.counts (counted all)
-      → entries_in (declarations_of l.fn.source) l.source.table l.listing.entries.items ++ shared_in (declarations_of l.fn.source) all (trees_at l.fn.source.table (drop l.i l.order)) ≡ entries_in (declarations_of l.fn.source) l.fn.source.table l.fn.listing.entries.items ++ shared_in (declarations_of l.fn.source) all (trees_at l.fn.source.table (drop l.from l.order));
+      → entries_in (declarations_of l.fn.source) l.source.table l.listing.entries.items
+      ++ shared_in (declarations_of l.fn.source) all (trees_at l.fn.source.table (drop l.i l.order))
+      ≡ entries_in (declarations_of l.fn.source) l.fn.source.table l.fn.listing.entries.items
+      ++ shared_in (declarations_of l.fn.source) all (trees_at l.fn.source.table (drop l.from l.order));
 }

@@ -15,10 +15,13 @@ loop-i-preserved c =
       meeting = one.meeting;
       length = one.length;
       ended = one.ended;
-      listed = listed-next first c.loop-i.source c.list_declaration.new.source c.args.listing.now.entries.items c.loop-i.listing.entries.items c.list_declaration.new.listing.entries.items c.args.counts.now c.loop-i.meeting.order.items c.list_declaration.new.meeting.order.items c.args.first c.loop-i.i i.decls i.keeps c.requires.listing.asking.held
+      listed = listed-next first c.loop-i.source c.list_declaration.new.source c.args.listing.now.entries.items c.loop-i.listing.entries.items
+          c.list_declaration.new.listing.entries.items c.args.counts.now c.loop-i.meeting.order.items c.list_declaration.new.meeting.order.items c.args.first
+          c.loop-i.i i.decls i.keeps c.requires.listing.asking.held
           c.requires.listing.within (omega (arith, c.loop-i-test.true, c.len-i-end.ensures.count)) one.more one.met i.listed;
     }
 
 pub returns-clause-listed : goal.returns-clause-listed
 returns-clause-listed c =
-    listed-last c.args.source.now c.loop-i.source c.args.listing.now.entries.items c.loop-i.listing.entries.items c.args.counts.now c.loop-i.meeting.order.items c.args.first c.loop-i.i (omega (arith, c.loop-i-test.false, c.len-i-end.ensures.count)) c.loop-i.invariant.listed
+    listed-last c.args.source.now c.loop-i.source c.args.listing.now.entries.items c.loop-i.listing.entries.items c.args.counts.now c.loop-i.meeting.order.items
+    c.args.first c.loop-i.i (omega (arith, c.loop-i-test.false, c.len-i-end.ensures.count)) c.loop-i.invariant.listed

@@ -2,7 +2,8 @@ use Rattle.std.proofs.Common.{refl, ◌∙◌}
 use Rattle.share.proofs.order.visit.Goals as goal
 
 pub loop-turn-init : goal.loop-turn-init
-loop-turn-init c = rw (c.in_ok-push.ensures.pushed, c.requires.begun) record { order = refl; meeting = c.requires.meeting; below = (c.requires.known, tt); length = refl }
+loop-turn-init c = rw (c.in_ok-push.ensures.pushed, c.requires.begun) record
+    { order = refl; meeting = c.requires.meeting; below = (c.requires.known, tt); length = refl }
 
 pub take-requires-clause-meeting : goal.take-requires-clause-meeting
 take-requires-clause-meeting c = c.loop-turn.invariant.meeting

@@ -6,7 +6,8 @@ pub loop-left-init : goal.loop-left-init
 loop-left-init c = pass_begins c.args.table.now c.args.counts.now
 
 pub loop-left-preserved : goal.loop-left-preserved
-loop-left-preserved c = pass_step _ _ c.loop-left.left (c.loop-left.left - 1) _ _ _ (omega (arith, c.loop-left-test.true)) c.hand_parts.ensures.length c.hand_parts.ensures.lower c.hand_parts.ensures.handed c.loop-left.invariant
+loop-left-preserved c = pass_step _ _ c.loop-left.left (c.loop-left.left - 1) _ _ _ (omega (arith, c.loop-left-test.true)) c.hand_parts.ensures.length
+    c.hand_parts.ensures.lower c.hand_parts.ensures.handed c.loop-left.invariant
 
 pub returns-clause-lower : goal.returns-clause-lower
 returns-clause-lower c = λ i l. c.loop-left.invariant.lower i (omega (arith, c.loop-left-test.false)) l

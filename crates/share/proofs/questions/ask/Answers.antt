@@ -38,7 +38,8 @@ returns-clause-keeps c = c.loop-step.invariant.keeps
 pub returns-in-Some-clause-told : goal.returns-in-Some-clause-told
 returns-in-Some-clause-told c =
     let i = c.loop-step.invariant in
-    asked-known c.args.source.now c.loop-step.source _ c.loop-step.waiting c.args.question c.in-Some.told i.decls i.keeps c.requires.asking.held i.asking c.requires.question.0 (sym c.in-Some.is ∙ c.copied.ensures ∙ c.get.ensures.value)
+    asked-known c.args.source.now c.loop-step.source _ c.loop-step.waiting c.args.question c.in-Some.told i.decls i.keeps c.requires.asking.held i.asking
+    c.requires.question.0 (sym c.in-Some.is ∙ c.copied.ensures ∙ c.get.ensures.value)
 
 pub step-requires-clause-question : goal.step-requires-clause-question
 step-requires-clause-question c =

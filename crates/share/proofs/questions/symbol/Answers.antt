@@ -6,5 +6,9 @@ use Rattle.share_spec.specs.Abbreviations.{provided, is_solid}
 use Rattle.share.proofs.questions.symbol.Goals as goal
 
 pub returns-then-symbol-len : goal.returns-then-symbol-len
-returns-then-symbol-len c =
-    (tt, ap (λ o. option_and_then (λ t. provided (is_solid t) t) (option_map (λ (d : Declaration). d.ty) o)) (sym (symbol_declaration-beyond c.args.source.now.table c.args.source.now.decls c.args.symbol (omega (arith, c.if-symbol-len.true, c.len.ensures.count)))))
+returns-then-symbol-len c = (
+  tt,
+  ap (λ o. option_and_then (λ t. provided (is_solid t) t) (option_map (λ (d : Declaration). d.ty) o))
+      (sym (symbol_declaration-beyond c.args.source.now.table c.args.source.now.decls c.args.symbol
+      (omega (arith, c.if-symbol-len.true, c.len.ensures.count)))),
+)

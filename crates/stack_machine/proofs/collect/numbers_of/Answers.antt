@@ -8,8 +8,18 @@ loop-flag-init c = record { before = omega arith; numbered = rw c.in_ok-numbers.
 
 pub loop-flag-preserved : goal.loop-flag-preserved
 loop-flag-preserved c = elim c.if-flag.branch [
-  | then-flag w ↦ record { before = omega arith; numbered = numbered_more c.args.flags.now _ _ _ c.loop-flag.flag-index c.loop-flag.next c.if-flag.next c.loop-flag-test.true (rw w.if-flag.true (sym w.next-is)) c.in_ok-push.ensures.items c.loop-flag.invariant.numbered }
-  | else-flag w ↦ record { before = omega arith; numbered = numbered_more c.args.flags.now _ _ _ c.loop-flag.flag-index c.loop-flag.next c.if-flag.next c.loop-flag-test.true (rw w.if-flag.false (sym w.next-is)) c.in_ok-push.ensures.items c.loop-flag.invariant.numbered }
+  | then-flag w ↦ record {
+    before = omega arith;
+    numbered =
+        numbered_more c.args.flags.now _ _ _ c.loop-flag.flag-index c.loop-flag.next c.if-flag.next c.loop-flag-test.true (rw w.if-flag.true (sym w.next-is))
+        c.in_ok-push.ensures.items c.loop-flag.invariant.numbered;
+  }
+  | else-flag w ↦ record {
+    before = omega arith;
+    numbered =
+        numbered_more c.args.flags.now _ _ _ c.loop-flag.flag-index c.loop-flag.next c.if-flag.next c.loop-flag-test.true (rw w.if-flag.false (sym w.next-is))
+        c.in_ok-push.ensures.items c.loop-flag.invariant.numbered;
+  }
 ]
 
 pub returns : goal.returns

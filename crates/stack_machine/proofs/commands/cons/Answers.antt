@@ -8,7 +8,8 @@ pub returns-in_err-tail : goal.returns-in_err-tail
 returns-in_err-tail c = stopped _ _ c.from_residual.ensures.1 c.requires (λ s. first_fails _ _ _ (c.in_err-tail.ensures c.args.store.now).refused)
 
 pub returns-in_err-head : goal.returns-in_err-head
-returns-in_err-head c = stopped _ _ c.from_residual-in_err-head.ensures.1 c.requires (λ s. next_fails _ _ _ _ (c.in_ok-tail.ensures c.args.store.now).taken (first_fails _ _ _ (c.in_err-head.ensures c.args.store.now).refused))
+returns-in_err-head c = stopped _ _ c.from_residual-in_err-head.ensures.1 c.requires
+    (λ s. next_fails _ _ _ _ (c.in_ok-tail.ensures c.args.store.now).taken (first_fails _ _ _ (c.in_err-head.ensures c.args.store.now).refused))
 
 pub cons-requires-clause-head : goal.cons-requires-clause-head
 cons-requires-clause-head c = (c.in_ok-head.ensures c.args.store.now).known c.requires
@@ -23,5 +24,6 @@ pub put-requires-clause-there : goal.put-requires-clause-there
 put-requires-clause-there c = (c.in_ok-head.ensures c.args.store.now).there
 
 pub returns : goal.returns
-returns c = placed 2 (object.List c.in_ok-list.list ∷ []) (state.Object.list (state.Objects.more _ _) ∷ []) _ c.requires c.cons.ensures.grows c.put.ensures (c.in_ok-list.ensures.known, tt) (ap (λ x. state.Object.list x ∷ []) c.in_ok-list.ensures.made) c.cons.ensures.run
+returns c = placed 2 (object.List c.in_ok-list.list ∷ []) (state.Object.list (state.Objects.more _ _) ∷ []) _ c.requires c.cons.ensures.grows c.put.ensures
+    (c.in_ok-list.ensures.known, tt) (ap (λ x. state.Object.list x ∷ []) c.in_ok-list.ensures.made) c.cons.ensures.run
     (λ s. next _ _ _ _ (c.in_ok-tail.ensures c.args.store.now).taken (next _ _ _ _ (c.in_ok-head.ensures c.args.store.now).taken (refl)))

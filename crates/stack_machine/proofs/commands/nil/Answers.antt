@@ -10,4 +10,5 @@ pub returns-in_err-push : goal.returns-in_err-push
 returns-in_err-push c = rw c.in_err-push.ensures.unchanged (stopped _ _ c.from_residual.ensures.1 c.requires (λ s. tt))
 
 pub returns : goal.returns
-returns c = placed 0 (object.List Empty ∷ []) (state.Object.list state.Objects.none ∷ []) _ c.requires (Grows-refl _) c.in_ok-push.ensures.pushed (tt, tt) refl refl (λ s. refl)
+returns c = placed 0 (object.List Empty ∷ []) (state.Object.list state.Objects.none ∷ []) _ c.requires (Grows-refl _) c.in_ok-push.ensures.pushed (tt, tt) refl
+    refl (λ s. refl)

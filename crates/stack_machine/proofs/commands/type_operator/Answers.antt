@@ -12,5 +12,6 @@ pub put-requires-clause-there : goal.put-requires-clause-there
 put-requires-clause-there c = (c.in_ok-name.ensures c.args.store.now).there
 
 pub returns : goal.returns
-returns c = placed 1 (object.TypeOperator c.in_ok-name.name ∷ []) (state.Object.type_operator _ ∷ []) _ c.requires (Grows-refl _) c.put.ensures ((c.in_ok-name.ensures c.args.store.now).known c.requires, tt) refl refl
+returns c = placed 1 (object.TypeOperator c.in_ok-name.name ∷ []) (state.Object.type_operator _ ∷ []) _ c.requires (Grows-refl _) c.put.ensures
+    ((c.in_ok-name.ensures c.args.store.now).known c.requires, tt) refl refl
     (λ s. next _ _ _ _ (c.in_ok-name.ensures c.args.store.now).taken (refl))

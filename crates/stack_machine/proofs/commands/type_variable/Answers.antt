@@ -11,11 +11,13 @@ pub type_variable-requires : goal.type_variable-requires
 type_variable-requires c = (c.in_ok-name.ensures c.args.store.now).known c.requires
 
 pub returns-in_err-ty : goal.returns-in_err-ty
-returns-in_err-ty c = failed _ _ c.from_residual-in_err-ty.ensures.1 c.requires c.type_variable.ensures.grows c.type_variable.ensures.run (λ s. memory_fails _ _ c.in_err-ty.ensures.refused)
+returns-in_err-ty c = failed _ _ c.from_residual-in_err-ty.ensures.1 c.requires c.type_variable.ensures.grows c.type_variable.ensures.run
+    (λ s. memory_fails _ _ c.in_err-ty.ensures.refused)
 
 pub put-requires-clause-there : goal.put-requires-clause-there
 put-requires-clause-there c = (c.in_ok-name.ensures c.args.store.now).there
 
 pub returns : goal.returns
-returns c = placed 1 (object.Type c.in_ok-ty.ty ∷ []) (state.Object.type _ ∷ []) _ c.requires c.type_variable.ensures.grows c.put.ensures (c.in_ok-ty.ensures.known, tt) (ap (λ x. state.Object.type x ∷ []) c.in_ok-ty.ensures.made) c.type_variable.ensures.run
+returns c = placed 1 (object.Type c.in_ok-ty.ty ∷ []) (state.Object.type _ ∷ []) _ c.requires c.type_variable.ensures.grows c.put.ensures
+    (c.in_ok-ty.ensures.known, tt) (ap (λ x. state.Object.type x ∷ []) c.in_ok-ty.ensures.made) c.type_variable.ensures.run
     (λ s. next _ _ _ _ (c.in_ok-name.ensures c.args.store.now).taken (refl))

@@ -9,4 +9,5 @@ pub types_in-requires : goal.types_in-requires
 types_in-requires c = (c.in_ok-list.ensures c.args.store.now).known c.requires
 
 pub returns : goal.returns
-returns c = elements-read as_type c.args.store.now _ _ _ _ c.in_ok-list.list _ (c.in_ok-list.ensures c.args.store.now) c.types_in.ensures.types c.types_in.ensures.known c.types_in.ensures.refused
+returns c = elements-read as_type c.args.store.now _ _ _ _ c.in_ok-list.list _ (c.in_ok-list.ensures c.args.store.now) c.types_in.ensures.types
+    c.types_in.ensures.known c.types_in.ensures.refused

@@ -14,11 +14,13 @@ pub free_variable-requires-clause-ty : goal.free_variable-requires-clause-ty
 free_variable-requires-clause-ty c = ((c.in_ok-name.ensures c.args.store.now).known c.requires).1
 
 pub returns-in_err-term : goal.returns-in_err-term
-returns-in_err-term c = failed _ _ c.from_residual-in_err-term.ensures.1 c.requires c.free_variable.ensures.grows c.free_variable.ensures.run (λ s. next_fails _ _ _ _ (c.in_ok-name.ensures c.args.store.now).taken (condition_fails _ _ _ c.in_err-term.ensures.refused))
+returns-in_err-term c = failed _ _ c.from_residual-in_err-term.ensures.1 c.requires c.free_variable.ensures.grows c.free_variable.ensures.run
+    (λ s. next_fails _ _ _ _ (c.in_ok-name.ensures c.args.store.now).taken (condition_fails _ _ _ c.in_err-term.ensures.refused))
 
 pub put-requires-clause-there : goal.put-requires-clause-there
 put-requires-clause-there c = (c.in_ok-name.ensures c.args.store.now).there
 
 pub returns : goal.returns
-returns c = placed 1 (object.Term c.in_ok-term.term ∷ []) (state.Object.term _ ∷ []) _ c.requires c.free_variable.ensures.grows c.put.ensures (c.in_ok-term.ensures.known, tt) (ap (λ x. state.Object.term x ∷ []) c.in_ok-term.ensures.made) c.free_variable.ensures.run
+returns c = placed 1 (object.Term c.in_ok-term.term ∷ []) (state.Object.term _ ∷ []) _ c.requires c.free_variable.ensures.grows c.put.ensures
+    (c.in_ok-term.ensures.known, tt) (ap (λ x. state.Object.term x ∷ []) c.in_ok-term.ensures.made) c.free_variable.ensures.run
     (λ s. next _ _ _ _ (c.in_ok-name.ensures c.args.store.now).taken (met _ _ _ c.in_ok-term.ensures.fits refl))

@@ -12,23 +12,29 @@ use Rattle.stack_machine.proofs.DefiningRules.{obey-DefineTypeOp}
 use Rattle.stack_machine.proofs.definitions.define_type_op.Goals as goal
 
 pub returns-in_err-one : goal.returns-in_err-one
-returns-in_err-one c = Obeys-In c.args.version _ (stopped _ _ c.from_residual.ensures.1 c.requires (λ s. first_fails _ _ _ (c.in_err-one.ensures c.args.store.now).refused))
+returns-in_err-one c = Obeys-In c.args.version _
+    (stopped _ _ c.from_residual.ensures.1 c.requires (λ s. first_fails _ _ _ (c.in_err-one.ensures c.args.store.now).refused))
 
 pub returns-in_err-names : goal.returns-in_err-names
-returns-in_err-names c = Obeys-In c.args.version _ (stopped _ _ c.from_residual-in_err-names.ensures.1 c.requires (λ s. next_fails _ _ _ _ (c.in_ok-one.ensures c.args.store.now).taken (first_fails _ _ _ c.in_err-names.ensures.refused)))
+returns-in_err-names c = Obeys-In c.args.version _
+    (stopped _ _ c.from_residual-in_err-names.ensures.1 c.requires
+    (λ s. next_fails _ _ _ _ (c.in_ok-one.ensures c.args.store.now).taken (first_fails _ _ _ c.in_err-names.ensures.refused)))
 
 pub returns-in_err-rep : goal.returns-in_err-rep
 returns-in_err-rep c = Obeys-In c.args.version _ (stopped _ _ c.from_residual-in_err-rep.ensures.1 c.requires
-    (λ s. next_fails _ _ _ _ (c.in_ok-one.ensures c.args.store.now).taken (next_fails _ _ _ _ c.in_ok-names.ensures.taken (first_fails _ _ _ (c.in_err-rep.ensures c.args.store.now).refused))))
+    (λ s. next_fails _ _ _ _ (c.in_ok-one.ensures c.args.store.now).taken
+    (next_fails _ _ _ _ c.in_ok-names.ensures.taken (first_fails _ _ _ (c.in_err-rep.ensures c.args.store.now).refused))))
 
 pub returns-in_err-abs : goal.returns-in_err-abs
 returns-in_err-abs c = Obeys-In c.args.version _ (stopped _ _ c.from_residual-in_err-abs.ensures.1 c.requires
-    (λ s. next_fails _ _ _ _ (c.in_ok-one.ensures c.args.store.now).taken (next_fails _ _ _ _ c.in_ok-names.ensures.taken (next_fails _ _ _ _ (c.in_ok-rep.ensures c.args.store.now).taken
+    (λ s. next_fails _ _ _ _ (c.in_ok-one.ensures c.args.store.now).taken
+    (next_fails _ _ _ _ c.in_ok-names.ensures.taken (next_fails _ _ _ _ (c.in_ok-rep.ensures c.args.store.now).taken
     (first_fails _ _ _ (c.in_err-abs.ensures c.args.store.now).refused)))))
 
 pub returns-in_err-op : goal.returns-in_err-op
 returns-in_err-op c = Obeys-In c.args.version _ (stopped _ _ c.from_residual-in_err-op.ensures.1 c.requires
-    (λ s. next_fails _ _ _ _ (c.in_ok-one.ensures c.args.store.now).taken (next_fails _ _ _ _ c.in_ok-names.ensures.taken (next_fails _ _ _ _ (c.in_ok-rep.ensures c.args.store.now).taken
+    (λ s. next_fails _ _ _ _ (c.in_ok-one.ensures c.args.store.now).taken
+    (next_fails _ _ _ _ c.in_ok-names.ensures.taken (next_fails _ _ _ _ (c.in_ok-rep.ensures c.args.store.now).taken
     (next_fails _ _ _ _ (c.in_ok-abs.ensures c.args.store.now).taken (first_fails _ _ _ (c.in_err-op.ensures c.args.store.now).refused))))))
 
 pub define_type_op-requires-clause-op : goal.define_type_op-requires-clause-op
@@ -49,8 +55,13 @@ put_five-requires c = (c.in_ok-op.ensures c.args.store.now).there
 pub returns-in_err-first : goal.returns-in_err-first
 returns-in_err-first c =
     let m = c.args.store.now in
-    defining_type-fails {f = defining_type (type_laws c.args.version m.run.made (named (name_at m c.in_ok-op.op.0) (name_at m c.in_ok-abs.abs.0) (name_at m c.in_ok-rep.rep.0) c.in_ok-names.names.items) c.in_ok-one.one)} 5 (state.Object.constant (name_at m c.in_ok-rep.rep.0) ∷ state.Object.constant (name_at m c.in_ok-abs.abs.0) ∷ state.Object.type_operator (name_at m c.in_ok-op.op.0) ∷ [])
-    (λ s v. obey-DefineTypeOp (shown m c.args.stack.now s) _ _ _ _ _ _ _ _ _ _ (c.in_ok-one.ensures m).taken c.in_ok-names.ensures.taken (c.in_ok-rep.ensures m).taken (c.in_ok-abs.ensures m).taken (c.in_ok-op.ensures m).taken c.args.version v)
+    defining_type-fails {f =
+    defining_type (type_laws c.args.version m.run.made
+    (named (name_at m c.in_ok-op.op.0) (name_at m c.in_ok-abs.abs.0) (name_at m c.in_ok-rep.rep.0) c.in_ok-names.names.items) c.in_ok-one.one)} 5
+    (state.Object.constant (name_at m c.in_ok-rep.rep.0) ∷ state.Object.constant (name_at m c.in_ok-abs.abs.0) ∷ state.Object.type_operator
+    (name_at m c.in_ok-op.op.0) ∷ [])
+    (λ s v. obey-DefineTypeOp (shown m c.args.stack.now s) _ _ _ _ _ _ _ _ _ _ (c.in_ok-one.ensures m).taken c.in_ok-names.ensures.taken
+    (c.in_ok-rep.ensures m).taken (c.in_ok-abs.ensures m).taken (c.in_ok-op.ensures m).taken c.args.version v)
     c.requires _ _ c.from_residual-in_err-first.ensures.1 (rw c.deref.ensures.value at c.in_err-first.ensures)
 
 pub returns : goal.returns
@@ -60,7 +71,12 @@ returns c =
     let rep = name-Grows made.grows c.in_ok-rep.rep ((c.in_ok-rep.ensures m).known c.requires) in
     let abs = name-Grows made.grows c.in_ok-abs.abs ((c.in_ok-abs.ensures m).known c.requires) in
     let op = name-Grows made.grows c.in_ok-op.op ((c.in_ok-op.ensures m).known c.requires) in
-    defining_type-obeys {f = defining_type (type_laws c.args.version m.run.made (named (name_at m c.in_ok-op.op.0) (name_at m c.in_ok-abs.abs.0) (name_at m c.in_ok-rep.rep.0) c.in_ok-names.names.items) c.in_ok-one.one)} 5 (state.Object.constant (name_at m c.in_ok-rep.rep.0) ∷ state.Object.constant (name_at m c.in_ok-abs.abs.0) ∷ state.Object.type_operator (name_at m c.in_ok-op.op.0) ∷ [])
-    (λ s v. obey-DefineTypeOp (shown m c.args.stack.now s) _ _ _ _ _ _ _ _ _ _ (c.in_ok-one.ensures m).taken c.in_ok-names.ensures.taken (c.in_ok-rep.ensures m).taken (c.in_ok-abs.ensures m).taken (c.in_ok-op.ensures m).taken c.args.version v)
+    defining_type-obeys {f =
+    defining_type (type_laws c.args.version m.run.made
+    (named (name_at m c.in_ok-op.op.0) (name_at m c.in_ok-abs.abs.0) (name_at m c.in_ok-rep.rep.0) c.in_ok-names.names.items) c.in_ok-one.one)} 5
+    (state.Object.constant (name_at m c.in_ok-rep.rep.0) ∷ state.Object.constant (name_at m c.in_ok-abs.abs.0) ∷ state.Object.type_operator
+    (name_at m c.in_ok-op.op.0) ∷ [])
+    (λ s v. obey-DefineTypeOp (shown m c.args.stack.now s) _ _ _ _ _ _ _ _ _ _ (c.in_ok-one.ensures m).taken c.in_ok-names.ensures.taken
+    (c.in_ok-rep.ensures m).taken (c.in_ok-abs.ensures m).taken (c.in_ok-op.ensures m).taken c.args.version v)
     c.requires (object.Constant c.in_ok-rep.rep ∷ object.Constant c.in_ok-abs.abs ∷ object.TypeOperator c.in_ok-op.op ∷ []) made c.put_five.ensures
     (rep.0, (abs.0, (op.0, tt))) (rw (rep.1, abs.1, op.1) refl)

@@ -10,4 +10,5 @@ pub names_in-requires : goal.names_in-requires
 names_in-requires c = (c.in_ok-list.ensures c.args.store.now).known c.requires
 
 pub returns : goal.returns
-returns c = elements-read as_name c.args.store.now _ _ _ _ c.in_ok-list.list _ (c.in_ok-list.ensures c.args.store.now) c.names_in.ensures.names (IfOk-map c.names_in.result _ _ c.names_in.ensures.names (λ names h. tt)) c.names_in.ensures.refused
+returns c = elements-read as_name c.args.store.now _ _ _ _ c.in_ok-list.list _ (c.in_ok-list.ensures c.args.store.now) c.names_in.ensures.names
+    (IfOk-map c.names_in.result _ _ c.names_in.ensures.names (λ names h. tt)) c.names_in.ensures.refused

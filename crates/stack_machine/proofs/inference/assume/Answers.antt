@@ -19,5 +19,6 @@ pub invariant_of-store : goal.invariant_of-store
 invariant_of-store c = Concludes-IsStore c.assume-step.ensures c.store.invariant
 
 pub returns : goal.returns
-returns c = rule-obeys c.store.invariant c.store.view_is 1 (λ m. assume_step (term_at m.trees c.in_ok-term.term.0)) c.assume-step.ensures c.conclude.ensures c.requires
+returns c = rule-obeys c.store.invariant c.store.view_is 1 (λ m. assume_step (term_at m.trees c.in_ok-term.term.0)) c.assume-step.ensures c.conclude.ensures
+    c.requires
     (λ s. obey-Assume (shown c.args.store.now c.args.stack.now s) _ _ (c.in_ok-term.ensures c.args.store.now).taken)

@@ -9,7 +9,8 @@ pub returns-in_err-two : goal.returns-in_err-two
 returns-in_err-two c = stopped _ _ c.from_residual.ensures.1 c.requires (λ s. first_fails _ _ _ (c.in_err-two.ensures c.args.store.now).refused)
 
 pub returns-in_err-one : goal.returns-in_err-one
-returns-in_err-one c = stopped _ _ c.from_residual-in_err-one.ensures.1 c.requires (λ s. next_fails _ _ _ _ (c.in_ok-two.ensures c.args.store.now).taken (first_fails _ _ _ (c.in_err-one.ensures c.args.store.now).refused))
+returns-in_err-one c = stopped _ _ c.from_residual-in_err-one.ensures.1 c.requires
+    (λ s. next_fails _ _ _ _ (c.in_ok-two.ensures c.args.store.now).taken (first_fails _ _ _ (c.in_err-one.ensures c.args.store.now).refused))
 
 pub deduct_antisym-step-requires-clause-one : goal.deduct_antisym-step-requires-clause-one
 deduct_antisym-step-requires-clause-one c = step-there c.store.invariant c.store.view_is ((c.in_ok-one.ensures c.args.store.now).known c.requires)
@@ -24,5 +25,7 @@ pub invariant_of-store : goal.invariant_of-store
 invariant_of-store c = Concludes-IsStore c.deduct_antisym-step.ensures c.store.invariant
 
 pub returns : goal.returns
-returns c = rule-obeys c.store.invariant c.store.view_is 2 (λ m. deduct_antisym_step m.run.made c.in_ok-one.one c.in_ok-two.two) c.deduct_antisym-step.ensures c.conclude.ensures c.requires
-    (λ s. obey-DeductAntisym (shown c.args.store.now c.args.stack.now s) _ _ _ _ (c.in_ok-two.ensures c.args.store.now).taken (c.in_ok-one.ensures c.args.store.now).taken)
+returns c = rule-obeys c.store.invariant c.store.view_is 2 (λ m. deduct_antisym_step m.run.made c.in_ok-one.one c.in_ok-two.two) c.deduct_antisym-step.ensures
+    c.conclude.ensures c.requires
+    (λ s. obey-DeductAntisym (shown c.args.store.now c.args.stack.now s) _ _ _ _ (c.in_ok-two.ensures c.args.store.now).taken
+    (c.in_ok-one.ensures c.args.store.now).taken)

@@ -9,4 +9,5 @@ pub terms_in-requires : goal.terms_in-requires
 terms_in-requires c = (c.in_ok-list.ensures c.args.store.now).known c.requires
 
 pub returns : goal.returns
-returns c = elements-read as_term c.args.store.now _ _ _ _ c.in_ok-list.list _ (c.in_ok-list.ensures c.args.store.now) c.terms_in.ensures.terms c.terms_in.ensures.known c.terms_in.ensures.refused
+returns c = elements-read as_term c.args.store.now _ _ _ _ c.in_ok-list.list _ (c.in_ok-list.ensures c.args.store.now) c.terms_in.ensures.terms
+    c.terms_in.ensures.known c.terms_in.ensures.refused

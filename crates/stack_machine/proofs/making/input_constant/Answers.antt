@@ -24,7 +24,8 @@ returns-in_err-use_const-clause-refused c =
     let old = c.args.proof.now in
     let stays = tree_at-Stays c.constant.ensures.grows.trees.types.stays c.args.ty.0 c.requires.ty in
     handed_on _ _ _ c.from_residual-in_err-use_const.ensures.1
-    (constant_unused (symbols_of old.made) c.args.name.now (type_at old.trees c.args.ty.0) _ (rw (← stays, c.constant.ensures.grows.made) at c.in_err-use_const.ensures.refusal))
+    (constant_unused (symbols_of old.made) c.args.name.now (type_at old.trees c.args.ty.0) _
+    (rw (← stays, c.constant.ensures.grows.made) at c.in_err-use_const.ensures.refusal))
 
 pub returns-in_err-use_const-clause-unchanged : goal.returns-in_err-use_const-clause-unchanged
 returns-in_err-use_const-clause-unchanged c = always _ (c.in_err-use_const.ensures.unchanged ∙ c.constant.ensures.grows.made)

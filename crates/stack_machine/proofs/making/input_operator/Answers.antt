@@ -22,7 +22,8 @@ returns-in_err-use_op-clause-refused c =
     let old = c.args.proof.now in
     let count = types_count old.trees.types c.args.args.now in
     handed_on _ _ _ c.from_residual-in_err-use_op.ensures.1
-    (operator_unused (symbols_of old.made) c.args.name.now (types_at old.trees.types c.args.args.now) _ (rw (count, c.ty_op.ensures.grows.made) at c.in_err-use_op.ensures.refusal))
+    (operator_unused (symbols_of old.made) c.args.name.now (types_at old.trees.types c.args.args.now) _
+    (rw (count, c.ty_op.ensures.grows.made) at c.in_err-use_op.ensures.refusal))
 
 pub returns-in_err-use_op-clause-unchanged : goal.returns-in_err-use_op-clause-unchanged
 returns-in_err-use_op-clause-unchanged c = always _ (c.in_err-use_op.ensures.unchanged ∙ c.ty_op.ensures.grows.made)

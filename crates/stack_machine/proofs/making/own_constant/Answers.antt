@@ -14,7 +14,8 @@ constant-requires c = rw c.use_const.ensures.trees c.requires.ty
 pub returns-in_err-use_const-clause-refused : goal.returns-in_err-use_const-clause-refused
 returns-in_err-use_const-clause-refused c =
     let old = c.args.proof.now in
-    handed_on _ _ _ c.from_residual.ensures.1 (constant_unused (symbols_of old.made) c.args.name.now (type_at old.trees c.args.ty.0) _ c.in_err-use_const.ensures.refusal)
+    handed_on _ _ _ c.from_residual.ensures.1
+    (constant_unused (symbols_of old.made) c.args.name.now (type_at old.trees c.args.ty.0) _ c.in_err-use_const.ensures.refusal)
 
 pub returns-in_err-use_const-clause-unchanged : goal.returns-in_err-use_const-clause-unchanged
 returns-in_err-use_const-clause-unchanged c = always _ c.in_err-use_const.ensures.unchanged
@@ -26,11 +27,13 @@ pub returns-in_err-term-clause-refused : goal.returns-in_err-term-clause-refused
 returns-in_err-term-clause-refused c =
     let old = c.args.proof.now in
     handed_on _ _ _ c.from_residual-in_err-term.ensures.1
-    (constant_unmade (symbols_of old.made) c.args.name.now (type_at old.trees c.args.ty.0) _ c.in_ok-use_const.ensures.fits (rw c.use_const.ensures.trees at c.in_err-term.ensures.refusal))
+    (constant_unmade (symbols_of old.made) c.args.name.now (type_at old.trees c.args.ty.0) _ c.in_ok-use_const.ensures.fits
+    (rw c.use_const.ensures.trees at c.in_err-term.ensures.refusal))
 
 pub returns-in_err-term-clause-unchanged : goal.returns-in_err-term-clause-unchanged
 returns-in_err-term-clause-unchanged c =
-    always _ (c.constant.ensures.grows.made ∙ c.in_ok-use_const.ensures.takes ∙ none_taken c.args.proof.now.made _ (no_constant (symbols_of c.args.proof.now.made) c.args.name.now c.requires.own))
+    always _ (c.constant.ensures.grows.made ∙ c.in_ok-use_const.ensures.takes
+    ∙ none_taken c.args.proof.now.made _ (no_constant (symbols_of c.args.proof.now.made) c.args.name.now c.requires.own))
 
 pub returns-in_err-term-clause-keeps : goal.returns-in_err-term-clause-keeps
 returns-in_err-term-clause-keeps c = rw c.use_const.ensures.trees at c.constant.ensures.grows.trees
@@ -47,7 +50,8 @@ returns-clause-made c = rw c.use_const.ensures.trees at c.in_ok-term.ensures.mad
 pub returns-clause-fits : goal.returns-clause-fits
 returns-clause-fits c =
     let old = c.args.proof.now in
-    constant_within (symbols_of old.made) c.args.name.now (type_at old.trees c.args.ty.0) c.in_ok-use_const.ensures.fits (rw c.use_const.ensures.trees at c.in_ok-term.ensures.within)
+    constant_within (symbols_of old.made) c.args.name.now (type_at old.trees c.args.ty.0) c.in_ok-use_const.ensures.fits
+    (rw c.use_const.ensures.trees at c.in_ok-term.ensures.within)
 
 pub returns-clause-takes : goal.returns-clause-takes
 returns-clause-takes c = c.constant.ensures.grows.made ∙ c.in_ok-use_const.ensures.takes

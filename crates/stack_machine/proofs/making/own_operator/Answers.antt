@@ -16,7 +16,8 @@ pub returns-in_err-use_op-clause-refused : goal.returns-in_err-use_op-clause-ref
 returns-in_err-use_op-clause-refused c =
     let old = c.args.proof.now in
     let count = types_count old.trees.types c.args.args.now in
-    handed_on _ _ _ c.from_residual.ensures.1 (operator_unused (symbols_of old.made) c.args.name.now (types_at old.trees.types c.args.args.now) _ (rw count at c.in_err-use_op.ensures.refusal))
+    handed_on _ _ _ c.from_residual.ensures.1
+    (operator_unused (symbols_of old.made) c.args.name.now (types_at old.trees.types c.args.args.now) _ (rw count at c.in_err-use_op.ensures.refusal))
 
 pub returns-in_err-use_op-clause-unchanged : goal.returns-in_err-use_op-clause-unchanged
 returns-in_err-use_op-clause-unchanged c = always _ c.in_err-use_op.ensures.unchanged
@@ -30,11 +31,13 @@ returns-in_err-ty-clause-refused c =
     let count = types_count old.trees.types c.args.args.now in
     handed_on _ _ _ c.from_residual-in_err-ty.ensures.1
     (operator_unmade (symbols_of old.made) c.args.name.now (types_at old.trees.types c.args.args.now) _ (rw count at c.in_ok-use_op.ensures.fits)
-    (subst (λ ts. RefusesType c.in_err-ty.field-0.0 (operator c.args.name.now (types_of (types_at ts.types c.args.args.now)))) c.use_op.ensures.trees c.in_err-ty.ensures.refusal))
+    (subst (λ ts. RefusesType c.in_err-ty.field-0.0 (operator c.args.name.now (types_of (types_at ts.types c.args.args.now)))) c.use_op.ensures.trees
+    c.in_err-ty.ensures.refusal))
 
 pub returns-in_err-ty-clause-unchanged : goal.returns-in_err-ty-clause-unchanged
 returns-in_err-ty-clause-unchanged c =
-    always _ (c.ty_op.ensures.grows.made ∙ c.in_ok-use_op.ensures.takes ∙ none_taken c.args.proof.now.made _ (no_operator (symbols_of c.args.proof.now.made) c.args.name.now _ c.requires.own))
+    always _ (c.ty_op.ensures.grows.made ∙ c.in_ok-use_op.ensures.takes
+    ∙ none_taken c.args.proof.now.made _ (no_operator (symbols_of c.args.proof.now.made) c.args.name.now _ c.requires.own))
 
 pub returns-in_err-ty-clause-keeps : goal.returns-in_err-ty-clause-keeps
 returns-in_err-ty-clause-keeps c = rw c.use_op.ensures.trees at c.ty_op.ensures.grows.trees
@@ -49,7 +52,8 @@ pub returns-clause-fits : goal.returns-clause-fits
 returns-clause-fits c =
     let old = c.args.proof.now in
     let count = types_count old.trees.types c.args.args.now in
-    operator_within (symbols_of old.made) c.args.name.now (types_at old.trees.types c.args.args.now) (rw count at c.in_ok-use_op.ensures.fits) (rw c.use_op.ensures.trees at c.in_ok-ty.ensures.within)
+    operator_within (symbols_of old.made) c.args.name.now (types_at old.trees.types c.args.args.now) (rw count at c.in_ok-use_op.ensures.fits)
+    (rw c.use_op.ensures.trees at c.in_ok-ty.ensures.within)
 
 pub returns-clause-takes : goal.returns-clause-takes
 returns-clause-takes c =

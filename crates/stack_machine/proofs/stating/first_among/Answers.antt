@@ -6,4 +6,6 @@ returns c =
     let proof = c.args.proof.now in
     let sequent = c.args.sequent.now in
     let pool = c.args.pool.now in
-    found_among-first proof sequent pool c.requires.pool c.find_among.result c.args.count (c.find_among.ensures proof.trees (rw c.terms.ensures at c.view-head.ensures.distinct) (AreSaid-known proof sequent pool c.requires.pool) c.requires.sequent)
+    found_among-first proof sequent pool c.requires.pool c.find_among.result c.args.count
+    (c.find_among.ensures proof.trees (rw c.terms.ensures at c.view-head.ensures.distinct) (AreSaid-known proof sequent pool c.requires.pool)
+    c.requires.sequent)

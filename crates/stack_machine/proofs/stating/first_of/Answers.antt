@@ -6,4 +6,5 @@ returns c =
     let proof = c.args.proof.now in
     let sequent = c.args.sequent.now in
     let pool = c.args.pool.now in
-    found-first proof sequent pool c.requires.pool c.find.result (c.find.ensures proof.trees (rw c.terms.ensures at c.view-head.ensures.distinct) (AreSaid-known proof sequent pool c.requires.pool) c.requires.sequent)
+    found-first proof sequent pool c.requires.pool c.find.result
+    (c.find.ensures proof.trees (rw c.terms.ensures at c.view-head.ensures.distinct) (AreSaid-known proof sequent pool c.requires.pool) c.requires.sequent)

@@ -31,7 +31,8 @@ add_constants-requires-clause-told c =
       given,
       Represents-Grows c.add_type_variables.ensures.grows given trees c.args.ground.env.now c.requires.told.1,
       c.requires.told.2,
-      subst (AllByRecursion (λ (v : Variable). TellsType given.declarations given.symbols v.1)) (sym variables) (variables-told given.declarations given.symbols s c.requires.told.3),
+      subst (AllByRecursion (λ (v : Variable). TellsType given.declarations given.symbols v.1)) (sym variables)
+          (variables-told given.declarations given.symbols s c.requires.told.3),
     )
 
 pub add_self_proofs-requires-clause-hyps : goal.add_self_proofs-requires-clause-hyps
@@ -41,7 +42,9 @@ pub add_self_proofs-requires-clause-equations : goal.add_self_proofs-requires-cl
 add_self_proofs-requires-clause-equations c =
     let k = c.args.ground.proof.now in
     let hyps = ap (terms_at k.trees) c.ids.ensures.numbers ∙ ap (λ s. s.hypotheses) c.sequent-sequent.ensures.is in
-    subst (AllByRecursion IsEquationFormula) (sym hyps) (definition_list-equations (pairs_view k.trees c.args.pairs.now) (sequent_at k.made c.args.one.id) (step-IsSequent k.made c.is_proof.ensures c.args.one.id c.requires.one) c.requires.list)
+    subst (AllByRecursion IsEquationFormula) (sym hyps)
+    (definition_list-equations (pairs_view k.trees c.args.pairs.now) (sequent_at k.made c.args.one.id)
+    (step-IsSequent k.made c.is_proof.ensures c.args.one.id c.requires.one) c.requires.list)
 
 pub add_self_proofs-requires-clause-told : goal.add_self_proofs-requires-clause-told
 add_self_proofs-requires-clause-told c =
@@ -57,7 +60,8 @@ pub returns-in_err-add_constants-clause-grows : goal.returns-in_err-add_constant
 returns-in_err-add_constants-clause-grows c = Grows-trans c.add_type_variables.ensures.grows c.add_constants.ensures.grows
 
 pub returns-in_err-add_self_proofs-clause-grows : goal.returns-in_err-add_self_proofs-clause-grows
-returns-in_err-add_self_proofs-clause-grows c = Grows-trans c.add_type_variables.ensures.grows (Grows-trans c.add_constants.ensures.grows c.add_self_proofs.ensures.grows)
+returns-in_err-add_self_proofs-clause-grows c = Grows-trans c.add_type_variables.ensures.grows
+    (Grows-trans c.add_constants.ensures.grows c.add_self_proofs.ensures.grows)
 
 pub call-requires : goal.call-requires
 call-requires c =
@@ -66,10 +70,13 @@ call-requires c =
     let given = c.requires.told.0 in
     let variables = ap (variables_of trees) c.variables-variables.ensures ∙ c.requires.params.free_vars in
     let hyps = ap (terms_at trees) c.ids.ensures.numbers ∙ ap (λ s. s.hypotheses) c.sequent-sequent.ensures.is in
-    let first = c.in_ok-add_type_variables.ensures.ready given trees [] (Ready-start given c.args.target.now trees c.args.ground.env.now _ c.requires.none c.requires.told.1) in
+    let first = c.in_ok-add_type_variables.ensures.ready given trees []
+    (Ready-start given c.args.target.now trees c.args.ground.env.now _ c.requires.none c.requires.told.1) in
     let second = c.in_ok-add_constants.ensures.ready given _ first c.requires.told.2
-    (subst (AllByRecursion (λ (v : Variable). TellsType given.declarations given.symbols v.1)) (sym variables) (variables-told given.declarations given.symbols s c.requires.told.3)) in
-    let third = c.in_ok-add_self_proofs.ensures.ready given _ second (subst (AllByRecursion (TellsTerm given.declarations given.symbols)) (sym hyps) c.requires.told.3.hypotheses) in
+    (subst (AllByRecursion (λ (v : Variable). TellsType given.declarations given.symbols v.1)) (sym variables)
+    (variables-told given.declarations given.symbols s c.requires.told.3)) in
+    let third = c.in_ok-add_self_proofs.ensures.ready given _ second
+    (subst (AllByRecursion (TellsTerm given.declarations given.symbols)) (sym hyps) c.requires.told.3.hypotheses) in
     subst (AreKnown c.add_self_proofs.new.target.table) (sym c.deref.ensures.value) third.known
 
 pub returns-clause-made : goal.returns-clause-made
@@ -81,14 +88,19 @@ returns-clause-made c =
     let hyps = ap (terms_at trees) c.ids.ensures.numbers ∙ ap (λ s. s.hypotheses) c.sequent-sequent.ensures.is in
     IfOk-weaker c.call.result _ _
     (λ r h given stands constants told.
-    let first = c.in_ok-add_type_variables.ensures.ready given trees [] (Ready-start given c.args.target.now trees c.args.ground.env.now _ c.requires.none stands) in
+    let first = c.in_ok-add_type_variables.ensures.ready given trees []
+    (Ready-start given c.args.target.now trees c.args.ground.env.now _ c.requires.none stands) in
     let second = c.in_ok-add_constants.ensures.ready given _ first constants
-    (subst (AllByRecursion (λ (v : Variable). TellsType given.declarations given.symbols v.1)) (sym variables) (variables-told given.declarations given.symbols s told)) in
-    let third = c.in_ok-add_self_proofs.ensures.ready given _ second (subst (AllByRecursion (TellsTerm given.declarations given.symbols)) (sym hyps) told.hypotheses) in
+    (subst (AllByRecursion (λ (v : Variable). TellsType given.declarations given.symbols v.1)) (sym variables)
+    (variables-told given.declarations given.symbols s told)) in
+    let third = c.in_ok-add_self_proofs.ensures.ready given _ second
+    (subst (AllByRecursion (TellsTerm given.declarations given.symbols)) (sym hyps) told.hypotheses) in
     h ∙ ap (λ l. Some (applied (Sym c.args.one.symbol) l))
-    (ap (trees_at c.add_self_proofs.new.target.table) c.deref.ensures.value ∙ third.are ∙ theorem-args (scope_with given trees c.args.pairs.now) s c.names.result.now _ _ names variables hyps))
+    (ap (trees_at c.add_self_proofs.new.target.table) c.deref.ensures.value ∙ third.are
+    ∙ theorem-args (scope_with given trees c.args.pairs.now) s c.names.result.now _ _ names variables hyps))
     c.call.ensures.made
 
 pub returns-clause-grows : goal.returns-clause-grows
 returns-clause-grows c =
-    Grows-trans c.add_type_variables.ensures.grows (Grows-trans c.add_constants.ensures.grows (Grows-trans c.add_self_proofs.ensures.grows (Grows-table _ _ c.call.ensures.keeps)))
+    Grows-trans c.add_type_variables.ensures.grows
+    (Grows-trans c.add_constants.ensures.grows (Grows-trans c.add_self_proofs.ensures.grows (Grows-table _ _ c.call.ensures.keeps)))

@@ -8,7 +8,8 @@ pub dest_eq-requires : goal.dest_eq-requires
 dest_eq-requires c = subst IsSome (sym c.requires.equation.typed) refl
 
 pub unwrap-requires : goal.unwrap-requires
-unwrap-requires c = is-some c.dest_eq.result c.dest_eq.ensures.none (λ q. q c.requires.equation.left c.requires.equation.right (c.requires.equation.ty, c.requires.equation.is))
+unwrap-requires c = is-some c.dest_eq.result c.dest_eq.ensures.none
+    (λ q. q c.requires.equation.left c.requires.equation.right (c.requires.equation.ty, c.requires.equation.is))
 
 pub type_of-ty-requires : goal.type_of-ty-requires
 type_of-ty-requires c =

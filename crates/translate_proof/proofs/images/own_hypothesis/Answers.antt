@@ -14,7 +14,8 @@ makes_term-requires-clause-id c =
     (subst (AreKnown c.args.table.now) split (AreKnown-drop c.args.table.now c.loop-one.one-index c.args.own.now c.requires.own)).0
 
 pub returns-then-branch-clause-is : goal.returns-then-branch-clause-is
-returns-then-branch-clause-is c = sym ((term_eq-Decides (made_term c.args.table.now c.args.put.now c.args.hyp) _).0 (sym c.in_ok-makes_term.ensures ∙ c.if-branch.true))
+returns-then-branch-clause-is c = sym
+    ((term_eq-Decides (made_term c.args.table.now c.args.put.now c.args.hyp) _).0 (sym c.in_ok-makes_term.ensures ∙ c.if-branch.true))
 
 pub returns-then-branch-clause-known : goal.returns-then-branch-clause-known
 returns-then-branch-clause-known c =
@@ -24,4 +25,5 @@ returns-then-branch-clause-known c =
 pub loop-one-preserved : goal.loop-one-preserved
 loop-one-preserved c =
     let split = drop_more c.args.own.now c.loop-one.one-index (record { 0 = 0 }) c.loop-one-test.true in
-    in-rest term_eq term_eq-Decides (made_term c.args.table.now c.args.put.now c.args.hyp) _ _ _ (ap (terms_at c.args.table.now) split) (sym c.if-branch.false ∙ c.in_ok-makes_term.ensures) c.loop-one.invariant
+    in-rest term_eq term_eq-Decides (made_term c.args.table.now c.args.put.now c.args.hyp) _ _ _ (ap (terms_at c.args.table.now) split)
+    (sym c.if-branch.false ∙ c.in_ok-makes_term.ensures) c.loop-one.invariant

@@ -16,7 +16,8 @@ becomes-requires-clause-own c =
 
 pub returns-then-branch-clause-is : goal.returns-then-branch-clause-is
 returns-then-branch-clause-is c =
-    sym ((variable_eq-Decides (retyped c.args.table.now c.args.put.now c.args.variable.now.name c.args.variable.now.ty) (variable_view c.args.table.now c.one-item.result)).0 (sym c.in_ok-becomes.ensures ∙ c.if-branch.true))
+    sym ((variable_eq-Decides (retyped c.args.table.now c.args.put.now c.args.variable.now.name c.args.variable.now.ty)
+    (variable_view c.args.table.now c.one-item.result)).0 (sym c.in_ok-becomes.ensures ∙ c.if-branch.true))
 
 pub returns-then-branch-clause-known : goal.returns-then-branch-clause-known
 returns-then-branch-clause-known c =
@@ -26,4 +27,6 @@ returns-then-branch-clause-known c =
 pub loop-one-preserved : goal.loop-one-preserved
 loop-one-preserved c =
     let split = drop-item c.args.own.now c.loop-one.one-index c.one-item.result c.one-item.is c.loop-one-test.true in
-    in-rest variable_eq variable_eq-Decides (retyped c.args.table.now c.args.put.now c.args.variable.now.name c.args.variable.now.ty) (variable_view c.args.table.now c.one-item.result) _ _ (ap (variables_of c.args.table.now) split) (sym c.if-branch.false ∙ c.in_ok-becomes.ensures) c.loop-one.invariant
+    in-rest variable_eq variable_eq-Decides (retyped c.args.table.now c.args.put.now c.args.variable.now.name c.args.variable.now.ty)
+    (variable_view c.args.table.now c.one-item.result) _ _ (ap (variables_of c.args.table.now) split) (sym c.if-branch.false ∙ c.in_ok-becomes.ensures)
+    c.loop-one.invariant

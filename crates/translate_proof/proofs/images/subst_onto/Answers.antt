@@ -26,8 +26,13 @@ pub add_type_images-requires-clause-told : goal.add_type_images-requires-clause-
 add_type_images-requires-clause-told c =
     let k = c.args.ground.proof.now in
     let given = c.requires.told.0 in
-    let names = c.names.ensures ∙ c.requires.params.type_vars in
-    (given, c.requires.told.1, subst (AllByRecursion (λ (n : Name). TellsType given.declarations given.symbols (image (type_pairs k.trees c.args.step.put.now) n))) (sym names) (names-told k c.args.step.put.now c.args.step.id c.args.step.one.id c.requires.substituted given c.requires.told.2))
+    let names = c.names.ensures ∙ c.requires.params.type_vars in (
+      given,
+      c.requires.told.1,
+      subst
+          (AllByRecursion (λ (n : Name). TellsType given.declarations given.symbols (image (type_pairs k.trees c.args.step.put.now) n))) (sym names)
+          (names-told k c.args.step.put.now c.args.step.id c.args.step.one.id c.requires.substituted given c.requires.told.2),
+    )
 
 pub add_term_images-requires-clause-own : goal.add_term_images-requires-clause-own
 add_term_images-requires-clause-own c = subst (HaveTypes c.args.ground.proof.now.trees) (sym c.variables-variables.ensures) c.requires.own_params.known
@@ -40,7 +45,8 @@ add_term_images-requires-clause-there c =
     let k = c.args.ground.proof.now in
     let own = ap (variables_of k.trees) c.variables-variables.ensures ∙ c.requires.own_params.free_vars in
     let variables = ap (variables_of k.trees) c.variables-general.ensures ∙ c.requires.params.free_vars in
-    subst (AllByRecursion (HasOwnVariable k.trees c.args.step.put.now _)) (sym variables) (variables-there k c.args.step.put.now c.args.step.id c.args.step.one.id c.requires.substituted c.variables-variables.result.now own)
+    subst (AllByRecursion (HasOwnVariable k.trees c.args.step.put.now _)) (sym variables)
+    (variables-there k c.args.step.put.now c.args.step.id c.args.step.one.id c.requires.substituted c.variables-variables.result.now own)
 
 pub add_term_images-requires-clause-told : goal.add_term_images-requires-clause-told
 add_term_images-requires-clause-told c =
@@ -49,7 +55,8 @@ add_term_images-requires-clause-told c =
     let variables = ap (variables_of k.trees) c.variables-general.ensures ∙ c.requires.params.free_vars in (
       given,
       Represents-Grows c.add_type_images.ensures.grows given k.trees c.args.ground.env.now c.requires.told.1,
-      subst (AllByRecursion (λ (v : Variable). IsTold given (variable_image k.trees c.args.step.put.now v))) (sym variables) (images-are-told k c.args.step.put.now c.args.step.id c.args.step.one.id c.requires.substituted given c.requires.told.2),
+      subst (AllByRecursion (λ (v : Variable). IsTold given (variable_image k.trees c.args.step.put.now v))) (sym variables)
+          (images-are-told k c.args.step.put.now c.args.step.id c.args.step.one.id c.requires.substituted given c.requires.told.2),
     )
 
 pub add_hypothesis_images-requires-clause-own : goal.add_hypothesis_images-requires-clause-own
@@ -63,15 +70,19 @@ add_hypothesis_images-requires-clause-there c =
     let k = c.args.ground.proof.now in
     let own = ap (terms_at k.trees) c.ids.ensures.numbers ∙ ap (λ s. s.hypotheses) c.sequent-own.ensures.is in
     let hyps = ap (terms_at k.trees) c.ids-2.ensures.numbers ∙ ap (λ s. s.hypotheses) c.sequent-sequent.ensures.is in
-    subst (λ l. AllByRecursion (λ (h : Term). IsIn (terms_at k.trees c.ids.result.now) (sub (type_pairs k.trees c.args.step.put.now) (term_pairs k.trees c.args.step.put.now) h)) l) (sym hyps)
-    (subst (λ l. AllByRecursion (λ (h : Term). IsIn l (sub (type_pairs k.trees c.args.step.put.now) (term_pairs k.trees c.args.step.put.now) h)) (sequent_at k.made c.args.step.one.id).hypotheses) (sym own)
+    subst (λ l. AllByRecursion
+    (λ (h : Term). IsIn (terms_at k.trees c.ids.result.now) (sub (type_pairs k.trees c.args.step.put.now) (term_pairs k.trees c.args.step.put.now) h)) l)
+    (sym hyps)
+    (subst (λ l. AllByRecursion (λ (h : Term). IsIn l (sub (type_pairs k.trees c.args.step.put.now) (term_pairs k.trees c.args.step.put.now) h))
+    (sequent_at k.made c.args.step.one.id).hypotheses) (sym own)
     (hypotheses-there k c.args.step.put.now c.args.step.id c.args.step.one.id c.requires.substituted))
 
 pub returns-in_err-add_term_images-clause-grows : goal.returns-in_err-add_term_images-clause-grows
 returns-in_err-add_term_images-clause-grows c = Grows-trans c.add_type_images.ensures.grows c.add_term_images.ensures.grows
 
 pub returns-in_err-add_hypothesis_images-clause-grows : goal.returns-in_err-add_hypothesis_images-clause-grows
-returns-in_err-add_hypothesis_images-clause-grows c = Grows-trans c.add_type_images.ensures.grows (Grows-trans c.add_term_images.ensures.grows c.add_hypothesis_images.ensures.grows)
+returns-in_err-add_hypothesis_images-clause-grows c =
+    Grows-trans c.add_type_images.ensures.grows (Grows-trans c.add_term_images.ensures.grows c.add_hypothesis_images.ensures.grows)
 
 pub call-requires : goal.call-requires
 call-requires c =
@@ -79,10 +90,13 @@ call-requires c =
     let given = c.requires.told.0 in
     let names = c.names.ensures ∙ c.requires.params.type_vars in
     let variables = ap (variables_of k.trees) c.variables-general.ensures ∙ c.requires.params.free_vars in
-    let first = c.in_ok-add_type_images.ensures.ready given [] (Ready-start given c.args.target.now k.trees c.args.ground.env.now _ c.requires.none c.requires.told.1)
-    (subst (AllByRecursion (λ (n : Name). TellsType given.declarations given.symbols (image (type_pairs k.trees c.args.step.put.now) n))) (sym names) (names-told k c.args.step.put.now c.args.step.id c.args.step.one.id c.requires.substituted given c.requires.told.2)) in
+    let first = c.in_ok-add_type_images.ensures.ready given []
+    (Ready-start given c.args.target.now k.trees c.args.ground.env.now _ c.requires.none c.requires.told.1)
+    (subst (AllByRecursion (λ (n : Name). TellsType given.declarations given.symbols (image (type_pairs k.trees c.args.step.put.now) n))) (sym names)
+    (names-told k c.args.step.put.now c.args.step.id c.args.step.one.id c.requires.substituted given c.requires.told.2)) in
     let second = c.in_ok-add_term_images.ensures.ready given _ first
-    (subst (AllByRecursion (λ (v : Variable). IsTold given (variable_image k.trees c.args.step.put.now v))) (sym variables) (images-are-told k c.args.step.put.now c.args.step.id c.args.step.one.id c.requires.substituted given c.requires.told.2)) in
+    (subst (AllByRecursion (λ (v : Variable). IsTold given (variable_image k.trees c.args.step.put.now v))) (sym variables)
+    (images-are-told k c.args.step.put.now c.args.step.id c.args.step.one.id c.requires.substituted given c.requires.told.2)) in
     subst (AreKnown c.add_hypothesis_images.new.target.table) (sym c.deref.ensures.value) (c.in_ok-add_hypothesis_images.ensures.ready given _ second).known
 
 pub returns-clause-made : goal.returns-clause-made
@@ -95,15 +109,19 @@ returns-clause-made c =
     IfOk-weaker c.call.result _ _
     (λ r h given stands told.
     let first = c.in_ok-add_type_images.ensures.ready given [] (Ready-start given c.args.target.now k.trees c.args.ground.env.now _ c.requires.none stands)
-    (subst (AllByRecursion (λ (n : Name). TellsType given.declarations given.symbols (image (type_pairs k.trees c.args.step.put.now) n))) (sym names) (names-told k c.args.step.put.now c.args.step.id c.args.step.one.id c.requires.substituted given told)) in
+    (subst (AllByRecursion (λ (n : Name). TellsType given.declarations given.symbols (image (type_pairs k.trees c.args.step.put.now) n))) (sym names)
+    (names-told k c.args.step.put.now c.args.step.id c.args.step.one.id c.requires.substituted given told)) in
     let second = c.in_ok-add_term_images.ensures.ready given _ first
-    (subst (AllByRecursion (λ (v : Variable). IsTold given (variable_image k.trees c.args.step.put.now v))) (sym variables) (images-are-told k c.args.step.put.now c.args.step.id c.args.step.one.id c.requires.substituted given told)) in
+    (subst (AllByRecursion (λ (v : Variable). IsTold given (variable_image k.trees c.args.step.put.now v))) (sym variables)
+    (images-are-told k c.args.step.put.now c.args.step.id c.args.step.one.id c.requires.substituted given told)) in
     let third = c.in_ok-add_hypothesis_images.ensures.ready given _ second in
     h ∙ ap (λ l. Some (applied (Sym c.args.step.one.symbol) l))
     (ap (trees_at c.add_hypothesis_images.new.target.table) c.deref.ensures.value ∙ third.are
-    ∙ theorem-args (images given.symbols (type_pairs k.trees c.args.step.put.now) (term_pairs k.trees c.args.step.put.now) given.scope) s c.names.result.now _ _ names variables hyps))
+    ∙ theorem-args (images given.symbols (type_pairs k.trees c.args.step.put.now) (term_pairs k.trees c.args.step.put.now) given.scope) s c.names.result.now _ _
+    names variables hyps))
     c.call.ensures.made
 
 pub returns-clause-grows : goal.returns-clause-grows
 returns-clause-grows c =
-    Grows-trans c.add_type_images.ensures.grows (Grows-trans c.add_term_images.ensures.grows (Grows-trans c.add_hypothesis_images.ensures.grows (Grows-table _ _ c.call.ensures.keeps)))
+    Grows-trans c.add_type_images.ensures.grows
+    (Grows-trans c.add_term_images.ensures.grows (Grows-trans c.add_hypothesis_images.ensures.grows (Grows-table _ _ c.call.ensures.keeps)))

@@ -12,9 +12,12 @@ invariant-loop-rest l = record {
   rest_known : AreKnown l.table l.rest;
   others_known : AreKnown l.table l.others;
   known : AreTypesLeft l.table l.left;
-  made : (types_eq (substitute_all (pairs_at l.table l.pairs) (types_of (types_at l.table l.general))) (types_of (types_at l.table l.types)) && are_types_made l.table (pairs_at l.table l.pairs) l.fn.left)
-      ≡ (types_eq (substitute_all (pairs_at l.table l.pairs) (types_of (types_at l.table l.rest))) (types_of (types_at l.table l.others)) && are_types_made l.table (pairs_at l.table l.pairs) l.left);
-  less : types_size (types_of (types_at l.table l.rest)) + types_left l.table l.left ≤ types_size (types_of (types_at l.table l.general)) + types_left l.table l.fn.left;
+  made : (types_eq (substitute_all (pairs_at l.table l.pairs) (types_of (types_at l.table l.general))) (types_of (types_at l.table l.types)) && are_types_made
+      l.table (pairs_at l.table l.pairs) l.fn.left)
+      ≡ (types_eq (substitute_all (pairs_at l.table l.pairs) (types_of (types_at l.table l.rest))) (types_of (types_at l.table l.others)) && are_types_made
+      l.table (pairs_at l.table l.pairs) l.left);
+  less : types_size (types_of (types_at l.table l.rest)) + types_left l.table l.left ≤ types_size (types_of (types_at l.table l.general)) + types_left l.table
+      l.fn.left;
 }
 
 abbrev pub decreases-loop-rest : goal.decreases-loop-rest

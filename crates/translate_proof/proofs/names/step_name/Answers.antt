@@ -15,7 +15,8 @@ returns-in-Some c =
     let at = sym c.in-Some.is ∙ c.place_of.ensures in
     IfOk-weaker c.lettered.result _ _
     (λ text h. h ∙ ap (λ n. codes "E" ++ numeral n) (place-position_or_len (nat_eq i) ids c.in-Some.place at)
-    ∙ sym (ap (λ b. cond b (codes "E" ++ numeral (position_or_len (nat_eq i) ids)) (unexported_name c.args.assumptions.now i (step_at c.args.proof.now.made i).kind)) (place-is_in (nat_eq i) ids c.in-Some.place at)))
+    ∙ sym (ap (λ b. cond b (codes "E" ++ numeral (position_or_len (nat_eq i) ids))
+    (unexported_name c.args.assumptions.now i (step_at c.args.proof.now.made i).kind)) (place-is_in (nat_eq i) ids c.in-Some.place at)))
     c.lettered.ensures
 
 pub returns-in-None : goal.returns-in-None
@@ -25,5 +26,6 @@ returns-in-None c =
     let at = sym c.in-None.is ∙ c.place_of.ensures in
     IfOk-weaker c.unexported_name.result _ _
     (λ text h. h ∙ ap (unexported_name c.args.assumptions.now i) c.kind.ensures
-    ∙ sym (ap (λ b. cond b (codes "E" ++ numeral (position_or_len (nat_eq i) ids)) (unexported_name c.args.assumptions.now i (step_at c.args.proof.now.made i).kind)) (place-not_in (nat_eq i) ids at)))
+    ∙ sym (ap (λ b. cond b (codes "E" ++ numeral (position_or_len (nat_eq i) ids))
+    (unexported_name c.args.assumptions.now i (step_at c.args.proof.now.made i).kind)) (place-not_in (nat_eq i) ids at)))
     c.unexported_name.ensures

@@ -9,8 +9,10 @@ unreachable-requires c =
 
 pub returns-clause-known : goal.returns-clause-known
 returns-clause-known c =
-    let below = argument-below c.args.proof.now.trees c.args.id.0 _ c.in-App.argument c.view.result c.in-App.is (rw c.terms-table.ensures at c.view.ensures.lower) in
+    let below = argument-below c.args.proof.now.trees c.args.id.0 _ c.in-App.argument c.view.result c.in-App.is
+    (rw c.terms-table.ensures at c.view.ensures.lower) in
     omega (arith, below, c.requires.id)
 
 pub returns-clause-is : goal.returns-clause-is
-returns-clause-is c = argument-seen c.args.proof.now.trees c.args.id.0 _ c.in-App.argument c.view.result c.in-App.is (rw c.terms-table.ensures at c.view.ensures.is)
+returns-clause-is c = argument-seen c.args.proof.now.trees c.args.id.0 _ c.in-App.argument c.view.result c.in-App.is
+    (rw c.terms-table.ensures at c.view.ensures.is)

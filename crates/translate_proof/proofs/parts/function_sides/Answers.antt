@@ -7,9 +7,12 @@ sides-sides-requires-clause-equation c = let q = c.requires.equation in record {
 pub unwrap-requires : goal.unwrap-requires
 unwrap-requires c =
     let q = c.requires.equation in
-    function_parts-some c.args.proof.now c.args.id c.sides-sides.result c.sides-sides.ensures q.0 q.1 q.2 q.3 q.4 c.function_parts.result (rw (c.types.ensures.types, c.terms.ensures) at c.function_parts.ensures.parts)
+    function_parts-some c.args.proof.now c.args.id c.sides-sides.result c.sides-sides.ensures q.0 q.1 q.2 q.3 q.4 c.function_parts.result
+    (rw (c.types.ensures.types, c.terms.ensures) at c.function_parts.ensures.parts)
 
 pub returns : goal.returns
 returns c =
     let q = c.requires.equation in
-    functions-are c.args.proof.now c.args.id c.sides-sides.result c.sides-sides.ensures q.0 q.1 q.2 q.3 q.4 c.function_parts.result (rw (c.types.ensures.types, c.terms.ensures) at c.function_parts.ensures.parts) c.unwrap.result c.unwrap.ensures c.function_parts.ensures.domain c.function_parts.ensures.codomain
+    functions-are c.args.proof.now c.args.id c.sides-sides.result c.sides-sides.ensures q.0 q.1 q.2 q.3 q.4 c.function_parts.result
+    (rw (c.types.ensures.types, c.terms.ensures) at c.function_parts.ensures.parts) c.unwrap.result c.unwrap.ensures c.function_parts.ensures.domain
+    c.function_parts.ensures.codomain

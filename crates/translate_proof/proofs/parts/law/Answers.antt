@@ -81,7 +81,8 @@ add_part-requires-clause-told c =
     let fourth = c.in_ok-add_term-2.ensures.ready given _ third (right-told k c.args.id f.result.sides f.ensures.sides given c.requires.told.3) in
     let inner = with_scope given (lifted given.scope) in
     let grows = Grows-trans c.ty.ensures.grows (Grows-trans c.add_type.ensures.grows (Grows-trans c.add_term.ensures.grows c.add_term-2.ensures.grows)) in
-    let under = Ready-other (Grows-refl c.add_term-2.new.target) given inner k.trees c.args.ground.env.now c.args.inner.now _ _ fourth (Represents-Grows grows inner k.trees c.args.inner.now c.requires.told.2) in
+    let under = Ready-other (Grows-refl c.add_term-2.new.target) given inner k.trees c.args.ground.env.now c.args.inner.now _ _ fourth
+    (Represents-Grows grows inner k.trees c.args.inner.now c.requires.told.2) in
     (inner, under.stands, c.requires.told.4, c.requires.told.5)
 
 pub call-requires : goal.call-requires
@@ -97,7 +98,8 @@ call-requires c =
     let fourth = c.in_ok-add_term-2.ensures.ready given _ third (right-told k c.args.id f.result.sides f.ensures.sides given c.requires.told.3) in
     let inner = with_scope given (lifted given.scope) in
     let grows = Grows-trans c.ty.ensures.grows (Grows-trans c.add_type.ensures.grows (Grows-trans c.add_term.ensures.grows c.add_term-2.ensures.grows)) in
-    let under = Ready-other (Grows-refl c.add_term-2.new.target) given inner k.trees c.args.ground.env.now c.args.inner.now _ _ fourth (Represents-Grows grows inner k.trees c.args.inner.now c.requires.told.2) in
+    let under = Ready-other (Grows-refl c.add_term-2.new.target) given inner k.trees c.args.ground.env.now c.args.inner.now _ _ fourth
+    (Represents-Grows grows inner k.trees c.args.inner.now c.requires.told.2) in
     let last = c.in_ok-add_part.ensures.ready inner _ under c.requires.told.4 c.requires.told.5 in
     subst (AreKnown _) (sym c.deref.ensures.value) last.known
 
@@ -115,14 +117,18 @@ returns-clause-made c =
     let fourth = c.in_ok-add_term-2.ensures.ready given _ third (right-told k c.args.id f.result.sides f.ensures.sides given own) in
     let inner = with_scope given (lifted given.scope) in
     let grows = Grows-trans c.ty.ensures.grows (Grows-trans c.add_type.ensures.grows (Grows-trans c.add_term.ensures.grows c.add_term-2.ensures.grows)) in
-    let under = Ready-other (Grows-refl c.add_term-2.new.target) given inner k.trees c.args.ground.env.now c.args.inner.now _ _ fourth (Represents-Grows grows inner k.trees c.args.inner.now inside) in
+    let under = Ready-other (Grows-refl c.add_term-2.new.target) given inner k.trees c.args.ground.env.now c.args.inner.now _ _ fourth
+    (Represents-Grows grows inner k.trees c.args.inner.now inside) in
     let last = c.in_ok-add_part.ensures.ready inner _ under whole one in
     let later = Grows-trans c.add_type.ensures.grows (Grows-trans c.add_term.ensures.grows c.add_term-2.ensures.grows) in
-    let domain = sym (tree_at-Stays later.table.stays c.in_ok-domain.domain.0 (Holds-within _ c.in_ok-domain.domain.0 _ from)) ∙ Holds-tree_at _ c.in_ok-domain.domain.0 _ from in
+    let domain = sym (tree_at-Stays later.table.stays c.in_ok-domain.domain.0 (Holds-within _ c.in_ok-domain.domain.0 _ from))
+    ∙ Holds-tree_at _ c.in_ok-domain.domain.0 _ from in
     h ∙ ap (λ l. Some (applied (Sym fun_ext_symbol) l)) (ap (trees_at _) c.deref.ensures.value ∙ last.are)
-    ∙ ap Some (law-made given.symbols given.scope _ a _ b _ _ t u c.args.symbol (whole_type k c.args.one.id) (c.args.one.symbol, sequent_at k.made c.args.one.id) _
+    ∙ ap Some (law-made given.symbols given.scope _ a _ b _ _ t u c.args.symbol (whole_type k c.args.one.id)
+    (c.args.one.symbol, sequent_at k.made c.args.one.id) _
     (functions-from k c.args.id f.result f.ensures a b (lam a t) (lam a u) e) (functions-to k c.args.id f.result f.ensures a b (lam a t) (lam a u) e)
-    (functions-left k c.args.id f.result f.ensures a b (lam a t) (lam a u) e) (functions-right k c.args.id f.result f.ensures a b (lam a t) (lam a u) e) domain))
+    (functions-left k c.args.id f.result f.ensures a b (lam a t) (lam a u) e) (functions-right k c.args.id f.result f.ensures a b (lam a t) (lam a u) e)
+    domain))
     c.call.ensures.made
 
 pub returns-in_err-add_type-clause-grows : goal.returns-in_err-add_type-clause-grows
@@ -132,10 +138,15 @@ pub returns-in_err-add_term-clause-grows : goal.returns-in_err-add_term-clause-g
 returns-in_err-add_term-clause-grows c = Grows-trans c.ty.ensures.grows (Grows-trans c.add_type.ensures.grows c.add_term.ensures.grows)
 
 pub returns-in_err-add_term-2-clause-grows : goal.returns-in_err-add_term-2-clause-grows
-returns-in_err-add_term-2-clause-grows c = Grows-trans c.ty.ensures.grows (Grows-trans c.add_type.ensures.grows (Grows-trans c.add_term.ensures.grows c.add_term-2.ensures.grows))
+returns-in_err-add_term-2-clause-grows c = Grows-trans c.ty.ensures.grows
+    (Grows-trans c.add_type.ensures.grows (Grows-trans c.add_term.ensures.grows c.add_term-2.ensures.grows))
 
 pub returns-in_err-add_part-clause-grows : goal.returns-in_err-add_part-clause-grows
-returns-in_err-add_part-clause-grows c = Grows-trans c.ty.ensures.grows (Grows-trans c.add_type.ensures.grows (Grows-trans c.add_term.ensures.grows (Grows-trans c.add_term-2.ensures.grows c.add_part.ensures.grows)))
+returns-in_err-add_part-clause-grows c = Grows-trans c.ty.ensures.grows
+    (Grows-trans c.add_type.ensures.grows (Grows-trans c.add_term.ensures.grows (Grows-trans c.add_term-2.ensures.grows c.add_part.ensures.grows)))
 
 pub returns-clause-grows : goal.returns-clause-grows
-returns-clause-grows c = Grows-trans c.ty.ensures.grows (Grows-trans c.add_type.ensures.grows (Grows-trans c.add_term.ensures.grows (Grows-trans c.add_term-2.ensures.grows (Grows-trans c.add_part.ensures.grows (Grows-table _ _ c.call.ensures.keeps)))))
+returns-clause-grows c = Grows-trans c.ty.ensures.grows
+    (Grows-trans c.add_type.ensures.grows
+    (Grows-trans c.add_term.ensures.grows
+    (Grows-trans c.add_term-2.ensures.grows (Grows-trans c.add_part.ensures.grows (Grows-table _ _ c.call.ensures.keeps)))))

@@ -28,7 +28,8 @@ returns-clause-made c =
     IfOk-weaker c.node.result _ _
     (λ r h given stands outer whole one told.
     let part = c.in_ok-part.ensures.made (over_types given) outer whole one in
-    let term = c.in_ok-term.ensures.made given (Represents-Grows c.part_call.ensures.grows given c.args.ground.proof.now.trees c.args.ground.env.now stands) told in
+    let term = c.in_ok-term.ensures.made given (Represents-Grows c.part_call.ensures.grows given c.args.ground.proof.now.trees c.args.ground.env.now stands)
+    told in
     let known = Holds-within _ c.in_ok-part.part.0 _ part in
     h
     ∙ ap₂ (λ a b. Some (App a b)) (sym (tree_at-Stays c.term.ensures.grows.table.stays c.in_ok-part.part.0 known) ∙ Holds-tree_at _ c.in_ok-part.part.0 _ part)

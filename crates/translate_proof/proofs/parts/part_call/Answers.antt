@@ -71,7 +71,8 @@ returns-clause-made c =
     let fourth = c.in_ok-add_term-2.ensures.ready given _ third (witness-told k c.args.one.id held.result held.ensures given told) in
     let last = c.in_ok-add_theorem.ensures.ready given _ fourth told in
     h ∙ ap (λ l. Some (applied (Sym c.args.symbol) l)) (ap (trees_at _) c.deref.ensures.value ∙ last.are)
-    ∙ ap Some (part-made given.symbols given.scope c.args.symbol _ _ _ _ (c.args.one.symbol, sequent_at k.made c.args.one.id) held.ensures.whole (held-predicate k c.args.one.id held.result held.ensures) (held-witness k c.args.one.id held.result held.ensures)))
+    ∙ ap Some (part-made given.symbols given.scope c.args.symbol _ _ _ _ (c.args.one.symbol, sequent_at k.made c.args.one.id) held.ensures.whole
+    (held-predicate k c.args.one.id held.result held.ensures) (held-witness k c.args.one.id held.result held.ensures)))
     c.call.ensures.made
 
 pub returns-in_err-add_term-clause-grows : goal.returns-in_err-add_term-clause-grows
@@ -81,7 +82,10 @@ pub returns-in_err-add_term-2-clause-grows : goal.returns-in_err-add_term-2-clau
 returns-in_err-add_term-2-clause-grows c = Grows-trans c.add_type.ensures.grows (Grows-trans c.add_term.ensures.grows c.add_term-2.ensures.grows)
 
 pub returns-in_err-add_theorem-clause-grows : goal.returns-in_err-add_theorem-clause-grows
-returns-in_err-add_theorem-clause-grows c = Grows-trans c.add_type.ensures.grows (Grows-trans c.add_term.ensures.grows (Grows-trans c.add_term-2.ensures.grows c.add_theorem.ensures.grows))
+returns-in_err-add_theorem-clause-grows c = Grows-trans c.add_type.ensures.grows
+    (Grows-trans c.add_term.ensures.grows (Grows-trans c.add_term-2.ensures.grows c.add_theorem.ensures.grows))
 
 pub returns-clause-grows : goal.returns-clause-grows
-returns-clause-grows c = Grows-trans c.add_type.ensures.grows (Grows-trans c.add_term.ensures.grows (Grows-trans c.add_term-2.ensures.grows (Grows-trans c.add_theorem.ensures.grows (Grows-table _ _ c.call.ensures.keeps))))
+returns-clause-grows c = Grows-trans c.add_type.ensures.grows
+    (Grows-trans c.add_term.ensures.grows
+    (Grows-trans c.add_term-2.ensures.grows (Grows-trans c.add_theorem.ensures.grows (Grows-table _ _ c.call.ensures.keeps))))

@@ -11,5 +11,7 @@ returns-clause-made c =
     let k = c.args.proof.now in
     IfOk-weaker c.part_call.result _ _
     (λ r h given stands whole told.
-    subst (λ s. Holds c.part_call.new.target.table r.0 (part_tree given.symbols given.scope s (whole_type k c.args.one.id) (c.args.one.symbol, sequent_at k.made c.args.one.id))) c.symbol.ensures (h given stands whole told))
+    subst (λ s. Holds c.part_call.new.target.table r.0
+    (part_tree given.symbols given.scope s (whole_type k c.args.one.id) (c.args.one.symbol, sequent_at k.made c.args.one.id))) c.symbol.ensures
+    (h given stands whole told))
     c.part_call.ensures.made

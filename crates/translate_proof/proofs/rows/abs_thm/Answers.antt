@@ -22,8 +22,11 @@ ty-requires-clause-told c = let q = c.requires.told in (q.0, q.1, q.3)
 pub add_type-requires-clause-told : goal.add_type-requires-clause-told
 add_type-requires-clause-told c =
     let k = c.args.ground.proof.now in
-    let q = c.requires.told in
-    (q.0, Represents-Grows c.ty.ensures.grows q.0 k.trees c.args.ground.env.now q.1, type-told k c.args.one.id c.sides-first.result c.sides-first.ensures q.0 q.4)
+    let q = c.requires.told in (
+      q.0,
+      Represents-Grows c.ty.ensures.grows q.0 k.trees c.args.ground.env.now q.1,
+      type-told k c.args.one.id c.sides-first.result c.sides-first.ensures q.0 q.4,
+    )
 
 pub add_function-requires-clause-domain : goal.add_function-requires-clause-domain
 add_function-requires-clause-domain c =
@@ -36,8 +39,11 @@ add_function-requires-clause-told c =
     let k = c.args.ground.proof.now in
     let v = c.args.variable.now in
     let q = c.requires.told in
-    let under = under_variable k v q.0 in
-    (under, Represents-Grows (Grows-trans c.ty.ensures.grows c.add_type.ensures.grows) under k.trees c.args.inner.now q.2, left-told k c.args.one.id c.sides-first.result c.sides-first.ensures under q.4)
+    let under = under_variable k v q.0 in (
+      under,
+      Represents-Grows (Grows-trans c.ty.ensures.grows c.add_type.ensures.grows) under k.trees c.args.inner.now q.2,
+      left-told k c.args.one.id c.sides-first.result c.sides-first.ensures under q.4,
+    )
 
 pub add_function-requires-2-clause-domain : goal.add_function-requires-2-clause-domain
 add_function-requires-2-clause-domain c =
@@ -50,8 +56,12 @@ add_function-requires-2-clause-told c =
     let k = c.args.ground.proof.now in
     let v = c.args.variable.now in
     let q = c.requires.told in
-    let under = under_variable k v q.0 in
-    (under, Represents-Grows (Grows-trans c.ty.ensures.grows (Grows-trans c.add_type.ensures.grows c.add_function.ensures.grows)) under k.trees c.args.inner.now q.2, right-told k c.args.one.id c.sides-first.result c.sides-first.ensures under q.4)
+    let under = under_variable k v q.0 in (
+      under,
+      Represents-Grows (Grows-trans c.ty.ensures.grows (Grows-trans c.add_type.ensures.grows c.add_function.ensures.grows)) under k.trees c.args.inner.now
+          q.2,
+      right-told k c.args.one.id c.sides-first.result c.sides-first.ensures under q.4,
+    )
 
 pub add_abstracted-requires-clause-index : goal.add_abstracted-requires-clause-index
 add_abstracted-requires-clause-index c =
@@ -64,8 +74,13 @@ add_abstracted-requires-clause-told c =
     let k = c.args.ground.proof.now in
     let v = c.args.variable.now in
     let q = c.requires.told in
-    let under = under_variable k v q.0 in
-    (under, Represents-Grows (Grows-trans c.ty.ensures.grows (Grows-trans c.add_type.ensures.grows (Grows-trans c.add_function.ensures.grows c.add_function-2.ensures.grows))) under k.trees c.args.inner.now q.2, q.4)
+    let under = under_variable k v q.0 in (
+      under,
+      Represents-Grows
+          (Grows-trans c.ty.ensures.grows (Grows-trans c.add_type.ensures.grows (Grows-trans c.add_function.ensures.grows c.add_function-2.ensures.grows))) under
+          k.trees c.args.inner.now q.2,
+      q.4,
+    )
 
 pub call-requires : goal.call-requires
 call-requires c =
@@ -91,13 +106,19 @@ pub returns-in_err-add_function-clause-grows : goal.returns-in_err-add_function-
 returns-in_err-add_function-clause-grows c = Grows-trans c.ty.ensures.grows (Grows-trans c.add_type.ensures.grows c.add_function.ensures.grows)
 
 pub returns-in_err-add_function-2-clause-grows : goal.returns-in_err-add_function-2-clause-grows
-returns-in_err-add_function-2-clause-grows c = Grows-trans c.ty.ensures.grows (Grows-trans c.add_type.ensures.grows (Grows-trans c.add_function.ensures.grows c.add_function-2.ensures.grows))
+returns-in_err-add_function-2-clause-grows c = Grows-trans c.ty.ensures.grows
+    (Grows-trans c.add_type.ensures.grows (Grows-trans c.add_function.ensures.grows c.add_function-2.ensures.grows))
 
 pub returns-in_err-add_abstracted-clause-grows : goal.returns-in_err-add_abstracted-clause-grows
-returns-in_err-add_abstracted-clause-grows c = Grows-trans c.ty.ensures.grows (Grows-trans c.add_type.ensures.grows (Grows-trans c.add_function.ensures.grows (Grows-trans c.add_function-2.ensures.grows c.add_abstracted.ensures.grows)))
+returns-in_err-add_abstracted-clause-grows c = Grows-trans c.ty.ensures.grows
+    (Grows-trans c.add_type.ensures.grows
+    (Grows-trans c.add_function.ensures.grows (Grows-trans c.add_function-2.ensures.grows c.add_abstracted.ensures.grows)))
 
 pub returns-clause-grows : goal.returns-clause-grows
-returns-clause-grows c = Grows-trans c.ty.ensures.grows (Grows-trans c.add_type.ensures.grows (Grows-trans c.add_function.ensures.grows (Grows-trans c.add_function-2.ensures.grows (Grows-trans c.add_abstracted.ensures.grows (Grows-table _ _ c.call.ensures.keeps)))))
+returns-clause-grows c = Grows-trans c.ty.ensures.grows
+    (Grows-trans c.add_type.ensures.grows
+    (Grows-trans c.add_function.ensures.grows
+    (Grows-trans c.add_function-2.ensures.grows (Grows-trans c.add_abstracted.ensures.grows (Grows-table _ _ c.call.ensures.keeps)))))
 
 pub returns-clause-made : goal.returns-clause-made
 returns-clause-made c =
@@ -118,7 +139,11 @@ returns-clause-made c =
     h ∙ ap (λ l. Some (applied (Sym fun_ext_symbol) l)) (ap (trees_at _) c.deref.ensures.value ∙ fifth.are)
     ∙ ap Some (fun_ext-made given.symbols given.scope (variable_view k.trees v) _ _ _ _ _ _ (c.args.one.symbol, sequent_at k.made c.args.one.id) _ _ _
     (Holds-tree_at _ c.in_ok-domain.domain.0 _ (c.add_type.ensures.grows.table.stays.each c.in_ok-domain.domain.0 _ domain))
-    (Holds-tree_at _ c.in_ok-domain.domain.0 _ ((Grows-trans c.add_type.ensures.grows c.add_function.ensures.grows).table.stays.each c.in_ok-domain.domain.0 _ domain))
-    (Holds-tree_at _ c.in_ok-domain.domain.0 _ ((Grows-trans c.add_type.ensures.grows (Grows-trans c.add_function.ensures.grows c.add_function-2.ensures.grows)).table.stays.each c.in_ok-domain.domain.0 _ domain))
-    (equated-type k c.args.one.id c.sides-first.result c.sides-first.ensures) (equated-left k c.args.one.id c.sides-first.result c.sides-first.ensures) (equated-right k c.args.one.id c.sides-first.result c.sides-first.ensures)))
+    (Holds-tree_at _ c.in_ok-domain.domain.0 _
+    ((Grows-trans c.add_type.ensures.grows c.add_function.ensures.grows).table.stays.each c.in_ok-domain.domain.0 _ domain))
+    (Holds-tree_at _ c.in_ok-domain.domain.0 _
+    ((Grows-trans c.add_type.ensures.grows (Grows-trans c.add_function.ensures.grows c.add_function-2.ensures.grows)).table.stays.each
+    c.in_ok-domain.domain.0 _ domain))
+    (equated-type k c.args.one.id c.sides-first.result c.sides-first.ensures) (equated-left k c.args.one.id c.sides-first.result c.sides-first.ensures)
+    (equated-right k c.args.one.id c.sides-first.result c.sides-first.ensures)))
     c.call.ensures.made

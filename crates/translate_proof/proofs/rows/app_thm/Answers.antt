@@ -29,8 +29,11 @@ returns-in_err-add_type-2-clause-grows c = Grows-trans c.add_type.ensures.grows 
 pub add_term-requires-clause-told : goal.add_term-requires-clause-told
 add_term-requires-clause-told c =
     let k = c.args.ground.proof.now in
-    let q = c.requires.told in
-    (q.0, Represents-Grows (Grows-trans c.add_type.ensures.grows c.add_type-2.ensures.grows) q.0 k.trees c.args.ground.env.now q.1, left-told k c.args.one.id c.sides-first.result c.sides-first.ensures q.0 q.3)
+    let q = c.requires.told in (
+      q.0,
+      Represents-Grows (Grows-trans c.add_type.ensures.grows c.add_type-2.ensures.grows) q.0 k.trees c.args.ground.env.now q.1,
+      left-told k c.args.one.id c.sides-first.result c.sides-first.ensures q.0 q.3,
+    )
 
 pub returns-in_err-add_term-clause-grows : goal.returns-in_err-add_term-clause-grows
 returns-in_err-add_term-clause-grows c = Grows-trans c.add_type.ensures.grows (Grows-trans c.add_type-2.ensures.grows c.add_term.ensures.grows)
@@ -38,47 +41,91 @@ returns-in_err-add_term-clause-grows c = Grows-trans c.add_type.ensures.grows (G
 pub add_term-requires-2-clause-told : goal.add_term-requires-2-clause-told
 add_term-requires-2-clause-told c =
     let k = c.args.ground.proof.now in
-    let q = c.requires.told in
-    (q.0, Represents-Grows (Grows-trans c.add_type.ensures.grows (Grows-trans c.add_type-2.ensures.grows c.add_term.ensures.grows)) q.0 k.trees c.args.ground.env.now q.1, right-told k c.args.one.id c.sides-first.result c.sides-first.ensures q.0 q.3)
+    let q = c.requires.told in (
+      q.0,
+      Represents-Grows (Grows-trans c.add_type.ensures.grows (Grows-trans c.add_type-2.ensures.grows c.add_term.ensures.grows)) q.0 k.trees
+          c.args.ground.env.now q.1,
+      right-told k c.args.one.id c.sides-first.result c.sides-first.ensures q.0 q.3,
+    )
 
 pub returns-in_err-add_term-2-clause-grows : goal.returns-in_err-add_term-2-clause-grows
-returns-in_err-add_term-2-clause-grows c = Grows-trans c.add_type.ensures.grows (Grows-trans c.add_type-2.ensures.grows (Grows-trans c.add_term.ensures.grows c.add_term-2.ensures.grows))
+returns-in_err-add_term-2-clause-grows c = Grows-trans c.add_type.ensures.grows
+    (Grows-trans c.add_type-2.ensures.grows (Grows-trans c.add_term.ensures.grows c.add_term-2.ensures.grows))
 
 pub add_term-requires-3-clause-told : goal.add_term-requires-3-clause-told
 add_term-requires-3-clause-told c =
     let k = c.args.ground.proof.now in
-    let q = c.requires.told in
-    (q.0, Represents-Grows (Grows-trans c.add_type.ensures.grows (Grows-trans c.add_type-2.ensures.grows (Grows-trans c.add_term.ensures.grows c.add_term-2.ensures.grows))) q.0 k.trees c.args.ground.env.now q.1, left-told k c.args.two.id c.sides-second.result c.sides-second.ensures q.0 q.4)
+    let q = c.requires.told in (
+      q.0,
+      Represents-Grows
+          (Grows-trans c.add_type.ensures.grows (Grows-trans c.add_type-2.ensures.grows (Grows-trans c.add_term.ensures.grows c.add_term-2.ensures.grows))) q.0
+          k.trees c.args.ground.env.now q.1,
+      left-told k c.args.two.id c.sides-second.result c.sides-second.ensures q.0 q.4,
+    )
 
 pub returns-in_err-add_term-3-clause-grows : goal.returns-in_err-add_term-3-clause-grows
-returns-in_err-add_term-3-clause-grows c = Grows-trans c.add_type.ensures.grows (Grows-trans c.add_type-2.ensures.grows (Grows-trans c.add_term.ensures.grows (Grows-trans c.add_term-2.ensures.grows c.add_term-3.ensures.grows)))
+returns-in_err-add_term-3-clause-grows c = Grows-trans c.add_type.ensures.grows
+    (Grows-trans c.add_type-2.ensures.grows (Grows-trans c.add_term.ensures.grows (Grows-trans c.add_term-2.ensures.grows c.add_term-3.ensures.grows)))
 
 pub add_term-requires-4-clause-told : goal.add_term-requires-4-clause-told
 add_term-requires-4-clause-told c =
     let k = c.args.ground.proof.now in
-    let q = c.requires.told in
-    (q.0, Represents-Grows (Grows-trans c.add_type.ensures.grows (Grows-trans c.add_type-2.ensures.grows (Grows-trans c.add_term.ensures.grows (Grows-trans c.add_term-2.ensures.grows c.add_term-3.ensures.grows)))) q.0 k.trees c.args.ground.env.now q.1, right-told k c.args.two.id c.sides-second.result c.sides-second.ensures q.0 q.4)
+    let q = c.requires.told in (
+      q.0,
+      Represents-Grows
+          (Grows-trans c.add_type.ensures.grows
+          (Grows-trans c.add_type-2.ensures.grows (Grows-trans c.add_term.ensures.grows (Grows-trans c.add_term-2.ensures.grows c.add_term-3.ensures.grows))))
+          q.0 k.trees c.args.ground.env.now q.1,
+      right-told k c.args.two.id c.sides-second.result c.sides-second.ensures q.0 q.4,
+    )
 
 pub returns-in_err-add_term-4-clause-grows : goal.returns-in_err-add_term-4-clause-grows
-returns-in_err-add_term-4-clause-grows c = Grows-trans c.add_type.ensures.grows (Grows-trans c.add_type-2.ensures.grows (Grows-trans c.add_term.ensures.grows (Grows-trans c.add_term-2.ensures.grows (Grows-trans c.add_term-3.ensures.grows c.add_term-4.ensures.grows))))
+returns-in_err-add_term-4-clause-grows c = Grows-trans c.add_type.ensures.grows
+    (Grows-trans c.add_type-2.ensures.grows
+    (Grows-trans c.add_term.ensures.grows (Grows-trans c.add_term-2.ensures.grows (Grows-trans c.add_term-3.ensures.grows c.add_term-4.ensures.grows))))
 
 pub add_theorem-requires-clause-told : goal.add_theorem-requires-clause-told
 add_theorem-requires-clause-told c =
     let k = c.args.ground.proof.now in
-    let q = c.requires.told in
-    (q.0, Represents-Grows (Grows-trans c.add_type.ensures.grows (Grows-trans c.add_type-2.ensures.grows (Grows-trans c.add_term.ensures.grows (Grows-trans c.add_term-2.ensures.grows (Grows-trans c.add_term-3.ensures.grows c.add_term-4.ensures.grows))))) q.0 k.trees c.args.ground.env.now q.1, q.3)
+    let q = c.requires.told in (
+      q.0,
+      Represents-Grows
+          (Grows-trans c.add_type.ensures.grows
+          (Grows-trans c.add_type-2.ensures.grows
+          (Grows-trans c.add_term.ensures.grows
+          (Grows-trans c.add_term-2.ensures.grows (Grows-trans c.add_term-3.ensures.grows c.add_term-4.ensures.grows))))) q.0 k.trees c.args.ground.env.now
+          q.1,
+      q.3,
+    )
 
 pub returns-in_err-add_theorem-clause-grows : goal.returns-in_err-add_theorem-clause-grows
-returns-in_err-add_theorem-clause-grows c = Grows-trans c.add_type.ensures.grows (Grows-trans c.add_type-2.ensures.grows (Grows-trans c.add_term.ensures.grows (Grows-trans c.add_term-2.ensures.grows (Grows-trans c.add_term-3.ensures.grows (Grows-trans c.add_term-4.ensures.grows c.add_theorem.ensures.grows)))))
+returns-in_err-add_theorem-clause-grows c = Grows-trans c.add_type.ensures.grows
+    (Grows-trans c.add_type-2.ensures.grows
+    (Grows-trans c.add_term.ensures.grows
+    (Grows-trans c.add_term-2.ensures.grows (Grows-trans c.add_term-3.ensures.grows (Grows-trans c.add_term-4.ensures.grows c.add_theorem.ensures.grows)))))
 
 pub add_theorem-requires-2-clause-told : goal.add_theorem-requires-2-clause-told
 add_theorem-requires-2-clause-told c =
     let k = c.args.ground.proof.now in
-    let q = c.requires.told in
-    (q.0, Represents-Grows (Grows-trans c.add_type.ensures.grows (Grows-trans c.add_type-2.ensures.grows (Grows-trans c.add_term.ensures.grows (Grows-trans c.add_term-2.ensures.grows (Grows-trans c.add_term-3.ensures.grows (Grows-trans c.add_term-4.ensures.grows c.add_theorem.ensures.grows)))))) q.0 k.trees c.args.ground.env.now q.1, q.4)
+    let q = c.requires.told in (
+      q.0,
+      Represents-Grows
+          (Grows-trans c.add_type.ensures.grows
+          (Grows-trans c.add_type-2.ensures.grows
+          (Grows-trans c.add_term.ensures.grows
+          (Grows-trans c.add_term-2.ensures.grows
+          (Grows-trans c.add_term-3.ensures.grows (Grows-trans c.add_term-4.ensures.grows c.add_theorem.ensures.grows)))))) q.0 k.trees
+          c.args.ground.env.now q.1,
+      q.4,
+    )
 
 pub returns-in_err-add_theorem-2-clause-grows : goal.returns-in_err-add_theorem-2-clause-grows
-returns-in_err-add_theorem-2-clause-grows c = Grows-trans c.add_type.ensures.grows (Grows-trans c.add_type-2.ensures.grows (Grows-trans c.add_term.ensures.grows (Grows-trans c.add_term-2.ensures.grows (Grows-trans c.add_term-3.ensures.grows (Grows-trans c.add_term-4.ensures.grows (Grows-trans c.add_theorem.ensures.grows c.add_theorem-2.ensures.grows))))))
+returns-in_err-add_theorem-2-clause-grows c = Grows-trans c.add_type.ensures.grows
+    (Grows-trans c.add_type-2.ensures.grows
+    (Grows-trans c.add_term.ensures.grows
+    (Grows-trans c.add_term-2.ensures.grows
+    (Grows-trans c.add_term-3.ensures.grows
+    (Grows-trans c.add_term-4.ensures.grows (Grows-trans c.add_theorem.ensures.grows c.add_theorem-2.ensures.grows))))))
 
 pub call-requires : goal.call-requires
 call-requires c =
@@ -110,8 +157,19 @@ returns-clause-made c =
     let seventh = c.in_ok-add_theorem.ensures.ready given _ sixth told_one in
     let eighth = c.in_ok-add_theorem-2.ensures.ready given _ seventh told_two in
     h ∙ ap (λ l. Some (applied (Sym app_thm_symbol) l)) (ap (trees_at _) c.deref.ensures.value ∙ eighth.are)
-    ∙ (λ i. Some (app_thm_tree given.symbols given.scope (equated-type k c.args.two.id c.sides-second.result c.sides-second.ensures i) (equated-type k c.args.id c.sides-own.result c.sides-own.ensures i) (equated-left k c.args.one.id c.sides-first.result c.sides-first.ensures i) (equated-right k c.args.one.id c.sides-first.result c.sides-first.ensures i) (equated-left k c.args.two.id c.sides-second.result c.sides-second.ensures i) (equated-right k c.args.two.id c.sides-second.result c.sides-second.ensures i) (c.args.one.symbol, sequent_at k.made c.args.one.id) (c.args.two.symbol, sequent_at k.made c.args.two.id))))
+    ∙ (λ i. Some (app_thm_tree given.symbols given.scope (equated-type k c.args.two.id c.sides-second.result c.sides-second.ensures i)
+    (equated-type k c.args.id c.sides-own.result c.sides-own.ensures i) (equated-left k c.args.one.id c.sides-first.result c.sides-first.ensures i)
+    (equated-right k c.args.one.id c.sides-first.result c.sides-first.ensures i)
+    (equated-left k c.args.two.id c.sides-second.result c.sides-second.ensures i)
+    (equated-right k c.args.two.id c.sides-second.result c.sides-second.ensures i) (c.args.one.symbol, sequent_at k.made c.args.one.id)
+    (c.args.two.symbol, sequent_at k.made c.args.two.id))))
     c.call.ensures.made
 
 pub returns-clause-grows : goal.returns-clause-grows
-returns-clause-grows c = Grows-trans c.add_type.ensures.grows (Grows-trans c.add_type-2.ensures.grows (Grows-trans c.add_term.ensures.grows (Grows-trans c.add_term-2.ensures.grows (Grows-trans c.add_term-3.ensures.grows (Grows-trans c.add_term-4.ensures.grows (Grows-trans c.add_theorem.ensures.grows (Grows-trans c.add_theorem-2.ensures.grows (Grows-table _ _ c.call.ensures.keeps))))))))
+returns-clause-grows c = Grows-trans c.add_type.ensures.grows
+    (Grows-trans c.add_type-2.ensures.grows
+    (Grows-trans c.add_term.ensures.grows
+    (Grows-trans c.add_term-2.ensures.grows
+    (Grows-trans c.add_term-3.ensures.grows
+    (Grows-trans c.add_term-4.ensures.grows
+    (Grows-trans c.add_theorem.ensures.grows (Grows-trans c.add_theorem-2.ensures.grows (Grows-table _ _ c.call.ensures.keeps))))))))

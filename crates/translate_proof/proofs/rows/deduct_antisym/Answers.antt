@@ -47,8 +47,12 @@ pub add_abstracted-requires-2-clause-told : goal.add_abstracted-requires-2-claus
 add_abstracted-requires-2-clause-told c =
     let k = c.args.ground.proof.now in
     let q = c.requires.told in
-    let under = under_conclusion k c.args.two.id q.0 in
-    (under, Represents-Grows (Grows-trans c.conclusion.ensures.grows (Grows-trans c.conclusion-2.ensures.grows c.add_abstracted.ensures.grows)) under k.trees c.args.second.now q.3, q.4)
+    let under = under_conclusion k c.args.two.id q.0 in (
+      under,
+      Represents-Grows (Grows-trans c.conclusion.ensures.grows (Grows-trans c.conclusion-2.ensures.grows c.add_abstracted.ensures.grows)) under k.trees
+          c.args.second.now q.3,
+      q.4,
+    )
 
 pub call-requires : goal.call-requires
 call-requires c =
@@ -62,9 +66,12 @@ call-requires c =
     let q_made = c.in_ok-q.ensures.made q.0 first.stands q.5 in
     let second = Ready-more c.conclusion-2.ensures.grows q.0 k.trees c.args.ground.env.now _ _ _ c.in_ok-q.q _ q_made c.in_ok-push-2.ensures.items first in
     let in_first = Represents-Grows (Grows-trans c.conclusion.ensures.grows c.conclusion-2.ensures.grows) under_one k.trees c.args.first.now q.2 in
-    let third = c.in_ok-add_abstracted.ensures.ready under_one _ (Ready-other (Grows-refl c.conclusion-2.new.target) q.0 under_one k.trees c.args.ground.env.now c.args.first.now _ _ second in_first) q.5 in
-    let in_second = Represents-Grows (Grows-trans c.conclusion.ensures.grows (Grows-trans c.conclusion-2.ensures.grows c.add_abstracted.ensures.grows)) under_two k.trees c.args.second.now q.3 in
-    let fourth = c.in_ok-add_abstracted-2.ensures.ready under_two _ (Ready-other (Grows-refl c.add_abstracted.new.target) under_one under_two k.trees c.args.first.now c.args.second.now _ _ third in_second) q.4 in
+    let third = c.in_ok-add_abstracted.ensures.ready under_one _
+    (Ready-other (Grows-refl c.conclusion-2.new.target) q.0 under_one k.trees c.args.ground.env.now c.args.first.now _ _ second in_first) q.5 in
+    let in_second = Represents-Grows (Grows-trans c.conclusion.ensures.grows (Grows-trans c.conclusion-2.ensures.grows c.add_abstracted.ensures.grows))
+    under_two k.trees c.args.second.now q.3 in
+    let fourth = c.in_ok-add_abstracted-2.ensures.ready under_two _
+    (Ready-other (Grows-refl c.add_abstracted.new.target) under_one under_two k.trees c.args.first.now c.args.second.now _ _ third in_second) q.4 in
     subst (AreKnown _) (sym c.deref.ensures.value) fourth.known
 
 pub returns-in_err-q-clause-grows : goal.returns-in_err-q-clause-grows
@@ -77,10 +84,13 @@ pub returns-in_err-add_abstracted-clause-grows : goal.returns-in_err-add_abstrac
 returns-in_err-add_abstracted-clause-grows c = Grows-trans c.conclusion.ensures.grows (Grows-trans c.conclusion-2.ensures.grows c.add_abstracted.ensures.grows)
 
 pub returns-in_err-add_abstracted-2-clause-grows : goal.returns-in_err-add_abstracted-2-clause-grows
-returns-in_err-add_abstracted-2-clause-grows c = Grows-trans c.conclusion.ensures.grows (Grows-trans c.conclusion-2.ensures.grows (Grows-trans c.add_abstracted.ensures.grows c.add_abstracted-2.ensures.grows))
+returns-in_err-add_abstracted-2-clause-grows c = Grows-trans c.conclusion.ensures.grows
+    (Grows-trans c.conclusion-2.ensures.grows (Grows-trans c.add_abstracted.ensures.grows c.add_abstracted-2.ensures.grows))
 
 pub returns-clause-grows : goal.returns-clause-grows
-returns-clause-grows c = Grows-trans c.conclusion.ensures.grows (Grows-trans c.conclusion-2.ensures.grows (Grows-trans c.add_abstracted.ensures.grows (Grows-trans c.add_abstracted-2.ensures.grows (Grows-table _ _ c.call.ensures.keeps))))
+returns-clause-grows c = Grows-trans c.conclusion.ensures.grows
+    (Grows-trans c.conclusion-2.ensures.grows
+    (Grows-trans c.add_abstracted.ensures.grows (Grows-trans c.add_abstracted-2.ensures.grows (Grows-table _ _ c.call.ensures.keeps))))
 
 pub returns-clause-made : goal.returns-clause-made
 returns-clause-made c =
@@ -95,11 +105,15 @@ returns-clause-made c =
     let q_made = c.in_ok-q.ensures.made given first.stands two in
     let second = Ready-more c.conclusion-2.ensures.grows given k.trees c.args.ground.env.now _ _ _ c.in_ok-q.q _ q_made c.in_ok-push-2.ensures.items first in
     let in_first = Represents-Grows (Grows-trans c.conclusion.ensures.grows c.conclusion-2.ensures.grows) under_one k.trees c.args.first.now inside in
-    let third = c.in_ok-add_abstracted.ensures.ready under_one _ (Ready-other (Grows-refl c.conclusion-2.new.target) given under_one k.trees c.args.ground.env.now c.args.first.now _ _ second in_first) two in
-    let in_second = Represents-Grows (Grows-trans c.conclusion.ensures.grows (Grows-trans c.conclusion-2.ensures.grows c.add_abstracted.ensures.grows)) under_two k.trees c.args.second.now other in
-    let fourth = c.in_ok-add_abstracted-2.ensures.ready under_two _ (Ready-other (Grows-refl c.add_abstracted.new.target) under_one under_two k.trees c.args.first.now c.args.second.now _ _ third in_second) one in
+    let third = c.in_ok-add_abstracted.ensures.ready under_one _
+    (Ready-other (Grows-refl c.conclusion-2.new.target) given under_one k.trees c.args.ground.env.now c.args.first.now _ _ second in_first) two in
+    let in_second = Represents-Grows (Grows-trans c.conclusion.ensures.grows (Grows-trans c.conclusion-2.ensures.grows c.add_abstracted.ensures.grows))
+    under_two k.trees c.args.second.now other in
+    let fourth = c.in_ok-add_abstracted-2.ensures.ready under_two _
+    (Ready-other (Grows-refl c.add_abstracted.new.target) under_one under_two k.trees c.args.first.now c.args.second.now _ _ third in_second) one in
     h ∙ ap (λ l. Some (applied (Sym prop_ext_symbol) l)) (ap (trees_at _) c.deref.ensures.value ∙ fourth.are)
-    ∙ ap Some (prop_ext-made given.symbols given.scope (conclusion_at k c.args.one.id) (conclusion_at k c.args.two.id) (premise_at k c.args.one) (premise_at k c.args.two) _ _
+    ∙ ap Some (prop_ext-made given.symbols given.scope (conclusion_at k c.args.one.id) (conclusion_at k c.args.two.id) (premise_at k c.args.one)
+    (premise_at k c.args.two) _ _
     (Holds-tree_at _ c.in_ok-p.p.0 _ (c.conclusion-2.ensures.grows.table.stays.each c.in_ok-p.p.0 _ p))
     (Holds-tree_at _ c.in_ok-q.q.0 _ (c.add_abstracted.ensures.grows.table.stays.each c.in_ok-q.q.0 _ q_made))))
     c.call.ensures.made

@@ -23,7 +23,8 @@ returns-clause-made c =
     (λ r h given stands one two.
     let made = c.in_ok-tree.ensures.made given stands one in
     h given _ (Represents-Grows c.theorem.ensures.grows given k.trees c.args.ground.env.now stands) (c.sequent.ensures.known.1, made) two
-    ∙ ap (λ t. Some (theorem_tree (set_proof t (theorem_row k c.args.one given) given.scope) c.args.two.symbol (sequent_at k.made c.args.two.id))) (conclusion-same k c.args.one.id c.sequent.result.now c.sequent.ensures.is))
+    ∙ ap (λ t. Some (theorem_tree (set_proof t (theorem_row k c.args.one given) given.scope) c.args.two.symbol (sequent_at k.made c.args.two.id)))
+    (conclusion-same k c.args.one.id c.sequent.result.now c.sequent.ensures.is))
     c.theorem_with.ensures.made
 
 pub returns-clause-grows : goal.returns-clause-grows

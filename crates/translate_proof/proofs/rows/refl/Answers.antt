@@ -19,8 +19,11 @@ add_type-requires-clause-told c =
 pub add_term-requires-clause-told : goal.add_term-requires-clause-told
 add_term-requires-clause-told c =
     let k = c.args.ground.proof.now in
-    let q = c.requires.told in
-    (q.0, Represents-Grows c.add_type.ensures.grows q.0 k.trees c.args.ground.env.now q.1, right-told k c.args.id c.sides-own.result c.sides-own.ensures q.0 q.2)
+    let q = c.requires.told in (
+      q.0,
+      Represents-Grows c.add_type.ensures.grows q.0 k.trees c.args.ground.env.now q.1,
+      right-told k c.args.id c.sides-own.result c.sides-own.ensures q.0 q.2,
+    )
 
 pub returns-in_err-add_term-clause-grows : goal.returns-in_err-add_term-clause-grows
 returns-in_err-add_term-clause-grows c = Grows-trans c.add_type.ensures.grows c.add_term.ensures.grows
@@ -43,7 +46,8 @@ returns-clause-made c =
     let first = c.in_ok-add_type.ensures.ready given _ none (type-told k c.args.id c.sides-own.result c.sides-own.ensures given told_own) in
     let second = c.in_ok-add_term.ensures.ready given _ first (right-told k c.args.id c.sides-own.result c.sides-own.ensures given told_own) in
     h ∙ ap (λ l. Some (applied (Sym refl_symbol) l)) (ap (trees_at _) c.deref.ensures.value ∙ second.are)
-    ∙ (λ i. Some (refl_tree given.symbols given.scope (equated-type k c.args.id c.sides-own.result c.sides-own.ensures i) (equated-right k c.args.id c.sides-own.result c.sides-own.ensures i))))
+    ∙ (λ i. Some (refl_tree given.symbols given.scope (equated-type k c.args.id c.sides-own.result c.sides-own.ensures i)
+    (equated-right k c.args.id c.sides-own.result c.sides-own.ensures i))))
     c.call.ensures.made
 
 pub returns-clause-grows : goal.returns-clause-grows

@@ -20,8 +20,11 @@ add_type-requires-clause-told c =
 pub add_term-requires-clause-told : goal.add_term-requires-clause-told
 add_term-requires-clause-told c =
     let k = c.args.ground.proof.now in
-    let q = c.requires.told in
-    (q.0, Represents-Grows c.add_type.ensures.grows q.0 k.trees c.args.ground.env.now q.1, left-told k c.args.one.id c.sides-first.result c.sides-first.ensures q.0 q.2)
+    let q = c.requires.told in (
+      q.0,
+      Represents-Grows c.add_type.ensures.grows q.0 k.trees c.args.ground.env.now q.1,
+      left-told k c.args.one.id c.sides-first.result c.sides-first.ensures q.0 q.2,
+    )
 
 pub returns-in_err-add_term-clause-grows : goal.returns-in_err-add_term-clause-grows
 returns-in_err-add_term-clause-grows c = Grows-trans c.add_type.ensures.grows c.add_term.ensures.grows
@@ -29,8 +32,11 @@ returns-in_err-add_term-clause-grows c = Grows-trans c.add_type.ensures.grows c.
 pub add_term-requires-2-clause-told : goal.add_term-requires-2-clause-told
 add_term-requires-2-clause-told c =
     let k = c.args.ground.proof.now in
-    let q = c.requires.told in
-    (q.0, Represents-Grows (Grows-trans c.add_type.ensures.grows c.add_term.ensures.grows) q.0 k.trees c.args.ground.env.now q.1, right-told k c.args.one.id c.sides-first.result c.sides-first.ensures q.0 q.2)
+    let q = c.requires.told in (
+      q.0,
+      Represents-Grows (Grows-trans c.add_type.ensures.grows c.add_term.ensures.grows) q.0 k.trees c.args.ground.env.now q.1,
+      right-told k c.args.one.id c.sides-first.result c.sides-first.ensures q.0 q.2,
+    )
 
 pub returns-in_err-add_term-2-clause-grows : goal.returns-in_err-add_term-2-clause-grows
 returns-in_err-add_term-2-clause-grows c = Grows-trans c.add_type.ensures.grows (Grows-trans c.add_term.ensures.grows c.add_term-2.ensures.grows)
@@ -38,11 +44,16 @@ returns-in_err-add_term-2-clause-grows c = Grows-trans c.add_type.ensures.grows 
 pub add_theorem-requires-clause-told : goal.add_theorem-requires-clause-told
 add_theorem-requires-clause-told c =
     let k = c.args.ground.proof.now in
-    let q = c.requires.told in
-    (q.0, Represents-Grows (Grows-trans c.add_type.ensures.grows (Grows-trans c.add_term.ensures.grows c.add_term-2.ensures.grows)) q.0 k.trees c.args.ground.env.now q.1, q.2)
+    let q = c.requires.told in (
+      q.0,
+      Represents-Grows (Grows-trans c.add_type.ensures.grows (Grows-trans c.add_term.ensures.grows c.add_term-2.ensures.grows)) q.0 k.trees
+          c.args.ground.env.now q.1,
+      q.2,
+    )
 
 pub returns-in_err-add_theorem-clause-grows : goal.returns-in_err-add_theorem-clause-grows
-returns-in_err-add_theorem-clause-grows c = Grows-trans c.add_type.ensures.grows (Grows-trans c.add_term.ensures.grows (Grows-trans c.add_term-2.ensures.grows c.add_theorem.ensures.grows))
+returns-in_err-add_theorem-clause-grows c = Grows-trans c.add_type.ensures.grows
+    (Grows-trans c.add_term.ensures.grows (Grows-trans c.add_term-2.ensures.grows c.add_theorem.ensures.grows))
 
 pub call-requires : goal.call-requires
 call-requires c =
@@ -66,8 +77,12 @@ returns-clause-made c =
     let third = c.in_ok-add_term-2.ensures.ready given _ second (right-told k c.args.one.id c.sides-first.result c.sides-first.ensures given told_one) in
     let fourth = c.in_ok-add_theorem.ensures.ready given _ third told_one in
     h ∙ ap (λ l. Some (applied (Sym sym_symbol) l)) (ap (trees_at _) c.deref.ensures.value ∙ fourth.are)
-    ∙ (λ i. Some (sym_tree given.symbols given.scope (equated-type k c.args.one.id c.sides-first.result c.sides-first.ensures i) (equated-left k c.args.one.id c.sides-first.result c.sides-first.ensures i) (equated-right k c.args.one.id c.sides-first.result c.sides-first.ensures i) (c.args.one.symbol, sequent_at k.made c.args.one.id))))
+    ∙ (λ i. Some (sym_tree given.symbols given.scope (equated-type k c.args.one.id c.sides-first.result c.sides-first.ensures i)
+    (equated-left k c.args.one.id c.sides-first.result c.sides-first.ensures i)
+    (equated-right k c.args.one.id c.sides-first.result c.sides-first.ensures i) (c.args.one.symbol, sequent_at k.made c.args.one.id))))
     c.call.ensures.made
 
 pub returns-clause-grows : goal.returns-clause-grows
-returns-clause-grows c = Grows-trans c.add_type.ensures.grows (Grows-trans c.add_term.ensures.grows (Grows-trans c.add_term-2.ensures.grows (Grows-trans c.add_theorem.ensures.grows (Grows-table _ _ c.call.ensures.keeps))))
+returns-clause-grows c = Grows-trans c.add_type.ensures.grows
+    (Grows-trans c.add_term.ensures.grows
+    (Grows-trans c.add_term-2.ensures.grows (Grows-trans c.add_theorem.ensures.grows (Grows-table _ _ c.call.ensures.keeps))))

@@ -14,7 +14,8 @@ returns-in_err-domains-clause-keeps c = Keeps-refl c.args.table.now
 pub returns-clause-made : goal.returns-clause-made
 returns-clause-made c =
     IfOk-weaker c.over.result _ _
-    (λ r h domains inside is count. h ∙ ap (λ l. Some (abstractions l (tree_at c.args.table.now c.args.body.0))) (ap (trees_at c.args.table.now) c.deref.ensures.value ∙ c.in_ok-domains.ensures.are domains inside is count))
+    (λ r h domains inside is count. h ∙ ap (λ l. Some (abstractions l (tree_at c.args.table.now c.args.body.0)))
+    (ap (trees_at c.args.table.now) c.deref.ensures.value ∙ c.in_ok-domains.ensures.are domains inside is count))
     c.over.ensures.made
 
 pub returns-clause-known : goal.returns-clause-known

@@ -9,5 +9,6 @@ abbrev pub invariant-loop-place : goal.invariant-loop-place
 invariant-loop-place l = record {
   known : AreKnown l.table l.domains.items;
   rest : l.rest.0 < length l.table;
-  read : (domains : List Tree) (inside : Tree) → Holds l.table l.fn.ty.0 (products domains inside) → length domains ≡ l.count → AreRead l.table domains inside l._place l.domains.items l.rest;
+  read : (domains : List Tree) (inside : Tree) → Holds l.table l.fn.ty.0 (products domains inside) → length domains ≡ l.count
+      → AreRead l.table domains inside l._place l.domains.items l.rest;
 }

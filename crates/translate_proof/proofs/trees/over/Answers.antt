@@ -13,7 +13,8 @@ pub loop-rest-preserved : goal.loop-rest-preserved
 loop-rest-preserved c =
     let split = front-last c.loop-rest.rest.now (record { 0 = 0 }) c.in-len1-up.len_at_least in
     record {
-      over = over_more _ _ _ c.loop-rest.rest.now _ _ c.loop-rest.made c.in_ok-made.made _ split c.loop-rest.invariant.over c.in_ok-made.ensures.keeps c.in_ok-made.ensures.known c.in_ok-made.ensures.made;
+      over = over_more _ _ _ c.loop-rest.rest.now _ _ c.loop-rest.made c.in_ok-made.made _ split c.loop-rest.invariant.over c.in_ok-made.ensures.keeps
+          c.in_ok-made.ensures.known c.in_ok-made.ensures.made;
       shorter = omega (arith, c.loop-rest.invariant.shorter, length-take (length c.loop-rest.rest.now - 1) c.loop-rest.rest.now);
     }
 

@@ -11,5 +11,6 @@ returns c = λ tables.
     let s = sequent_at k.made c.args.id in
     let names = ap length (c.names-names.ensures ∙ c.requires.params.type_vars) in
     let variables = ap length c.variables-variables.ensures ∙ sym (variables-count k.trees _) ∙ ap length c.requires.params.free_vars in
-    let hyps = sym (terms-count k.trees c.ids-hyps.result.now) ∙ ap length (ap (terms_at k.trees) c.ids-hyps.ensures.numbers ∙ ap (λ s. s.hypotheses) c.sequent.ensures.is) in
+    let hyps = sym (terms-count k.trees c.ids-hyps.result.now)
+    ∙ ap length (ap (terms_at k.trees) c.ids-hyps.ensures.numbers ∙ ap (λ s. s.hypotheses) c.sequent.ensures.is) in
     omega (arith, domains-length tables s, names, variables, hyps)

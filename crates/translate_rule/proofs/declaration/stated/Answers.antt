@@ -19,13 +19,18 @@ stated_in-made-requires-clause-step c =
 
 pub stated_in-made-requires-clause-told : goal.stated_in-made-requires-clause-told
 stated_in-made-requires-clause-told c =
-    let q = c.requires.told in
-    (q.0, told-Grows c.in_ok-env.ensures.grows (λ d. TellsContent d q.0 (content_at c.args.earlier.symbols.now c.args.proof.now.made c.args.id)) c.requires.held q.1)
+    let q = c.requires.told in (
+      q.0,
+      told-Grows c.in_ok-env.ensures.grows (λ d. TellsContent d q.0 (content_at c.args.earlier.symbols.now c.args.proof.now.made c.args.id)) c.requires.held
+          q.1,
+    )
 
 pub returns-clause-made : goal.returns-clause-made
 returns-clause-made c =
     IfOk-weaker c.stated_in-made.result _ _
-    (λ r h tables name told. h tables name (told-Grows c.in_ok-env.ensures.grows (λ d. TellsContent d tables (content_at c.args.earlier.symbols.now c.args.proof.now.made c.args.id)) c.requires.held told)) c.stated_in-made.ensures.made
+    (λ r h tables name told. h tables name
+    (told-Grows c.in_ok-env.ensures.grows (λ d. TellsContent d tables (content_at c.args.earlier.symbols.now c.args.proof.now.made c.args.id))
+    c.requires.held told)) c.stated_in-made.ensures.made
 
 pub returns-clause-grows : goal.returns-clause-grows
 returns-clause-grows c = Grows-trans c.in_ok-env.ensures.grows c.stated_in-made.ensures.grows

@@ -14,8 +14,11 @@ use Rattle.translate_rule.proofs.declaration.stated_in.Goals as goal
 
 pub theorem_type-requires-clause-told : goal.theorem_type-requires-clause-told
 theorem_type-requires-clause-told c =
-    let q = c.requires.told in
-    (q.0, content-own (proof_in c.args.step) c.args.step.id c.requires.step.id c.is_proof.ensures c.args.symbols.now (declarations_of c.args.target.now) q.0 q.1)
+    let q = c.requires.told in (
+      q.0,
+      content-own (proof_in c.args.step) c.args.step.id c.requires.step.id c.is_proof.ensures c.args.symbols.now (declarations_of c.args.target.now) q.0
+          q.1,
+    )
 
 pub needed_proof-requires-clause-step : goal.needed_proof-requires-clause-step
 needed_proof-requires-clause-step c = IsReady-Grows c.in_ok-ty.ensures.grows c.args.step c.requires.step
@@ -40,7 +43,9 @@ abstracted-requires-clause-body c =
     let q = c.requires.told in
     let proved = sym (c.has_proof.ensures ∙ ap has_row c.kind.ensures) ∙ c.if-not-has_proof.false in
     let told = content-proved k c.args.step.id c.requires.step.id c.is_proof.ensures c.args.symbols.now (declarations_of c.args.target.now) q.0 proved q.1 in
-    Holds-within _ c.in_ok-inner.inner.0 _ (c.in_ok-inner.ensures.made q.0 (told-Grows c.in_ok-ty.ensures.grows (λ d. TellsProof d q.0 k.made (needed_step c.args.step)) c.requires.step.held told))
+    Holds-within _ c.in_ok-inner.inner.0 _
+    (c.in_ok-inner.ensures.made q.0
+    (told-Grows c.in_ok-ty.ensures.grows (λ d. TellsProof d q.0 k.made (needed_step c.args.step)) c.requires.step.held told))
 
 pub returns-then-not-has_proof-clause-made : goal.returns-then-not-has_proof-clause-made
 returns-then-not-has_proof-clause-made c = λ tables name told.
@@ -67,15 +72,22 @@ returns-clause-made c = λ tables name told.
     let proved = sym (c.has_proof.ensures ∙ ap has_row c.kind.ensures) ∙ c.if-not-has_proof.false in
     let ty = c.in_ok-ty.ensures.made tables (content-own k id l p c.args.symbols.now d tables told) in
     let later = c.in_ok-inner.ensures.grows.table.stays.each c.in_ok-ty.ty.0 _ ty in
-    let needs = told-Grows c.in_ok-ty.ensures.grows (λ d. TellsProof d tables k.made (needed_step c.args.step)) c.requires.step.held (content-proved k id l p c.args.symbols.now d tables proved told) in
+    let needs = told-Grows c.in_ok-ty.ensures.grows (λ d. TellsProof d tables k.made (needed_step c.args.step)) c.requires.step.held
+    (content-proved k id l p c.args.symbols.now d tables proved told) in
     let inner = c.in_ok-inner.ensures.made tables needs in
     let tree = Holds-tree_at _ c.in_ok-ty.ty.0 _ (c.in_ok-body.ensures.keeps.stays.each c.in_ok-ty.ty.0 _ later) in
     let body =
-    Holds-tree_at _ c.in_ok-body.body.0 _ (c.in_ok-body.ensures.made (domains_of tables s) (conclusion_tree tables s) later (c.binder_count-count.ensures tables)) ∙ ap (abstractions (domains_of tables s)) (Holds-tree_at _ c.in_ok-inner.inner.0 _ inner) in
+    Holds-tree_at _ c.in_ok-body.body.0 _
+    (c.in_ok-body.ensures.made (domains_of tables s) (conclusion_tree tables s) later (c.binder_count-count.ensures tables))
+    ∙ ap (abstractions (domains_of tables s)) (Holds-tree_at _ c.in_ok-inner.inner.0 _ inner) in
     (λ i. record { name = name; form = form.Thm; ty = tree i; body = Some (body i) }) ∙ declared-proved k id l p c.args.symbols.now d tables name proved
 
 pub returns-clause-known : goal.returns-clause-known
-returns-clause-known c = record { ty = omega (arith, c.in_ok-ty.ensures.known, c.in_ok-inner.ensures.grows.table.longer, c.in_ok-body.ensures.keeps.longer); body = c.in_ok-body.ensures.known }
+returns-clause-known c = record {
+  ty = omega (arith, c.in_ok-ty.ensures.known, c.in_ok-inner.ensures.grows.table.longer, c.in_ok-body.ensures.keeps.longer);
+  body =
+      c.in_ok-body.ensures.known;
+}
 
 pub returns-in_err-inner-clause-grows : goal.returns-in_err-inner-clause-grows
 returns-in_err-inner-clause-grows c = Grows-trans c.in_ok-ty.ensures.grows c.needed_proof.ensures.grows

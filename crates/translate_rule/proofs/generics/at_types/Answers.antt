@@ -8,7 +8,8 @@ loop-left-init c = under-none Lam _ _ _ c.requires
 
 pub loop-left-preserved : goal.loop-left-preserved
 loop-left-preserved c =
-    under-more Lam _ _ _ _ _ c.loop-left.left _ c.loop-left.abstraction c.in_ok-domain.domain c.in_ok-abstraction.abstraction (omega (arith, c.loop-left-test.true)) c.loop-left.invariant c.in_ok-domain.ensures.keeps c.in_ok-domain.ensures.made
+    under-more Lam _ _ _ _ _ c.loop-left.left _ c.loop-left.abstraction c.in_ok-domain.domain c.in_ok-abstraction.abstraction
+    (omega (arith, c.loop-left-test.true)) c.loop-left.invariant c.in_ok-domain.ensures.keeps c.in_ok-domain.ensures.made
     c.in_ok-abstraction.ensures.keeps c.in_ok-abstraction.ensures.known c.in_ok-abstraction.ensures.made
 
 pub returns-clause-made : goal.returns-clause-made

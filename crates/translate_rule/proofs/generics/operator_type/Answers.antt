@@ -7,7 +7,8 @@ use Rattle.translate_rule.proofs.generics.operator_type.Goals as goal
 
 pub returns-clause-made : goal.returns-clause-made
 returns-clause-made c =
-    IfOk-weaker c.over_types.result _ _ (λ r h. h ∙ ap (λ t. Some (products (replicate c.args.arity types) t)) (Holds-tree_at _ c.in_ok-end.end.0 _ c.in_ok-end.ensures.made)) c.over_types.ensures.made
+    IfOk-weaker c.over_types.result _ _ (λ r h. h
+    ∙ ap (λ t. Some (products (replicate c.args.arity types) t)) (Holds-tree_at _ c.in_ok-end.end.0 _ c.in_ok-end.ensures.made)) c.over_types.ensures.made
 
 pub returns-clause-keeps : goal.returns-clause-keeps
 returns-clause-keeps c = Keeps-trans c.simple_type.ensures.keeps c.over_types.ensures.keeps

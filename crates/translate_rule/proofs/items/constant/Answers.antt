@@ -21,12 +21,18 @@ definition-requires-clause-held c = IsHeld-Grows c.args.target.now _ c.constant_
 pub definition-requires-clause-told : goal.definition-requires-clause-told
 definition-requires-clause-told c = (
   c.requires.told.0,
-  subst (λ ds. TellsTerm ds c.requires.told.0 (term_at c.args.table.now c.args.term.0)) (sym (declarations_of-Grows c.args.target.now _ c.constant_type.ensures.grows c.requires.held)) c.requires.told.1.1,
+  subst (λ ds. TellsTerm ds c.requires.told.0 (term_at c.args.table.now c.args.term.0))
+      (sym (declarations_of-Grows c.args.target.now _ c.constant_type.ensures.grows c.requires.held)) c.requires.told.1.1,
 )
 
 pub returns-clause-made : goal.returns-clause-made
 returns-clause-made c = λ tables told.
     let made =
-    subst (λ ts. (tables : SymbolMap) → TellsType (declarations_of c.args.target.now) tables (type.tree_at ts c.args.id.0) → Holds c.constant_type.new.target.table c.in_ok-ty.ty.0 (generic_tree tables (type.tree_at ts c.args.id.0))) c.types.ensures.types c.in_ok-ty.ensures.made in
-    defined-declared _ _ c.new-name.result c.in_ok-ty.ty c.in_ok-body.body _ _ (c.new-name.ensures ∙ c.in_ok-constant_name.ensures) (c.in_ok-body.ensures.grows.table.stays.each _ _ (made tables told.0))
-    (c.in_ok-body.ensures.made tables (subst (λ ds. TellsTerm ds tables (term_at c.args.table.now c.args.term.0)) (sym (declarations_of-Grows c.args.target.now _ c.constant_type.ensures.grows c.requires.held)) told.1))
+    subst (λ ts. (tables : SymbolMap) → TellsType (declarations_of c.args.target.now) tables (type.tree_at ts c.args.id.0)
+    → Holds c.constant_type.new.target.table c.in_ok-ty.ty.0 (generic_tree tables (type.tree_at ts c.args.id.0))) c.types.ensures.types
+    c.in_ok-ty.ensures.made in
+    defined-declared _ _ c.new-name.result c.in_ok-ty.ty c.in_ok-body.body _ _ (c.new-name.ensures ∙ c.in_ok-constant_name.ensures)
+    (c.in_ok-body.ensures.grows.table.stays.each _ _ (made tables told.0))
+    (c.in_ok-body.ensures.made tables
+    (subst (λ ds. TellsTerm ds tables (term_at c.args.table.now c.args.term.0))
+    (sym (declarations_of-Grows c.args.target.now _ c.constant_type.ensures.grows c.requires.held)) told.1))

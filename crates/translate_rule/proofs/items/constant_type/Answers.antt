@@ -13,16 +13,24 @@ ty-requires-clause-held c = IsHeld-Keeps c.args.target.now _ c.type_scope.ensure
 pub ty-requires-clause-told : goal.ty-requires-clause-told
 ty-requires-clause-told c = (
   c.requires.told.0,
-  subst (λ ds. TellsType ds c.requires.told.0 (type.tree_at c.args.types.now c.args.id.0)) (sym (declarations_of-Keeps c.args.target.now _ c.type_scope.ensures.keeps c.requires.held)) c.requires.told.1,
+  subst (λ ds. TellsType ds c.requires.told.0 (type.tree_at c.args.types.now c.args.id.0))
+      (sym (declarations_of-Keeps c.args.target.now _ c.type_scope.ensures.keeps c.requires.held)) c.requires.told.1,
 )
 
 pub returns-clause-made : goal.returns-clause-made
 returns-clause-made c =
     IfOk-weaker c.over_types.result _ _
     (λ r h tables told.
-    generic-made tables (type.tree_at c.args.types.now c.args.id.0) _ _ _ _ _ c.deref.result.now c.len.result c.in_ok-tree.tree c.in_ok-inside.inside r (c.deref.ensures.value ∙ c.in_ok-names.ensures) (c.len.ensures ∙ sym c.deref.ensures.len) c.in_ok-scope.ensures.made
-    (c.in_ok-tree.ensures.made tables (subst (λ ds. TellsType ds tables (type.tree_at c.args.types.now c.args.id.0)) (sym (declarations_of-Keeps c.args.target.now _ c.type_scope.ensures.keeps c.requires.held)) told)) c.in_ok-inside.ensures.made h)
+    generic-made tables (type.tree_at c.args.types.now c.args.id.0) _ _ _ _ _ c.deref.result.now c.len.result c.in_ok-tree.tree c.in_ok-inside.inside r
+    (c.deref.ensures.value ∙ c.in_ok-names.ensures) (c.len.ensures ∙ sym c.deref.ensures.len) c.in_ok-scope.ensures.made
+    (c.in_ok-tree.ensures.made tables
+    (subst (λ ds. TellsType ds tables (type.tree_at c.args.types.now c.args.id.0))
+    (sym (declarations_of-Keeps c.args.target.now _ c.type_scope.ensures.keeps c.requires.held)) told)) c.in_ok-inside.ensures.made h)
     c.over_types.ensures.made
 
 pub returns-clause-grows : goal.returns-clause-grows
-returns-clause-grows c = record { table = Keeps-trans c.type_scope.ensures.keeps (Keeps-trans c.ty.ensures.keeps (Keeps-trans c.terms.ensures.keeps c.over_types.ensures.keeps)); decls = c.ty.ensures.decls }
+returns-clause-grows c = record {
+  table = Keeps-trans c.type_scope.ensures.keeps (Keeps-trans c.ty.ensures.keeps (Keeps-trans c.terms.ensures.keeps c.over_types.ensures.keeps));
+  decls =
+      c.ty.ensures.decls;
+}

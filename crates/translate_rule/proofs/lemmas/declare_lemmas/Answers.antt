@@ -22,7 +22,8 @@ declare-requires-clause-body c = omega (arith, count-at _ c.in_ok-ids.ids.items 
 
 pub declare-requires-clause-follows : goal.declare-requires-clause-follows
 declare-requires-clause-follows c =
-    sym-follows-at _ c.in_ok-ids.ids.items c.deref.result.now c.deref.ensures.value c.in_ok-ids.ensures.made _ (declarations_of-Keeps c.args.target.now _ c.add_nodes.ensures.keeps c.requires.held ∙ c.requires.none)
+    sym-follows-at _ c.in_ok-ids.ids.items c.deref.result.now c.deref.ensures.value c.in_ok-ids.ensures.made _
+    (declarations_of-Keeps c.args.target.now _ c.add_nodes.ensures.keeps c.requires.held ∙ c.requires.none)
 
 pub declare-requires-2-clause-ty : goal.declare-requires-2-clause-ty
 declare-requires-2-clause-ty c = omega (arith, count-at _ c.in_ok-ids.ids.items c.deref-2.result.now c.deref-2.ensures.value c.in_ok-ids.ensures.made)
@@ -34,12 +35,14 @@ pub declare-requires-2-clause-follows : goal.declare-requires-2-clause-follows
 declare-requires-2-clause-follows c =
     trans-follows-at _ c.in_ok-ids.ids.items c.deref-2.result.now c.deref-2.ensures.value
     (ap (λ t. trees_at t c.in_ok-ids.ids.items) c.in_ok-declare.ensures.table ∙ c.in_ok-ids.ensures.made) _
-    (declared-sym _ c.in_ok-ids.ids.items c.deref.result.now c.deref.ensures.value c.in_ok-ids.ensures.made _ _ (declarations_of-Keeps c.args.target.now _ c.add_nodes.ensures.keeps c.requires.held ∙ c.requires.none) c.in_ok-declare.ensures.declared)
+    (declared-sym _ c.in_ok-ids.ids.items c.deref.result.now c.deref.ensures.value c.in_ok-ids.ensures.made _ _
+    (declarations_of-Keeps c.args.target.now _ c.add_nodes.ensures.keeps c.requires.held ∙ c.requires.none) c.in_ok-declare.ensures.declared)
 
 pub returns-clause-declared : goal.returns-clause-declared
 returns-clause-declared c =
     on_ok_weaker c.declare-2.result
     (declared-trans _ c.in_ok-ids.ids.items c.deref-2.result.now c.deref-2.ensures.value
     (ap (λ t. trees_at t c.in_ok-ids.ids.items) c.in_ok-declare.ensures.table ∙ c.in_ok-ids.ensures.made) _ _
-    (declared-sym _ c.in_ok-ids.ids.items c.deref.result.now c.deref.ensures.value c.in_ok-ids.ensures.made _ _ (declarations_of-Keeps c.args.target.now _ c.add_nodes.ensures.keeps c.requires.held ∙ c.requires.none) c.in_ok-declare.ensures.declared))
+    (declared-sym _ c.in_ok-ids.ids.items c.deref.result.now c.deref.ensures.value c.in_ok-ids.ensures.made _ _
+    (declarations_of-Keeps c.args.target.now _ c.add_nodes.ensures.keeps c.requires.held ∙ c.requires.none) c.in_ok-declare.ensures.declared))
     c.declare-2.ensures.declared

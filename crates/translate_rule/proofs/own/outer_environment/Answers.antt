@@ -15,6 +15,7 @@ returns-clause-made c =
     IfOk-weaker c.of_types.result _ _
     (λ env h d symbols declared. h (over_types (given_at d symbols (sequent_at k.made c.args.step.id))) k.trees
     (rw c.names.ensures
-    (placed-outer k c.args.step.id d symbols c.args.target.now c.requires.step.held declared _ _ c.requires.step.params _ (subst (AreKnown k.trees) (sym hyps) c.sequent.ensures.known.0) (ap (terms_at k.trees) hyps ∙ ap (λ s. s.hypotheses) c.sequent.ensures.is) _
+    (placed-outer k c.args.step.id d symbols c.args.target.now c.requires.step.held declared _ _ c.requires.step.params _
+    (subst (AreKnown k.trees) (sym hyps) c.sequent.ensures.known.0) (ap (terms_at k.trees) hyps ∙ ap (λ s. s.hypotheses) c.sequent.ensures.is) _
     (omega (arith, count)))))
     c.of_types.ensures.made

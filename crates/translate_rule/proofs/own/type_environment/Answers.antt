@@ -9,4 +9,5 @@ returns-clause-made c =
     let one_term = rw c.terms-table.ensures at c.view-conclusion.ensures.distinct in
     let one_type = rw c.terms-table.ensures at c.ty-ty.ensures.one_each in
     IfOk-weaker c.of_types.result _ _
-    (λ env h d symbols declared. h (given_over d symbols c.args.names.now) k.trees (placed-over k.trees d symbols c.args.target.now c.requires.held declared one_type one_term c.args.names.now)) c.of_types.ensures.made
+    (λ env h d symbols declared. h (given_over d symbols c.args.names.now) k.trees
+    (placed-over k.trees d symbols c.args.target.now c.requires.held declared one_type one_term c.args.names.now)) c.of_types.ensures.made

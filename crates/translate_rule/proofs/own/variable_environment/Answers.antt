@@ -11,5 +11,6 @@ returns-clause-made c =
     let k = c.args.step.ground.proof.now in
     let s = sequent_at k.made c.args.step.id in
     IfOk-weaker c.of.result _ _
-    (λ env h d symbols declared. h (with_scope (given_at d symbols s) (scope_of_terms symbols s)) k.trees (placed-variables k c.args.step.id d symbols c.args.target.now c.requires.step.held declared _ _ c.requires.step.params))
+    (λ env h d symbols declared. h (with_scope (given_at d symbols s) (scope_of_terms symbols s)) k.trees
+    (placed-variables k c.args.step.id d symbols c.args.target.now c.requires.step.held declared _ _ c.requires.step.params))
     c.of.ensures.made

@@ -27,7 +27,8 @@ over_types-requires-clause-told c =
     let s = sequent_at k.made c.args.one.id in
     let tables = c.requires.told.0 in (
       tables,
-      subst (TellsType d tables) (sym (whole-type k c.args.one.id names whole predicate c.requires.defines)) (part-type-told d tables names whole predicate c.args.one.symbol s c.args.part c.requires.told.1),
+      subst (TellsType d tables) (sym (whole-type k c.args.one.id names whole predicate c.requires.defines))
+          (part-type-told d tables names whole predicate c.args.one.symbol s c.args.part c.requires.told.1),
       part-sequent-told d tables names whole predicate c.args.one.symbol s c.args.part c.requires.told.1,
     )
 
@@ -45,7 +46,8 @@ over_type-requires-clause-told c =
     let s = sequent_at k.made c.args.one.id in
     let tables = c.requires.told.0 in (
       tables,
-      subst (TellsType d tables) (sym (whole-type k c.args.one.id names whole predicate c.requires.defines)) (part-type-told d tables names whole predicate c.args.one.symbol s c.args.part c.requires.told.1),
+      subst (TellsType d tables) (sym (whole-type k c.args.one.id names whole predicate c.requires.defines))
+          (part-type-told d tables names whole predicate c.args.one.symbol s c.args.part c.requires.told.1),
       part-sequent-told d tables names whole predicate c.args.one.symbol s c.args.part c.requires.told.1,
     )
 
@@ -63,7 +65,8 @@ over_type-requires-in-Representation-clause-told c =
     let s = sequent_at k.made c.args.one.id in
     let tables = c.requires.told.0 in (
       tables,
-      subst (TellsType d tables) (sym (whole-type k c.args.one.id names whole predicate c.requires.defines)) (part-type-told d tables names whole predicate c.args.one.symbol s c.args.part c.requires.told.1),
+      subst (TellsType d tables) (sym (whole-type k c.args.one.id names whole predicate c.requires.defines))
+          (part-type-told d tables names whole predicate c.args.one.symbol s c.args.part c.requires.told.1),
       part-sequent-told d tables names whole predicate c.args.one.symbol s c.args.part c.requires.told.1,
     )
 
@@ -81,7 +84,8 @@ returns-in-Operator-clause-made c =
     let variables = sym (ap (λ p. part_variables p names whole) c.in-Operator.is) in
     IfOk-weaker c.over_types.result _ _
     (λ r h tables told.
-    let made = h tables (subst (TellsType d tables) (sym same) (part-type-told d tables names whole predicate j s c.args.part told)) (part-sequent-told d tables names whole predicate j s c.args.part told) in
+    let made = h tables (subst (TellsType d tables) (sym same) (part-type-told d tables names whole predicate j s c.args.part told))
+    (part-sequent-told d tables names whole predicate j s c.args.part told) in
     subst (λ t. Holds c.over_types.new.target.table r.0 t) (λ i. part_definition_tree tables (variables i) (part_symbol c.args.part) (same i) j s) made)
     c.over_types.ensures.made
 
@@ -99,7 +103,8 @@ returns-in-Abstraction-clause-made c =
     let variables = ap type_variables c.requires.known.constants.from ∙ sym (ap (λ p. part_variables p names whole) c.in-Abstraction.is) in
     IfOk-weaker c.over_type.result _ _
     (λ r h tables told.
-    let made = h tables (subst (TellsType d tables) (sym same) (part-type-told d tables names whole predicate j s c.args.part told)) (part-sequent-told d tables names whole predicate j s c.args.part told) in
+    let made = h tables (subst (TellsType d tables) (sym same) (part-type-told d tables names whole predicate j s c.args.part told))
+    (part-sequent-told d tables names whole predicate j s c.args.part told) in
     subst (λ t. Holds c.over_type.new.target.table r.0 t) (λ i. part_definition_tree tables (variables i) (part_symbol c.args.part) (same i) j s) made)
     c.over_type.ensures.made
 
@@ -117,6 +122,8 @@ returns-in-Representation-clause-made c =
     let variables = ap type_variables c.requires.known.constants.to ∙ sym (ap (λ p. part_variables p names whole) c.in-Representation.is) in
     IfOk-weaker c.over_type-in-Representation.result _ _
     (λ r h tables told.
-    let made = h tables (subst (TellsType d tables) (sym same) (part-type-told d tables names whole predicate j s c.args.part told)) (part-sequent-told d tables names whole predicate j s c.args.part told) in
-    subst (λ t. Holds c.over_type-in-Representation.new.target.table r.0 t) (λ i. part_definition_tree tables (variables i) (part_symbol c.args.part) (same i) j s) made)
+    let made = h tables (subst (TellsType d tables) (sym same) (part-type-told d tables names whole predicate j s c.args.part told))
+    (part-sequent-told d tables names whole predicate j s c.args.part told) in
+    subst (λ t. Holds c.over_type-in-Representation.new.target.table r.0 t)
+    (λ i. part_definition_tree tables (variables i) (part_symbol c.args.part) (same i) j s) made)
     c.over_type-in-Representation.ensures.made

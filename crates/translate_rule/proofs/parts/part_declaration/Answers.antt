@@ -15,7 +15,8 @@ part_body-requires-clause-held c = IsHeld-Grows c.args.target.now _ c.part_type.
 pub part_body-requires-clause-told : goal.part_body-requires-clause-told
 part_body-requires-clause-told c = (
   c.requires.told.0,
-  subst (λ ds. TellsContent ds c.requires.told.0 (part_at c.args.proof.now c.args.part c.args.view c.args.one)) (sym (declarations_of-Grows c.args.target.now _ c.part_type.ensures.grows c.requires.held)) c.requires.told.1,
+  subst (λ ds. TellsContent ds c.requires.told.0 (part_at c.args.proof.now c.args.part c.args.view c.args.one))
+      (sym (declarations_of-Grows c.args.target.now _ c.part_type.ensures.grows c.requires.held)) c.requires.told.1,
 )
 
 pub returns-in_err-body-clause-grows : goal.returns-in_err-body-clause-grows
@@ -25,9 +26,12 @@ pub returns-clause-made : goal.returns-clause-made
 returns-clause-made c = λ tables told.
     let k = c.args.proof.now in
     let x = c.args.view in
-    let later = subst (λ ds. TellsContent ds tables (part_at k c.args.part x c.args.one)) (sym (declarations_of-Grows c.args.target.now _ c.part_type.ensures.grows c.requires.held)) told in
-    defined-declared _ _ c.new-name.result c.in_ok-ty.ty c.in_ok-body.body _ _ (c.new-name.ensures ∙ c.in_ok-part_name.ensures) (c.part_body.ensures.grows.table.stays.each _ _ (c.in_ok-ty.ensures.made tables told)) (c.in_ok-body.ensures.made tables later)
-    ∙ part-declared tables c.args.part (names_of_view x) (type_at k.trees x.whole.0) (term_at k.trees x.predicate.0) c.args.one.symbol (sequent_at k.made c.args.one.id)
+    let later = subst (λ ds. TellsContent ds tables (part_at k c.args.part x c.args.one))
+    (sym (declarations_of-Grows c.args.target.now _ c.part_type.ensures.grows c.requires.held)) told in
+    defined-declared _ _ c.new-name.result c.in_ok-ty.ty c.in_ok-body.body _ _ (c.new-name.ensures ∙ c.in_ok-part_name.ensures)
+    (c.part_body.ensures.grows.table.stays.each _ _ (c.in_ok-ty.ensures.made tables told)) (c.in_ok-body.ensures.made tables later)
+    ∙ part-declared tables c.args.part (names_of_view x) (type_at k.trees x.whole.0) (term_at k.trees x.predicate.0) c.args.one.symbol
+    (sequent_at k.made c.args.one.id)
 
 pub returns-clause-known : goal.returns-clause-known
 returns-clause-known c = record { ty = omega (arith, c.in_ok-ty.ensures.known, c.part_body.ensures.grows.table.longer); body = c.in_ok-body.ensures.known }

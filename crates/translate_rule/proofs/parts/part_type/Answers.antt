@@ -32,7 +32,8 @@ constant_type-requires-clause-told c =
     let d = declarations_of c.args.target.now in
     let x = c.args.view in
     let tables = c.requires.told.0 in
-    let told = abstraction-told d tables (names_of_view x) (type_at k.trees x.whole.0) (term_at k.trees x.predicate.0) c.args.one.symbol (sequent_at k.made c.args.one.id) c.args.part c.in-Abstraction.is c.requires.told.1 in
+    let told = abstraction-told d tables (names_of_view x) (type_at k.trees x.whole.0) (term_at k.trees x.predicate.0) c.args.one.symbol
+    (sequent_at k.made c.args.one.id) c.args.part c.in-Abstraction.is c.requires.told.1 in
     let there = ap (λ ts. type.tree_at ts x.abs_type.0) (c.types-types.ensures.types ∙ ap (λ t. t.types) c.terms.ensures) ∙ c.requires.known.constants.from in
     (tables, subst (TellsType d tables) (sym there) told)
 
@@ -45,7 +46,8 @@ constant_type-requires-in-Representation-clause-told c =
     let d = declarations_of c.args.target.now in
     let x = c.args.view in
     let tables = c.requires.told.0 in
-    let told = representation-told d tables (names_of_view x) (type_at k.trees x.whole.0) (term_at k.trees x.predicate.0) c.args.one.symbol (sequent_at k.made c.args.one.id) c.args.part c.in-Representation.is c.requires.told.1 in
+    let told = representation-told d tables (names_of_view x) (type_at k.trees x.whole.0) (term_at k.trees x.predicate.0) c.args.one.symbol
+    (sequent_at k.made c.args.one.id) c.args.part c.in-Representation.is c.requires.told.1 in
     let there = ap (λ ts. type.tree_at ts x.rep_type.0) (c.types-types.ensures.types ∙ ap (λ t. t.types) c.terms.ensures) ∙ c.requires.known.constants.to in
     (tables, subst (TellsType d tables) (sym there) told)
 
@@ -59,8 +61,11 @@ returns-in-Abstraction-clause-made c =
     let there = ap (λ ts. type.tree_at ts x.abs_type.0) (c.types-types.ensures.types ∙ ap (λ t. t.types) c.terms.ensures) ∙ c.requires.known.constants.from in
     IfOk-weaker c.constant_type.result _ _
     (λ r h tables told.
-    let own = abstraction-told d tables names whole (term_at k.trees x.predicate.0) c.args.one.symbol (sequent_at k.made c.args.one.id) c.args.part c.in-Abstraction.is told in
-    subst (λ t. Holds c.constant_type.new.target.table r.0 t) (ap (generic_tree tables) there ∙ sym (ap (λ p. part_type tables p names whole) c.in-Abstraction.is)) (h tables (subst (TellsType d tables) (sym there) own)))
+    let own = abstraction-told d tables names whole (term_at k.trees x.predicate.0) c.args.one.symbol (sequent_at k.made c.args.one.id) c.args.part
+    c.in-Abstraction.is told in
+    subst (λ t. Holds c.constant_type.new.target.table r.0 t)
+    (ap (generic_tree tables) there ∙ sym (ap (λ p. part_type tables p names whole) c.in-Abstraction.is))
+    (h tables (subst (TellsType d tables) (sym there) own)))
     c.constant_type.ensures.made
 
 pub returns-in-Representation-clause-made : goal.returns-in-Representation-clause-made
@@ -73,6 +78,9 @@ returns-in-Representation-clause-made c =
     let there = ap (λ ts. type.tree_at ts x.rep_type.0) (c.types-types.ensures.types ∙ ap (λ t. t.types) c.terms.ensures) ∙ c.requires.known.constants.to in
     IfOk-weaker c.constant_type-in-Representation.result _ _
     (λ r h tables told.
-    let own = representation-told d tables names whole (term_at k.trees x.predicate.0) c.args.one.symbol (sequent_at k.made c.args.one.id) c.args.part c.in-Representation.is told in
-    subst (λ t. Holds c.constant_type-in-Representation.new.target.table r.0 t) (ap (generic_tree tables) there ∙ sym (ap (λ p. part_type tables p names whole) c.in-Representation.is)) (h tables (subst (TellsType d tables) (sym there) own)))
+    let own = representation-told d tables names whole (term_at k.trees x.predicate.0) c.args.one.symbol (sequent_at k.made c.args.one.id) c.args.part
+    c.in-Representation.is told in
+    subst (λ t. Holds c.constant_type-in-Representation.new.target.table r.0 t)
+    (ap (generic_tree tables) there ∙ sym (ap (λ p. part_type tables p names whole) c.in-Representation.is))
+    (h tables (subst (TellsType d tables) (sym there) own)))
     c.constant_type-in-Representation.ensures.made

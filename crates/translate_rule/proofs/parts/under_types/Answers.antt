@@ -12,7 +12,8 @@ at_types-requires c = Holds-within _ c.in_ok-body.body.0 _ (c.in_ok-body.ensures
 pub returns-clause-made : goal.returns-clause-made
 returns-clause-made c =
     IfOk-weaker c.at_types.result _ _
-    (λ r h given stands whole told. h ∙ ap (λ t. Some (abstractions (replicate c.args.count types) t)) (Holds-tree_at _ c.in_ok-body.body.0 _ (c.in_ok-body.ensures.made given stands whole told))) c.at_types.ensures.made
+    (λ r h given stands whole told. h ∙ ap (λ t. Some (abstractions (replicate c.args.count types) t))
+    (Holds-tree_at _ c.in_ok-body.body.0 _ (c.in_ok-body.ensures.made given stands whole told))) c.at_types.ensures.made
 
 pub returns-clause-grows : goal.returns-clause-grows
 returns-clause-grows c = Grows-trans c.type_part.ensures.grows (Grows-table _ _ c.at_types.ensures.keeps)

@@ -35,7 +35,8 @@ abs_thm-requires-clause-told c =
       given,
       Represents-Grows c.under_variable.ensures.grows given k.trees c.args.step.ground.env.now (c.requires.step.stands d q.0 refl),
       c.in_ok-inner.ensures.made d q.0 refl,
-      variable-told d q.0 (variable_view k.trees c.in-Variable.variable) _ _ _ by (ap (parameters_view k.trees) (sym c.in-Variable.is) ∙ c.params.ensures.is) (own-told k id l p d q.0 q.1),
+      variable-told d q.0 (variable_view k.trees c.in-Variable.variable) _ _ _ by (ap (parameters_view k.trees) (sym c.in-Variable.is) ∙ c.params.ensures.is)
+          (own-told k id l p d q.0 q.1),
       one-told k id l p d q.0 q.1 c.args.one.id c.requires.premise,
     )
 
@@ -53,9 +54,12 @@ returns-clause-made c =
     IfOk-weaker c.abs_thm.result _ _
     (λ r h tables told.
     let own = given_at d tables (own_sequent c.args.step) in
-    h own (Represents-Grows c.under_variable.ensures.grows own k.trees c.args.step.ground.env.now (c.requires.step.stands d tables refl)) (c.in_ok-inner.ensures.made d tables refl)
-    (variable-told d tables (variable_view k.trees c.in-Variable.variable) _ _ _ by given (own-told k id l p d tables told)) (one-told k id l p d tables told c.args.one.id c.requires.premise)
-    ∙ ap (λ g. Some (proof_tree tables (own_scope k id tables) kinds.AbsThm js ss g)) given ∙ ap Some (tree-kind k id l p tables (own_scope k id tables) kinds.AbsThm c.requires.kind js ss))
+    h own (Represents-Grows c.under_variable.ensures.grows own k.trees c.args.step.ground.env.now (c.requires.step.stands d tables refl))
+    (c.in_ok-inner.ensures.made d tables refl)
+    (variable-told d tables (variable_view k.trees c.in-Variable.variable) _ _ _ by given (own-told k id l p d tables told))
+    (one-told k id l p d tables told c.args.one.id c.requires.premise)
+    ∙ ap (λ g. Some (proof_tree tables (own_scope k id tables) kinds.AbsThm js ss g)) given
+    ∙ ap Some (tree-kind k id l p tables (own_scope k id tables) kinds.AbsThm c.requires.kind js ss))
     c.abs_thm.ensures.made
 
 pub returns-clause-grows : goal.returns-clause-grows
@@ -67,4 +71,5 @@ unreachable-requires c =
     let id = c.args.step.id in
     let l = c.requires.step.id in
     let p = c.is_proof.ensures in
-    variable-given k.trees c.params.result.now _ _ _ (rule-one k id l p kinds.AbsThm c.args.one.id c.requires.kind c.requires.premise) c.params.ensures.is c.in_default.not-Variable
+    variable-given k.trees c.params.result.now _ _ _ (rule-one k id l p kinds.AbsThm c.args.one.id c.requires.kind c.requires.premise) c.params.ensures.is
+    c.in_default.not-Variable

@@ -32,8 +32,12 @@ deduct_antisym-requires-clause-told c =
     let given = given_at d q.0 s in (
       given,
       Represents-Grows whole given k.trees c.args.step.ground.env.now (c.requires.step.stands d q.0 refl),
-      subst (λ t. Represents (with_scope given (under_proof t (own_scope k id q.0))) c.under_proof-2.new.target k.trees c.in_ok-first.first) (ap (λ (s : Sequent). s.conclusion) c.sequent.ensures.is) (Represents-Grows c.under_proof-2.ensures.grows (with_scope given (under_proof _ (own_scope k id q.0))) k.trees c.in_ok-first.first (c.in_ok-first.ensures.made d q.0 refl)),
-      subst (λ t. Represents (with_scope given (under_proof t (own_scope k id q.0))) c.under_proof-2.new.target k.trees c.in_ok-second.second) (ap (λ (s : Sequent). s.conclusion) c.sequent-2.ensures.is) (c.in_ok-second.ensures.made d q.0 declared),
+      subst (λ t. Represents (with_scope given (under_proof t (own_scope k id q.0))) c.under_proof-2.new.target k.trees c.in_ok-first.first)
+          (ap (λ (s : Sequent). s.conclusion) c.sequent.ensures.is)
+          (Represents-Grows c.under_proof-2.ensures.grows (with_scope given (under_proof _ (own_scope k id q.0))) k.trees c.in_ok-first.first
+          (c.in_ok-first.ensures.made d q.0 refl)),
+      subst (λ t. Represents (with_scope given (under_proof t (own_scope k id q.0))) c.under_proof-2.new.target k.trees c.in_ok-second.second)
+          (ap (λ (s : Sequent). s.conclusion) c.sequent-2.ensures.is) (c.in_ok-second.ensures.made d q.0 declared),
       first-told k id l p d q.0 q.1 c.args.one.id c.args.two.id c.requires.premises,
       second-told k id l p d q.0 q.1 c.args.one.id c.args.two.id c.requires.premises,
     )
@@ -54,9 +58,14 @@ returns-clause-made c =
     (λ r h tables told.
     let given = given_at d tables s in
     h given (Represents-Grows whole given k.trees c.args.step.ground.env.now (c.requires.step.stands d tables refl))
-    (subst (λ t. Represents (with_scope given (under_proof t (own_scope k id tables))) c.under_proof-2.new.target k.trees c.in_ok-first.first) (ap (λ (s : Sequent). s.conclusion) c.sequent.ensures.is) (Represents-Grows c.under_proof-2.ensures.grows (with_scope given (under_proof _ (own_scope k id tables))) k.trees c.in_ok-first.first (c.in_ok-first.ensures.made d tables refl)))
-    (subst (λ t. Represents (with_scope given (under_proof t (own_scope k id tables))) c.under_proof-2.new.target k.trees c.in_ok-second.second) (ap (λ (s : Sequent). s.conclusion) c.sequent-2.ensures.is) (c.in_ok-second.ensures.made d tables declared))
-    (first-told k id l p d tables told c.args.one.id c.args.two.id c.requires.premises) (second-told k id l p d tables told c.args.one.id c.args.two.id c.requires.premises)
+    (subst (λ t. Represents (with_scope given (under_proof t (own_scope k id tables))) c.under_proof-2.new.target k.trees c.in_ok-first.first)
+    (ap (λ (s : Sequent). s.conclusion) c.sequent.ensures.is)
+    (Represents-Grows c.under_proof-2.ensures.grows (with_scope given (under_proof _ (own_scope k id tables))) k.trees c.in_ok-first.first
+    (c.in_ok-first.ensures.made d tables refl)))
+    (subst (λ t. Represents (with_scope given (under_proof t (own_scope k id tables))) c.under_proof-2.new.target k.trees c.in_ok-second.second)
+    (ap (λ (s : Sequent). s.conclusion) c.sequent-2.ensures.is) (c.in_ok-second.ensures.made d tables declared))
+    (first-told k id l p d tables told c.args.one.id c.args.two.id c.requires.premises)
+    (second-told k id l p d tables told c.args.one.id c.args.two.id c.requires.premises)
     ∙ ap Some (tree-kind k id l p tables (own_scope k id tables) kinds.DeductAntisym c.requires.kind js ss))
     c.deduct_antisym.ensures.made
 

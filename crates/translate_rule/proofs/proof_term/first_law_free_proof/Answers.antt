@@ -43,9 +43,12 @@ returns-clause-made c =
     IfOk-weaker c.first_law_free.result _ _
     (λ r h tables told.
     let given = given_at d tables (own_sequent c.args.step) in
-    h given law.operator.names law.law (Represents-Grows c.outer_environment.ensures.grows given k.trees c.args.step.ground.env.now (c.requires.step.stands d tables refl)) (c.in_ok-outer.ensures.made d tables refl) (own-told k id l p d tables told)
+    h given law.operator.names law.law
+    (Represents-Grows c.outer_environment.ensures.grows given k.trees c.args.step.ground.env.now (c.requires.step.stands d tables refl))
+    (c.in_ok-outer.ensures.made d tables refl) (own-told k id l p d tables told)
     (one-told k id l p d tables told c.args.one.id c.requires.premise)
-    ∙ ap (λ g. Some (proof_tree tables (own_scope k id tables) kinds.FirstLaw js ss g)) law.operator.given ∙ ap Some (tree-kind k id l p tables (own_scope k id tables) kinds.FirstLaw c.requires.kind js ss))
+    ∙ ap (λ g. Some (proof_tree tables (own_scope k id tables) kinds.FirstLaw js ss g)) law.operator.given
+    ∙ ap Some (tree-kind k id l p tables (own_scope k id tables) kinds.FirstLaw c.requires.kind js ss))
     c.first_law_free.ensures.made
 
 pub returns-clause-grows : goal.returns-clause-grows

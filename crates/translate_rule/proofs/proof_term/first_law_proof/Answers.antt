@@ -20,7 +20,8 @@ first_law_free_proof-requires-clause-law c =
     let id = c.args.step.id in
     let l = c.requires.step.id in
     let p = c.is_proof.ensures in
-    first-law k id c.args.one.id _ (subst (λ v. IsOperatorStep v k id) c.in-Five.is c.law_version.ensures) (rule-one k id l p kinds.FirstLaw c.args.one.id c.requires.kind c.requires.premise)
+    first-law k id c.args.one.id _ (subst (λ v. IsOperatorStep v k id) c.in-Five.is c.law_version.ensures)
+    (rule-one k id l p kinds.FirstLaw c.args.one.id c.requires.kind c.requires.premise)
 
 pub first_law_bound_proof-requires-clause-law : goal.first_law_bound_proof-requires-clause-law
 first_law_bound_proof-requires-clause-law c =
@@ -28,4 +29,5 @@ first_law_bound_proof-requires-clause-law c =
     let id = c.args.step.id in
     let l = c.requires.step.id in
     let p = c.is_proof.ensures in
-    first-law k id c.args.one.id _ (subst (λ v. IsOperatorStep v k id) c.in-Six.is c.law_version.ensures) (rule-one k id l p kinds.FirstLaw c.args.one.id c.requires.kind c.requires.premise)
+    first-law k id c.args.one.id _ (subst (λ v. IsOperatorStep v k id) c.in-Six.is c.law_version.ensures)
+    (rule-one k id l p kinds.FirstLaw c.args.one.id c.requires.kind c.requires.premise)

@@ -35,7 +35,8 @@ constant_list-requires-clause-told c =
     let p = c.is_proof.ensures in
     let d = declarations_of c.args.target.now in
     let q = c.requires.told in
-    let given = ap (λ l. Parameters.constants (pairs_view k.trees l)) c.deref.ensures.value ∙ ap (parameters_view k.trees) (sym c.in-List.is) ∙ c.params.ensures.is in (
+    let given = ap (λ l. Parameters.constants (pairs_view k.trees l)) c.deref.ensures.value ∙ ap (parameters_view k.trees) (sym c.in-List.is)
+    ∙ c.params.ensures.is in (
       given_at d q.0 (own_sequent c.args.step),
       c.requires.step.stands d q.0 refl,
       list-told d q.0 (pairs_view k.trees c.deref.result.now) _ given q.1.given,
@@ -49,13 +50,16 @@ returns-clause-made c =
     let l = c.requires.step.id in
     let p = c.is_proof.ensures in
     let d = declarations_of c.args.target.now in
-    let given = ap (λ l. Parameters.constants (pairs_view k.trees l)) c.deref.ensures.value ∙ ap (parameters_view k.trees) (sym c.in-List.is) ∙ c.params.ensures.is in
+    let given = ap (λ l. Parameters.constants (pairs_view k.trees l)) c.deref.ensures.value ∙ ap (parameters_view k.trees) (sym c.in-List.is)
+    ∙ c.params.ensures.is in
     let js = c.args.one.symbol ∷ [] in
     let ss = sequent_at k.made c.args.one.id ∷ [] in
     IfOk-weaker c.constant_list.result _ _
     (λ r h tables told.
-    h (given_at d tables (own_sequent c.args.step)) (c.requires.step.stands d tables refl) (list-told d tables (pairs_view k.trees c.deref.result.now) _ given told.given) (one-told k id l p d tables told c.args.one.id c.requires.premise)
-    ∙ ap (λ g. Some (proof_tree tables (own_scope k id tables) kinds.DefineConstList js ss g)) given ∙ ap Some (tree-kind k id l p tables (own_scope k id tables) kinds.DefineConstList c.requires.kind js ss))
+    h (given_at d tables (own_sequent c.args.step)) (c.requires.step.stands d tables refl)
+    (list-told d tables (pairs_view k.trees c.deref.result.now) _ given told.given) (one-told k id l p d tables told c.args.one.id c.requires.premise)
+    ∙ ap (λ g. Some (proof_tree tables (own_scope k id tables) kinds.DefineConstList js ss g)) given
+    ∙ ap Some (tree-kind k id l p tables (own_scope k id tables) kinds.DefineConstList c.requires.kind js ss))
     c.constant_list.ensures.made
 
 pub unreachable-requires : goal.unreachable-requires
@@ -64,4 +68,5 @@ unreachable-requires c =
     let id = c.args.step.id in
     let l = c.requires.step.id in
     let p = c.is_proof.ensures in
-    list-given k.trees c.params.result.now _ _ _ (rule-one k id l p kinds.DefineConstList c.args.one.id c.requires.kind c.requires.premise) c.params.ensures.is c.in_default.not-List
+    list-given k.trees c.params.result.now _ _ _ (rule-one k id l p kinds.DefineConstList c.args.one.id c.requires.kind c.requires.premise) c.params.ensures.is
+    c.in_default.not-List

@@ -45,7 +45,8 @@ returns-in-Refl-clause-made c =
     IfOk-weaker c.refl.result _ _
     (λ r h tables told.
     h (given_at d tables (own_sequent c.args.step)) (c.requires.step.stands d tables refl) (own-told k id l p d tables told)
-    ∙ ap Some (refl-tree tables (own_scope k id tables) [] (rule-of k id l p kinds.Refl e) ∙ tree-plain k id l p tables (own_scope k id tables) c.args.symbols.now kinds.Refl e refl))
+    ∙ ap Some (refl-tree tables (own_scope k id tables) [] (rule-of k id l p kinds.Refl e)
+    ∙ tree-plain k id l p tables (own_scope k id tables) c.args.symbols.now kinds.Refl e refl))
     c.refl.ensures.made
 
 pub refl-requires-in-BetaConv-clause-equation : goal.refl-requires-in-BetaConv-clause-equation
@@ -77,7 +78,8 @@ returns-in-BetaConv-clause-made c =
     IfOk-weaker c.refl-in-BetaConv.result _ _
     (λ r h tables told.
     h (given_at d tables (own_sequent c.args.step)) (c.requires.step.stands d tables refl) (own-told k id l p d tables told)
-    ∙ ap Some (beta-tree tables (own_scope k id tables) [] (rule-of k id l p kinds.BetaConv e) ∙ tree-plain k id l p tables (own_scope k id tables) c.args.symbols.now kinds.BetaConv e refl))
+    ∙ ap Some (beta-tree tables (own_scope k id tables) [] (rule-of k id l p kinds.BetaConv e)
+    ∙ tree-plain k id l p tables (own_scope k id tables) c.args.symbols.now kinds.BetaConv e refl))
     c.refl-in-BetaConv.ensures.made
 
 pub refl-requires-in-DefineConst-clause-equation : goal.refl-requires-in-DefineConst-clause-equation
@@ -109,7 +111,8 @@ returns-in-DefineConst-clause-made c =
     IfOk-weaker c.refl-in-DefineConst.result _ _
     (λ r h tables told.
     h (given_at d tables (own_sequent c.args.step)) (c.requires.step.stands d tables refl) (own-told k id l p d tables told)
-    ∙ ap Some (define-tree tables (own_scope k id tables) [] (rule-of k id l p kinds.DefineConst e) ∙ tree-plain k id l p tables (own_scope k id tables) c.args.symbols.now kinds.DefineConst e refl))
+    ∙ ap Some (define-tree tables (own_scope k id tables) [] (rule-of k id l p kinds.DefineConst e)
+    ∙ tree-plain k id l p tables (own_scope k id tables) c.args.symbols.now kinds.DefineConst e refl))
     c.refl-in-DefineConst.ensures.made
 
 pub returns-in-Assume-clause-made : goal.returns-in-Assume-clause-made
@@ -124,7 +127,8 @@ returns-in-Assume-clause-made c =
     (λ r h tables told.
     let scope = own_scope k id tables in
     h (given_at d tables (own_sequent c.args.step)) k.trees (c.requires.step.stands d tables refl) c.sequent.ensures.known.1
-    ∙ ap Some (ap (λ (t : Sequent). scope.proofs t.conclusion) c.sequent.ensures.is ∙ assume-tree tables scope [] (rule-of k id l p kinds.Assume e) ∙ tree-plain k id l p tables scope c.args.symbols.now kinds.Assume e refl))
+    ∙ ap Some (ap (λ (t : Sequent). scope.proofs t.conclusion) c.sequent.ensures.is ∙ assume-tree tables scope [] (rule-of k id l p kinds.Assume e)
+    ∙ tree-plain k id l p tables scope c.args.symbols.now kinds.Assume e refl))
     c.hypothesis.ensures.made
 
 pub one_premise-requires-clause-one : goal.one_premise-requires-clause-one
@@ -154,7 +158,9 @@ returns-in-AbsThm-clause-made c =
     let l = c.requires.step.id in
     let p = c.is_proof.ensures in
     IfOk-weaker c.abs_proof.result _ _
-    (λ r h tables told. h tables told ∙ ap Some (tree-one k id l p tables (own_scope k id tables) c.args.symbols.now (own_step c.args.step).kind refl c.one_premise.result c.one_premise.ensures)) c.abs_proof.ensures.made
+    (λ r h tables told. h tables told ∙ ap Some
+    (tree-one k id l p tables (own_scope k id tables) c.args.symbols.now (own_step c.args.step).kind refl c.one_premise.result c.one_premise.ensures))
+    c.abs_proof.ensures.made
 
 pub one_premise-requires-in-Sym-clause-one : goal.one_premise-requires-in-Sym-clause-one
 one_premise-requires-in-Sym-clause-one c =
@@ -174,7 +180,8 @@ sym-requires-clause-equation c =
     let id = c.args.step.id in
     let l = c.requires.step.id in
     let p = c.is_proof.ensures in
-    equation-step k c.one_premise-in-Sym.result.id (sym-equation (rule-one k id l p kinds.Sym c.one_premise-in-Sym.result.id (sym c.kind.ensures ∙ c.in-Sym.is) c.one_premise-in-Sym.ensures.is))
+    equation-step k c.one_premise-in-Sym.result.id
+    (sym-equation (rule-one k id l p kinds.Sym c.one_premise-in-Sym.result.id (sym c.kind.ensures ∙ c.in-Sym.is) c.one_premise-in-Sym.ensures.is))
 
 pub sym-requires-clause-told : goal.sym-requires-clause-told
 sym-requires-clause-told c =
@@ -183,8 +190,11 @@ sym-requires-clause-told c =
     let l = c.requires.step.id in
     let p = c.is_proof.ensures in
     let q = c.requires.told in
-    let d = declarations_of c.args.target.now in
-    (given_at d q.0 (own_sequent c.args.step), c.requires.step.stands d q.0 refl, one-told k id l p d q.0 q.1 c.one_premise-in-Sym.result.id c.one_premise-in-Sym.ensures.is)
+    let d = declarations_of c.args.target.now in (
+      given_at d q.0 (own_sequent c.args.step),
+      c.requires.step.stands d q.0 refl,
+      one-told k id l p d q.0 q.1 c.one_premise-in-Sym.result.id c.one_premise-in-Sym.ensures.is,
+    )
 
 pub returns-in-Sym-clause-made : goal.returns-in-Sym-clause-made
 returns-in-Sym-clause-made c =
@@ -195,8 +205,10 @@ returns-in-Sym-clause-made c =
     let d = declarations_of c.args.target.now in
     IfOk-weaker c.sym.result _ _
     (λ r h tables told.
-    h (given_at d tables (own_sequent c.args.step)) (c.requires.step.stands d tables refl) (one-told k id l p d tables told c.one_premise-in-Sym.result.id c.one_premise-in-Sym.ensures.is)
-    ∙ ap Some (tree-one k id l p tables (own_scope k id tables) c.args.symbols.now kinds.Sym (sym c.kind.ensures ∙ c.in-Sym.is) c.one_premise-in-Sym.result c.one_premise-in-Sym.ensures))
+    h (given_at d tables (own_sequent c.args.step)) (c.requires.step.stands d tables refl)
+    (one-told k id l p d tables told c.one_premise-in-Sym.result.id c.one_premise-in-Sym.ensures.is)
+    ∙ ap Some (tree-one k id l p tables (own_scope k id tables) c.args.symbols.now kinds.Sym (sym c.kind.ensures ∙ c.in-Sym.is) c.one_premise-in-Sym.result
+    c.one_premise-in-Sym.ensures))
     c.sym.ensures.made
 
 pub one_premise-requires-in-Subst-clause-one : goal.one_premise-requires-in-Subst-clause-one
@@ -226,7 +238,9 @@ returns-in-Subst-clause-made c =
     let l = c.requires.step.id in
     let p = c.is_proof.ensures in
     IfOk-weaker c.subst_proof.result _ _
-    (λ r h tables told. h tables told ∙ ap Some (tree-one k id l p tables (own_scope k id tables) c.args.symbols.now (own_step c.args.step).kind refl c.one_premise-in-Subst.result c.one_premise-in-Subst.ensures)) c.subst_proof.ensures.made
+    (λ r h tables told. h tables told ∙ ap Some
+    (tree-one k id l p tables (own_scope k id tables) c.args.symbols.now (own_step c.args.step).kind refl c.one_premise-in-Subst.result
+    c.one_premise-in-Subst.ensures)) c.subst_proof.ensures.made
 
 pub one_premise-one-requires-clause-one : goal.one_premise-one-requires-clause-one
 one_premise-one-requires-clause-one c =
@@ -247,8 +261,11 @@ theorem-requires-clause-told c =
     let l = c.requires.step.id in
     let p = c.is_proof.ensures in
     let q = c.requires.told in
-    let d = declarations_of c.args.target.now in
-    (given_at d q.0 (own_sequent c.args.step), c.requires.step.stands d q.0 refl, one-told k id l p d q.0 q.1 c.one_premise-one.result.id c.one_premise-one.ensures.is)
+    let d = declarations_of c.args.target.now in (
+      given_at d q.0 (own_sequent c.args.step),
+      c.requires.step.stands d q.0 refl,
+      one-told k id l p d q.0 q.1 c.one_premise-one.result.id c.one_premise-one.ensures.is,
+    )
 
 pub returns-in-Restate-clause-made : goal.returns-in-Restate-clause-made
 returns-in-Restate-clause-made c =
@@ -259,8 +276,10 @@ returns-in-Restate-clause-made c =
     let d = declarations_of c.args.target.now in
     IfOk-weaker c.theorem.result _ _
     (λ r h tables told.
-    h (given_at d tables (own_sequent c.args.step)) (c.requires.step.stands d tables refl) (one-told k id l p d tables told c.one_premise-one.result.id c.one_premise-one.ensures.is)
-    ∙ ap Some (tree-one k id l p tables (own_scope k id tables) c.args.symbols.now kinds.Restate (sym c.kind.ensures ∙ c.in-Restate.is) c.one_premise-one.result c.one_premise-one.ensures))
+    h (given_at d tables (own_sequent c.args.step)) (c.requires.step.stands d tables refl)
+    (one-told k id l p d tables told c.one_premise-one.result.id c.one_premise-one.ensures.is)
+    ∙ ap Some (tree-one k id l p tables (own_scope k id tables) c.args.symbols.now kinds.Restate (sym c.kind.ensures ∙ c.in-Restate.is) c.one_premise-one.result
+    c.one_premise-one.ensures))
     c.theorem.ensures.made
 
 pub one_premise-requires-in-DefineConstList-clause-one : goal.one_premise-requires-in-DefineConstList-clause-one
@@ -290,7 +309,9 @@ returns-in-DefineConstList-clause-made c =
     let l = c.requires.step.id in
     let p = c.is_proof.ensures in
     IfOk-weaker c.list_proof.result _ _
-    (λ r h tables told. h tables told ∙ ap Some (tree-one k id l p tables (own_scope k id tables) c.args.symbols.now (own_step c.args.step).kind refl c.one_premise-in-DefineConstList.result c.one_premise-in-DefineConstList.ensures)) c.list_proof.ensures.made
+    (λ r h tables told. h tables told ∙ ap Some
+    (tree-one k id l p tables (own_scope k id tables) c.args.symbols.now (own_step c.args.step).kind refl c.one_premise-in-DefineConstList.result
+    c.one_premise-in-DefineConstList.ensures)) c.list_proof.ensures.made
 
 pub one_premise-requires-in-FirstLaw-clause-one : goal.one_premise-requires-in-FirstLaw-clause-one
 one_premise-requires-in-FirstLaw-clause-one c =
@@ -319,7 +340,9 @@ returns-in-FirstLaw-clause-made c =
     let l = c.requires.step.id in
     let p = c.is_proof.ensures in
     IfOk-weaker c.first_law_proof.result _ _
-    (λ r h tables told. h tables told ∙ ap Some (tree-one k id l p tables (own_scope k id tables) c.args.symbols.now (own_step c.args.step).kind refl c.one_premise-in-FirstLaw.result c.one_premise-in-FirstLaw.ensures)) c.first_law_proof.ensures.made
+    (λ r h tables told. h tables told ∙ ap Some
+    (tree-one k id l p tables (own_scope k id tables) c.args.symbols.now (own_step c.args.step).kind refl c.one_premise-in-FirstLaw.result
+    c.one_premise-in-FirstLaw.ensures)) c.first_law_proof.ensures.made
 
 pub one_premise-requires-in-SecondLaw-clause-one : goal.one_premise-requires-in-SecondLaw-clause-one
 one_premise-requires-in-SecondLaw-clause-one c =
@@ -348,7 +371,9 @@ returns-in-SecondLaw-clause-made c =
     let l = c.requires.step.id in
     let p = c.is_proof.ensures in
     IfOk-weaker c.second_law_proof.result _ _
-    (λ r h tables told. h tables told ∙ ap Some (tree-one k id l p tables (own_scope k id tables) c.args.symbols.now (own_step c.args.step).kind refl c.one_premise-in-SecondLaw.result c.one_premise-in-SecondLaw.ensures)) c.second_law_proof.ensures.made
+    (λ r h tables told. h tables told ∙ ap Some
+    (tree-one k id l p tables (own_scope k id tables) c.args.symbols.now (own_step c.args.step).kind refl c.one_premise-in-SecondLaw.result
+    c.one_premise-in-SecondLaw.ensures)) c.second_law_proof.ensures.made
 
 pub two_premises-requires-clause-two : goal.two_premises-requires-clause-two
 two_premises-requires-clause-two c =
@@ -372,7 +397,9 @@ eq_mp-requires-clause-equation c =
     let id = c.args.step.id in
     let l = c.requires.step.id in
     let p = c.is_proof.ensures in
-    equation-step k c.two_premises.result.0.id (eq_mp-equation (rule-two k id l p kinds.EqMp c.two_premises.result.0.id c.two_premises.result.1.id (sym c.kind.ensures ∙ c.in-EqMp.is) c.two_premises.ensures.are))
+    equation-step k c.two_premises.result.0.id
+    (eq_mp-equation (rule-two k id l p kinds.EqMp c.two_premises.result.0.id c.two_premises.result.1.id (sym c.kind.ensures ∙ c.in-EqMp.is)
+    c.two_premises.ensures.are))
 
 pub eq_mp-requires-clause-told : goal.eq_mp-requires-clause-told
 eq_mp-requires-clause-told c =
@@ -398,9 +425,11 @@ returns-in-EqMp-clause-made c =
     let e = sym c.kind.ensures ∙ c.in-EqMp.is in
     IfOk-weaker c.eq_mp.result _ _
     (λ r h tables told.
-    h (given_at d tables (own_sequent c.args.step)) (c.requires.step.stands d tables refl) (first-told k id l p d tables told c.two_premises.result.0.id c.two_premises.result.1.id c.two_premises.ensures.are)
+    h (given_at d tables (own_sequent c.args.step)) (c.requires.step.stands d tables refl)
+    (first-told k id l p d tables told c.two_premises.result.0.id c.two_premises.result.1.id c.two_premises.ensures.are)
     (second-told k id l p d tables told c.two_premises.result.0.id c.two_premises.result.1.id c.two_premises.ensures.are)
-    ∙ ap Some (tree-two k id l p tables (own_scope k id tables) c.args.symbols.now kinds.EqMp e c.two_premises.result.0 c.two_premises.result.1 c.two_premises.ensures))
+    ∙ ap Some (tree-two k id l p tables (own_scope k id tables) c.args.symbols.now kinds.EqMp e c.two_premises.result.0 c.two_premises.result.1
+    c.two_premises.ensures))
     c.eq_mp.ensures.made
 
 pub two_premises-requires-in-AppThm-clause-two : goal.two_premises-requires-in-AppThm-clause-two
@@ -425,7 +454,9 @@ app_thm-requires-clause-own c =
     let id = c.args.step.id in
     let l = c.requires.step.id in
     let p = c.is_proof.ensures in
-    equation-step k id (app_thm-own (rule-two k id l p kinds.AppThm c.two_premises-in-AppThm.result.0.id c.two_premises-in-AppThm.result.1.id (sym c.kind.ensures ∙ c.in-AppThm.is) c.two_premises-in-AppThm.ensures.are))
+    equation-step k id
+    (app_thm-own (rule-two k id l p kinds.AppThm c.two_premises-in-AppThm.result.0.id c.two_premises-in-AppThm.result.1.id
+    (sym c.kind.ensures ∙ c.in-AppThm.is) c.two_premises-in-AppThm.ensures.are))
 
 pub app_thm-requires-clause-first : goal.app_thm-requires-clause-first
 app_thm-requires-clause-first c =
@@ -433,7 +464,9 @@ app_thm-requires-clause-first c =
     let id = c.args.step.id in
     let l = c.requires.step.id in
     let p = c.is_proof.ensures in
-    equation-step k c.two_premises-in-AppThm.result.0.id (app_thm-first (rule-two k id l p kinds.AppThm c.two_premises-in-AppThm.result.0.id c.two_premises-in-AppThm.result.1.id (sym c.kind.ensures ∙ c.in-AppThm.is) c.two_premises-in-AppThm.ensures.are))
+    equation-step k c.two_premises-in-AppThm.result.0.id
+    (app_thm-first (rule-two k id l p kinds.AppThm c.two_premises-in-AppThm.result.0.id c.two_premises-in-AppThm.result.1.id
+    (sym c.kind.ensures ∙ c.in-AppThm.is) c.two_premises-in-AppThm.ensures.are))
 
 pub app_thm-requires-clause-second : goal.app_thm-requires-clause-second
 app_thm-requires-clause-second c =
@@ -441,7 +474,9 @@ app_thm-requires-clause-second c =
     let id = c.args.step.id in
     let l = c.requires.step.id in
     let p = c.is_proof.ensures in
-    equation-step k c.two_premises-in-AppThm.result.1.id (app_thm-second (rule-two k id l p kinds.AppThm c.two_premises-in-AppThm.result.0.id c.two_premises-in-AppThm.result.1.id (sym c.kind.ensures ∙ c.in-AppThm.is) c.two_premises-in-AppThm.ensures.are))
+    equation-step k c.two_premises-in-AppThm.result.1.id
+    (app_thm-second (rule-two k id l p kinds.AppThm c.two_premises-in-AppThm.result.0.id c.two_premises-in-AppThm.result.1.id
+    (sym c.kind.ensures ∙ c.in-AppThm.is) c.two_premises-in-AppThm.ensures.are))
 
 pub app_thm-requires-clause-told : goal.app_thm-requires-clause-told
 app_thm-requires-clause-told c =
@@ -468,9 +503,13 @@ returns-in-AppThm-clause-made c =
     let e = sym c.kind.ensures ∙ c.in-AppThm.is in
     IfOk-weaker c.app_thm.result _ _
     (λ r h tables told.
-    h (given_at d tables (own_sequent c.args.step)) (c.requires.step.stands d tables refl) (own-told k id l p d tables told) (first-told k id l p d tables told c.two_premises-in-AppThm.result.0.id c.two_premises-in-AppThm.result.1.id c.two_premises-in-AppThm.ensures.are)
+    h (given_at d tables (own_sequent c.args.step)) (c.requires.step.stands d tables refl) (own-told k id l p d tables told)
+    (first-told k id l p d tables told c.two_premises-in-AppThm.result.0.id c.two_premises-in-AppThm.result.1.id c.two_premises-in-AppThm.ensures.are)
     (second-told k id l p d tables told c.two_premises-in-AppThm.result.0.id c.two_premises-in-AppThm.result.1.id c.two_premises-in-AppThm.ensures.are)
-    ∙ ap Some (app_thm-tree tables (own_scope k id tables) c.two_premises-in-AppThm.result.0.symbol c.two_premises-in-AppThm.result.1.symbol (rule-two k id l p kinds.AppThm c.two_premises-in-AppThm.result.0.id c.two_premises-in-AppThm.result.1.id e c.two_premises-in-AppThm.ensures.are) ∙ tree-two k id l p tables (own_scope k id tables) c.args.symbols.now kinds.AppThm e c.two_premises-in-AppThm.result.0 c.two_premises-in-AppThm.result.1 c.two_premises-in-AppThm.ensures))
+    ∙ ap Some (app_thm-tree tables (own_scope k id tables) c.two_premises-in-AppThm.result.0.symbol c.two_premises-in-AppThm.result.1.symbol
+    (rule-two k id l p kinds.AppThm c.two_premises-in-AppThm.result.0.id c.two_premises-in-AppThm.result.1.id e c.two_premises-in-AppThm.ensures.are)
+    ∙ tree-two k id l p tables (own_scope k id tables) c.args.symbols.now kinds.AppThm e c.two_premises-in-AppThm.result.0 c.two_premises-in-AppThm.result.1
+    c.two_premises-in-AppThm.ensures))
     c.app_thm.ensures.made
 
 pub two_premises-requires-in-DeductAntisym-clause-two : goal.two_premises-requires-in-DeductAntisym-clause-two
@@ -504,7 +543,9 @@ returns-in-DeductAntisym-clause-made c =
     let l = c.requires.step.id in
     let p = c.is_proof.ensures in
     IfOk-weaker c.deduct_proof.result _ _
-    (λ r h tables told. h tables told ∙ ap Some (tree-two k id l p tables (own_scope k id tables) c.args.symbols.now (own_step c.args.step).kind refl c.two_premises-in-DeductAntisym.result.0 c.two_premises-in-DeductAntisym.result.1 c.two_premises-in-DeductAntisym.ensures)) c.deduct_proof.ensures.made
+    (λ r h tables told. h tables told ∙ ap Some
+    (tree-two k id l p tables (own_scope k id tables) c.args.symbols.now (own_step c.args.step).kind refl c.two_premises-in-DeductAntisym.result.0
+    c.two_premises-in-DeductAntisym.result.1 c.two_premises-in-DeductAntisym.ensures)) c.deduct_proof.ensures.made
 
 pub two_premises-requires-in-Trans-clause-two : goal.two_premises-requires-in-Trans-clause-two
 two_premises-requires-in-Trans-clause-two c =
@@ -528,7 +569,9 @@ trans-requires-clause-first c =
     let id = c.args.step.id in
     let l = c.requires.step.id in
     let p = c.is_proof.ensures in
-    equation-step k c.two_premises-in-Trans.result.0.id (trans-first (rule-two k id l p kinds.Trans c.two_premises-in-Trans.result.0.id c.two_premises-in-Trans.result.1.id (sym c.kind.ensures ∙ c.in-Trans.is) c.two_premises-in-Trans.ensures.are))
+    equation-step k c.two_premises-in-Trans.result.0.id
+    (trans-first (rule-two k id l p kinds.Trans c.two_premises-in-Trans.result.0.id c.two_premises-in-Trans.result.1.id (sym c.kind.ensures ∙ c.in-Trans.is)
+    c.two_premises-in-Trans.ensures.are))
 
 pub trans-requires-clause-second : goal.trans-requires-clause-second
 trans-requires-clause-second c =
@@ -536,7 +579,9 @@ trans-requires-clause-second c =
     let id = c.args.step.id in
     let l = c.requires.step.id in
     let p = c.is_proof.ensures in
-    equation-step k c.two_premises-in-Trans.result.1.id (trans-second (rule-two k id l p kinds.Trans c.two_premises-in-Trans.result.0.id c.two_premises-in-Trans.result.1.id (sym c.kind.ensures ∙ c.in-Trans.is) c.two_premises-in-Trans.ensures.are))
+    equation-step k c.two_premises-in-Trans.result.1.id
+    (trans-second (rule-two k id l p kinds.Trans c.two_premises-in-Trans.result.0.id c.two_premises-in-Trans.result.1.id
+    (sym c.kind.ensures ∙ c.in-Trans.is) c.two_premises-in-Trans.ensures.are))
 
 pub trans-requires-clause-told : goal.trans-requires-clause-told
 trans-requires-clause-told c =
@@ -562,9 +607,11 @@ returns-in-Trans-clause-made c =
     let e = sym c.kind.ensures ∙ c.in-Trans.is in
     IfOk-weaker c.trans.result _ _
     (λ r h tables told.
-    h (given_at d tables (own_sequent c.args.step)) (c.requires.step.stands d tables refl) (first-told k id l p d tables told c.two_premises-in-Trans.result.0.id c.two_premises-in-Trans.result.1.id c.two_premises-in-Trans.ensures.are)
+    h (given_at d tables (own_sequent c.args.step)) (c.requires.step.stands d tables refl)
+    (first-told k id l p d tables told c.two_premises-in-Trans.result.0.id c.two_premises-in-Trans.result.1.id c.two_premises-in-Trans.ensures.are)
     (second-told k id l p d tables told c.two_premises-in-Trans.result.0.id c.two_premises-in-Trans.result.1.id c.two_premises-in-Trans.ensures.are)
-    ∙ ap Some (tree-two k id l p tables (own_scope k id tables) c.args.symbols.now kinds.Trans e c.two_premises-in-Trans.result.0 c.two_premises-in-Trans.result.1 c.two_premises-in-Trans.ensures))
+    ∙ ap Some (tree-two k id l p tables (own_scope k id tables) c.args.symbols.now kinds.Trans e c.two_premises-in-Trans.result.0
+    c.two_premises-in-Trans.result.1 c.two_premises-in-Trans.ensures))
     c.trans.ensures.made
 
 pub two_premises-requires-in-ProveHyp-clause-two : goal.two_premises-requires-in-ProveHyp-clause-two
@@ -607,7 +654,9 @@ returns-in-ProveHyp-clause-made c =
     let e = sym c.kind.ensures ∙ c.in-ProveHyp.is in
     IfOk-weaker c.prove_hyp.result _ _
     (λ r h tables told.
-    h (given_at d tables (own_sequent c.args.step)) (c.requires.step.stands d tables refl) (first-told k id l p d tables told c.two_premises-in-ProveHyp.result.0.id c.two_premises-in-ProveHyp.result.1.id c.two_premises-in-ProveHyp.ensures.are)
+    h (given_at d tables (own_sequent c.args.step)) (c.requires.step.stands d tables refl)
+    (first-told k id l p d tables told c.two_premises-in-ProveHyp.result.0.id c.two_premises-in-ProveHyp.result.1.id c.two_premises-in-ProveHyp.ensures.are)
     (second-told k id l p d tables told c.two_premises-in-ProveHyp.result.0.id c.two_premises-in-ProveHyp.result.1.id c.two_premises-in-ProveHyp.ensures.are)
-    ∙ ap Some (tree-two k id l p tables (own_scope k id tables) c.args.symbols.now kinds.ProveHyp e c.two_premises-in-ProveHyp.result.0 c.two_premises-in-ProveHyp.result.1 c.two_premises-in-ProveHyp.ensures))
+    ∙ ap Some (tree-two k id l p tables (own_scope k id tables) c.args.symbols.now kinds.ProveHyp e c.two_premises-in-ProveHyp.result.0
+    c.two_premises-in-ProveHyp.result.1 c.two_premises-in-ProveHyp.ensures))
     c.prove_hyp.ensures.made

@@ -20,7 +20,8 @@ second_law_free_proof-requires-clause-law c =
     let id = c.args.step.id in
     let l = c.requires.step.id in
     let p = c.is_proof.ensures in
-    second-law k id c.args.one.id _ (subst (λ v. IsOperatorStep v k id) c.in-Five.is c.law_version.ensures) (rule-one k id l p kinds.SecondLaw c.args.one.id c.requires.kind c.requires.premise)
+    second-law k id c.args.one.id _ (subst (λ v. IsOperatorStep v k id) c.in-Five.is c.law_version.ensures)
+    (rule-one k id l p kinds.SecondLaw c.args.one.id c.requires.kind c.requires.premise)
 
 pub second_law_bound_proof-requires-clause-law : goal.second_law_bound_proof-requires-clause-law
 second_law_bound_proof-requires-clause-law c =
@@ -28,4 +29,5 @@ second_law_bound_proof-requires-clause-law c =
     let id = c.args.step.id in
     let l = c.requires.step.id in
     let p = c.is_proof.ensures in
-    second-law k id c.args.one.id _ (subst (λ v. IsOperatorStep v k id) c.in-Six.is c.law_version.ensures) (rule-one k id l p kinds.SecondLaw c.args.one.id c.requires.kind c.requires.premise)
+    second-law k id c.args.one.id _ (subst (λ v. IsOperatorStep v k id) c.in-Six.is c.law_version.ensures)
+    (rule-one k id l p kinds.SecondLaw c.args.one.id c.requires.kind c.requires.premise)

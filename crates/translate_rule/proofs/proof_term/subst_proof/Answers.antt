@@ -17,7 +17,9 @@ subst-requires-clause-substituted c =
     let id = c.args.step.id in
     let l = c.requires.step.id in
     let p = c.is_proof.ensures in
-    rw c.get.ensures (substituted-by k c.in-Subst.put id c.args.one.id (rule-one k id l p kinds.Subst c.args.one.id c.requires.kind c.requires.premise) (ap (parameters_view k.trees) (sym c.in-Subst.is) ∙ c.params.ensures.is))
+    rw c.get.ensures
+    (substituted-by k c.in-Subst.put id c.args.one.id (rule-one k id l p kinds.Subst c.args.one.id c.requires.kind c.requires.premise)
+    (ap (parameters_view k.trees) (sym c.in-Subst.is) ∙ c.params.ensures.is))
 
 pub subst-requires-clause-told : goal.subst-requires-clause-told
 subst-requires-clause-told c =
@@ -41,7 +43,8 @@ returns-clause-made c =
     IfOk-weaker c.subst.result _ _
     (λ r h tables told.
     h (given_at d tables (own_sequent c.args.step)) (c.requires.step.stands d tables refl) (own-told k id l p d tables told)
-    ∙ ap (λ g. Some (proof_tree tables (own_scope k id tables) kinds.Subst js ss g)) (ap (parameters_view k.trees) (sym c.in-Subst.is) ∙ c.params.ensures.is) ∙ ap Some (tree-kind k id l p tables (own_scope k id tables) kinds.Subst c.requires.kind js ss))
+    ∙ ap (λ g. Some (proof_tree tables (own_scope k id tables) kinds.Subst js ss g)) (ap (parameters_view k.trees) (sym c.in-Subst.is) ∙ c.params.ensures.is)
+    ∙ ap Some (tree-kind k id l p tables (own_scope k id tables) kinds.Subst c.requires.kind js ss))
     (rw c.get.ensures at c.subst.ensures.made)
 
 pub unreachable-requires : goal.unreachable-requires
@@ -50,4 +53,5 @@ unreachable-requires c =
     let id = c.args.step.id in
     let l = c.requires.step.id in
     let p = c.is_proof.ensures in
-    subst-given k.trees c.params.result.now _ _ _ (rule-one k id l p kinds.Subst c.args.one.id c.requires.kind c.requires.premise) c.params.ensures.is c.in_default.not-Subst
+    subst-given k.trees c.params.result.now _ _ _ (rule-one k id l p kinds.Subst c.args.one.id c.requires.kind c.requires.premise) c.params.ensures.is
+    c.in_default.not-Subst

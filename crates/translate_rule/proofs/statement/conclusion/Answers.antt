@@ -17,8 +17,12 @@ pub term-requires-clause-told : goal.term-requires-clause-told
 term-requires-clause-told c =
     let k = c.args.step.ground.proof.now in
     let s = sequent_at k.made c.args.step.id in
-    let given = given_at (declarations_of c.args.target.now) c.requires.told.0 s in
-    (given, c.requires.step.stands given.declarations c.requires.told.0 refl, subst (IsTold given) (sym (ap (λ (t : Sequent). t.conclusion) c.sequent.ensures.is)) (conclusion-told given s (step-IsSequent k.made c.is_proof.ensures c.args.step.id c.requires.step.id) c.requires.told.1))
+    let given = given_at (declarations_of c.args.target.now) c.requires.told.0 s in (
+      given,
+      c.requires.step.stands given.declarations c.requires.told.0 refl,
+      subst (IsTold given) (sym (ap (λ (t : Sequent). t.conclusion) c.sequent.ensures.is))
+          (conclusion-told given s (step-IsSequent k.made c.is_proof.ensures c.args.step.id c.requires.step.id) c.requires.told.1),
+    )
 
 pub family-requires : goal.family-requires
 family-requires c =
@@ -26,7 +30,9 @@ family-requires c =
     let s = sequent_at k.made c.args.step.id in
     let given = given_at (declarations_of c.args.target.now) c.requires.told.0 s in
     Holds-within _ c.in_ok-formula.formula.0 _
-    (c.in_ok-formula.ensures.made given (c.requires.step.stands given.declarations c.requires.told.0 refl) (subst (IsTold given) (sym (ap (λ (t : Sequent). t.conclusion) c.sequent.ensures.is)) (conclusion-told given s (step-IsSequent k.made c.is_proof.ensures c.args.step.id c.requires.step.id) c.requires.told.1)))
+    (c.in_ok-formula.ensures.made given (c.requires.step.stands given.declarations c.requires.told.0 refl)
+    (subst (IsTold given) (sym (ap (λ (t : Sequent). t.conclusion) c.sequent.ensures.is))
+    (conclusion-told given s (step-IsSequent k.made c.is_proof.ensures c.args.step.id c.requires.step.id) c.requires.told.1)))
 
 pub returns-clause-made : goal.returns-clause-made
 returns-clause-made c =
@@ -38,7 +44,9 @@ returns-clause-made c =
     let given = given_at (declarations_of c.args.target.now) tables s in
     h
     ∙ ap (λ t. Some (proof_of t))
-    (Holds-tree_at _ c.in_ok-formula.formula.0 _ (c.in_ok-formula.ensures.made given (c.requires.step.stands given.declarations tables refl) (subst (IsTold given) (sym same) (conclusion-told given s (step-IsSequent k.made c.is_proof.ensures c.args.step.id c.requires.step.id) told)))
+    (Holds-tree_at _ c.in_ok-formula.formula.0 _
+    (c.in_ok-formula.ensures.made given (c.requires.step.stands given.declarations tables refl)
+    (subst (IsTold given) (sym same) (conclusion-told given s (step-IsSequent k.made c.is_proof.ensures c.args.step.id c.requires.step.id) told)))
     ∙ ap (term_tree tables (scope_of tables s)) same))
     c.family.ensures.made
 

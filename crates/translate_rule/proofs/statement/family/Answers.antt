@@ -11,7 +11,8 @@ node-requires-2 c = (c.in_ok-head.ensures.known, omega (arith, c.requires, c.in_
 pub returns-clause-made : goal.returns-clause-made
 returns-clause-made c =
     IfOk-weaker c.node-2.result _ _
-    (λ r h. h ∙ ap₂ (λ a b. Some (App a b)) (Holds-tree_at _ c.in_ok-head.head.0 _ c.in_ok-head.ensures.made) (sym (tree_at-Stays c.in_ok-head.ensures.keeps.stays c.args.index.0 c.requires)))
+    (λ r h. h ∙ ap₂ (λ a b. Some (App a b)) (Holds-tree_at _ c.in_ok-head.head.0 _ c.in_ok-head.ensures.made)
+    (sym (tree_at-Stays c.in_ok-head.ensures.keeps.stays c.args.index.0 c.requires)))
     c.node-2.ensures.made
 
 pub returns-clause-keeps : goal.returns-clause-keeps

@@ -8,7 +8,8 @@ use Rattle.translate_term.specs.GrowLaws.{Grows-trans, Grows-table}
 use Rattle.translate_rule.proofs.statement.over_formula.Goals as goal
 
 pub product_over-requires-clause-tree : goal.product_over-requires-clause-tree
-product_over-requires-clause-tree c = Holds-within _ c.in_ok-formula.formula.0 _ (c.in_ok-formula.ensures.made c.requires.told.0 c.requires.told.1 c.requires.told.2)
+product_over-requires-clause-tree c = Holds-within _ c.in_ok-formula.formula.0 _
+    (c.in_ok-formula.ensures.made c.requires.told.0 c.requires.told.1 c.requires.told.2)
 
 pub product_over-requires-clause-inside : goal.product_over-requires-clause-inside
 product_over-requires-clause-inside c = omega (arith, c.requires.inside, c.in_ok-formula.ensures.grows.table.longer)

@@ -16,7 +16,14 @@ abbrev first : TermId
 first = record { 0 = 0 }
 
 pub loop-rest-init : goal.loop-rest-init
-loop-rest-init c = record { grows = Grows-refl _; known = c.requires.inside; hyps = c.requires.hyps; folded = λ given stands told. record { each = told; is = refl }; shorter = omega arith }
+loop-rest-init c = record {
+  grows = Grows-refl _;
+  known = c.requires.inside;
+  hyps = c.requires.hyps;
+  folded =
+      λ given stands told. record { each = told; is = refl };
+  shorter = omega arith;
+}
 
 pub over_formula-requires : goal.over_formula-requires
 over_formula-requires c =
@@ -30,8 +37,12 @@ over_formula-requires c =
     record {
       id = (known-split trees front rest last split h.hyps).1;
       inside = h.known;
-      told =
-          (q.0, Represents-Grows h.grows q.0 trees c.args.env.now q.1, folded-last (IsTold q.0) proof_symbol (term_tree q.0.symbols q.0.scope) (terms_at trees rest) (terms_at trees front) (term_at trees last.0) _ _ (terms-last trees front rest last split) (h.folded q.0 q.1 q.2));
+      told = (
+        q.0,
+        Represents-Grows h.grows q.0 trees c.args.env.now q.1,
+        folded-last (IsTold q.0) proof_symbol (term_tree q.0.symbols q.0.scope) (terms_at trees rest) (terms_at trees front) (term_at trees last.0) _ _
+            (terms-last trees front rest last split) (h.folded q.0 q.1 q.2),
+      );
     }
 
 pub loop-rest-preserved : goal.loop-rest-preserved
@@ -50,8 +61,11 @@ loop-rest-preserved c =
           let tree = term_tree given.symbols given.scope in
           let whole = terms-last trees front rest last split in
           let f = h.folded given stands told in
-          folded-more (IsTold given) proof_symbol tree (terms_at trees rest) (terms_at trees front) (term_at trees last.0) (length front) _ _ _ whole (sym (terms-count trees front))
-          (Holds-tree_at _ c.in_ok-product.product.0 _ (c.in_ok-product.ensures.made given (Represents-Grows h.grows given trees c.args.env.now stands) (folded-last (IsTold given) proof_symbol tree (terms_at trees rest) (terms_at trees front) (term_at trees last.0) _ _ whole f))) f;
+          folded-more (IsTold given) proof_symbol tree (terms_at trees rest) (terms_at trees front) (term_at trees last.0) (length front) _ _ _ whole
+          (sym (terms-count trees front))
+          (Holds-tree_at _ c.in_ok-product.product.0 _
+          (c.in_ok-product.ensures.made given (Represents-Grows h.grows given trees c.args.env.now stands)
+          (folded-last (IsTold given) proof_symbol tree (terms_at trees rest) (terms_at trees front) (term_at trees last.0) _ _ whole f))) f;
       shorter = omega (arith, h.shorter, length-take (length rest - 1) rest);
     }
 
@@ -60,4 +74,5 @@ returns-clause-made c = λ given stands told.
     let trees = c.args.proof.now.trees in
     let h = c.loop-rest.invariant in
     tree_at-Holds _ c.loop-rest.product.0 h.known
-    ∙ ap Some (folded-end (IsTold given) proof_symbol (term_tree given.symbols given.scope) _ _ _ (ap (terms_at trees) (no-item c.loop-rest.rest.now c.in_default.len_below)) (h.folded given stands told))
+    ∙ ap Some (folded-end (IsTold given) proof_symbol (term_tree given.symbols given.scope) _ _ _
+    (ap (terms_at trees) (no-item c.loop-rest.rest.now c.in_default.len_below)) (h.folded given stands told))

@@ -17,7 +17,8 @@ invariant-loop-rest l = record {
   hyps : AreKnown l.proof.trees l.rest;
   folded : (given : Given) → Represents given l.fn.target l.proof.trees l.env → AllByRecursion (IsTold given) (terms_at l.proof.trees l.hyps)
       → IsFolded (IsTold given) proof_symbol (term_tree given.symbols given.scope) (terms_at l.proof.trees l.rest) (tree_at l.target.table l.product.0)
-      (products (lifted_domains proof_symbol (term_tree given.symbols given.scope) 0 (terms_at l.proof.trees l.hyps)) (tree_at l.fn.target.table l.fn.inside.0));
+      (products (lifted_domains proof_symbol (term_tree given.symbols given.scope) 0 (terms_at l.proof.trees l.hyps))
+      (tree_at l.fn.target.table l.fn.inside.0));
   shorter : length l.rest ≤ length l.hyps;
 }
 

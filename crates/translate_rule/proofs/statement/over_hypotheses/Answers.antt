@@ -31,7 +31,8 @@ over_formulas-made-requires c =
       told = (
         given,
         c.in_ok-env.ensures.made d tables refl,
-        subst (AllByRecursion (IsTold given)) (sym are) (hypotheses-told given s (step-IsSequent k.made c.is_proof.ensures c.args.step.id c.requires.step.id) c.requires.told.1),
+        subst (AllByRecursion (IsTold given)) (sym are)
+            (hypotheses-told given s (step-IsSequent k.made c.is_proof.ensures c.args.step.id c.requires.step.id) c.requires.told.1),
       );
     }
 
@@ -39,8 +40,10 @@ pub returns-then-hyps-eq0-clause-made : goal.returns-then-hyps-eq0-clause-made
 returns-then-hyps-eq0-clause-made c = λ tables told.
     let k = c.args.step.ground.proof.now in
     let s = sequent_at k.made c.args.step.id in
-    let none = ap (terms_at k.trees) (sym (no-item c.ids-hyps.result.now (omega (arith, c.if-hyps-eq0.true)))) ∙ ap (terms_at k.trees) c.ids-hyps.ensures.numbers ∙ ap (λ t. t.hypotheses) c.sequent.ensures.is in
-    tree_at-Holds _ c.args.inside.0 c.requires.inside ∙ ap (λ hs. Some (products (proof_domains tables hs (scope_of_terms tables s)) (tree_at c.args.target.now.table c.args.inside.0))) none
+    let none = ap (terms_at k.trees) (sym (no-item c.ids-hyps.result.now (omega (arith, c.if-hyps-eq0.true))))
+    ∙ ap (terms_at k.trees) c.ids-hyps.ensures.numbers ∙ ap (λ t. t.hypotheses) c.sequent.ensures.is in
+    tree_at-Holds _ c.args.inside.0 c.requires.inside
+    ∙ ap (λ hs. Some (products (proof_domains tables hs (scope_of_terms tables s)) (tree_at c.args.target.now.table c.args.inside.0))) none
 
 pub returns-clause-made : goal.returns-clause-made
 returns-clause-made c =
@@ -52,7 +55,9 @@ returns-clause-made c =
     IfOk-weaker c.over_formulas-made.result _ _
     (λ r h tables told.
     let given = with_scope (given_at d tables s) (scope_of_terms tables s) in
-    h given (c.in_ok-env.ensures.made d tables refl) (subst (AllByRecursion (IsTold given)) (sym are) (hypotheses-told given s (step-IsSequent k.made c.is_proof.ensures c.args.step.id c.requires.step.id) told))
+    h given (c.in_ok-env.ensures.made d tables refl)
+    (subst (AllByRecursion (IsTold given)) (sym are)
+    (hypotheses-told given s (step-IsSequent k.made c.is_proof.ensures c.args.step.id c.requires.step.id) told))
     ∙ (λ i. Some (products (lifted_domains proof_symbol (term_tree tables (scope_of_terms tables s)) 0 (are i)) (stay i)))
     ∙ ap (λ ds. Some (products ds (tree_at c.args.target.now.table c.args.inside.0))) (proof_domains-outside tables (scope_of_terms tables s) s.hypotheses))
     c.over_formulas-made.ensures.made

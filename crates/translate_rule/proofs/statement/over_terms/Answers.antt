@@ -14,7 +14,14 @@ use Rattle.translate_rule.proofs.StatementLaws.{front-item, no-item, types-split
 use Rattle.translate_rule.proofs.statement.over_terms.Goals as goal
 
 pub loop-rest-init : goal.loop-rest-init
-loop-rest-init c = record { grows = Grows-refl _; known = c.requires.inside; variables = c.requires.variables; folded = λ given stands told. record { each = told; is = refl }; shorter = omega arith }
+loop-rest-init c = record {
+  grows = Grows-refl _;
+  known = c.requires.inside;
+  variables = c.requires.variables;
+  folded =
+      λ given stands told. record { each = told; is = refl };
+  shorter = omega arith;
+}
 
 pub over_type-requires : goal.over_type-requires
 over_type-requires c =
@@ -31,7 +38,8 @@ over_type-requires c =
       told = (
         q.0,
         Represents-Grows h.grows q.0 trees c.args.env.now q.1,
-        folded-last (λ (v : Variable). TellsType q.0.declarations q.0.symbols v.1) term_symbol (λ (v : Variable). type_tree q.0.symbols q.0.scope.types v.1) (variables_of trees rest) (variables_of trees front) (last.name, type_at trees last.ty.0) _ _
+        folded-last (λ (v : Variable). TellsType q.0.declarations q.0.symbols v.1) term_symbol (λ (v : Variable). type_tree q.0.symbols q.0.scope.types v.1)
+            (variables_of trees rest) (variables_of trees front) (last.name, type_at trees last.ty.0) _ _
             (variables-last trees front rest last split) (h.folded q.0 q.1 q.2),
       );
     }
@@ -53,8 +61,11 @@ loop-rest-preserved c =
           let tree = λ (v : Variable). type_tree given.symbols given.scope.types v.1 in
           let whole = variables-last trees front rest last split in
           let f = h.folded given stands told in
-          folded-more P term_symbol tree (variables_of trees rest) (variables_of trees front) (last.name, type_at trees last.ty.0) (length front) _ _ _ whole (sym (variables-count trees front))
-          (Holds-tree_at _ c.in_ok-product.product.0 _ (c.in_ok-product.ensures.made given (Represents-Grows h.grows given trees c.args.env.now stands) (folded-last P term_symbol tree (variables_of trees rest) (variables_of trees front) (last.name, type_at trees last.ty.0) _ _ whole f))) f;
+          folded-more P term_symbol tree (variables_of trees rest) (variables_of trees front) (last.name, type_at trees last.ty.0) (length front) _ _ _ whole
+          (sym (variables-count trees front))
+          (Holds-tree_at _ c.in_ok-product.product.0 _
+          (c.in_ok-product.ensures.made given (Represents-Grows h.grows given trees c.args.env.now stands)
+          (folded-last P term_symbol tree (variables_of trees rest) (variables_of trees front) (last.name, type_at trees last.ty.0) _ _ whole f))) f;
       shorter = omega (arith, h.shorter, length-take (length rest - 1) rest);
     }
 
@@ -64,5 +75,6 @@ returns-clause-made c = λ given stands told.
     let h = c.loop-rest.invariant in
     tree_at-Holds _ c.loop-rest.product.0 h.known
     ∙ ap Some
-    (folded-end (λ (v : Variable). TellsType given.declarations given.symbols v.1) term_symbol (λ (v : Variable). type_tree given.symbols given.scope.types v.1) _ _ _ (ap (variables_of trees) (no-item c.loop-rest.rest.now c.in_default.len_below))
+    (folded-end (λ (v : Variable). TellsType given.declarations given.symbols v.1) term_symbol (λ (v : Variable). type_tree given.symbols given.scope.types v.1)
+    _ _ _ (ap (variables_of trees) (no-item c.loop-rest.rest.now c.in_default.len_below))
     (h.folded given stands told))

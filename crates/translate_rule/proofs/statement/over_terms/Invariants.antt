@@ -17,9 +17,12 @@ invariant-loop-rest l = record {
   grows : Grows l.fn.target l.target;
   known : l.product.0 < length l.target.table;
   variables : HaveTypes l.proof.trees l.rest;
-  folded : (given : Given) → Represents given l.fn.target l.proof.trees l.env → AllByRecursion (λ (v : Variable). TellsType given.declarations given.symbols v.1) (variables_of l.proof.trees l.variables)
-      → IsFolded (λ (v : Variable). TellsType given.declarations given.symbols v.1) term_symbol (λ (v : Variable). type_tree given.symbols given.scope.types v.1) (variables_of l.proof.trees l.rest) (tree_at l.target.table l.product.0)
-      (products (lifted_domains term_symbol (λ (v : Variable). type_tree given.symbols given.scope.types v.1) 0 (variables_of l.proof.trees l.variables)) (tree_at l.fn.target.table l.fn.inside.0));
+  folded : (given : Given) → Represents given l.fn.target l.proof.trees l.env
+      → AllByRecursion (λ (v : Variable). TellsType given.declarations given.symbols v.1) (variables_of l.proof.trees l.variables)
+      → IsFolded (λ (v : Variable). TellsType given.declarations given.symbols v.1) term_symbol
+      (λ (v : Variable). type_tree given.symbols given.scope.types v.1) (variables_of l.proof.trees l.rest) (tree_at l.target.table l.product.0)
+      (products (lifted_domains term_symbol (λ (v : Variable). type_tree given.symbols given.scope.types v.1) 0 (variables_of l.proof.trees l.variables))
+      (tree_at l.fn.target.table l.fn.inside.0));
   shorter : length l.rest ≤ length l.variables;
 }
 

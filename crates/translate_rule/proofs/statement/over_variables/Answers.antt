@@ -38,8 +38,10 @@ pub returns-then-variables-eq0-clause-made : goal.returns-then-variables-eq0-cla
 returns-then-variables-eq0-clause-made c = λ tables told.
     let k = c.args.step.ground.proof.now in
     let s = sequent_at k.made c.args.step.id in
-    let none = ap (variables_of k.trees) (sym (no-item c.variables-variables.result.now (omega (arith, c.if-variables-eq0.true))) ∙ c.variables-variables.ensures) ∙ c.requires.step.params.free_vars in
-    tree_at-Holds _ c.args.inside.0 c.requires.inside ∙ ap (λ vs. Some (products (term_domains tables vs (scope_of_types tables s)) (tree_at c.args.target.now.table c.args.inside.0))) none
+    let none = ap (variables_of k.trees) (sym (no-item c.variables-variables.result.now (omega (arith, c.if-variables-eq0.true)))
+    ∙ c.variables-variables.ensures) ∙ c.requires.step.params.free_vars in
+    tree_at-Holds _ c.args.inside.0 c.requires.inside
+    ∙ ap (λ vs. Some (products (term_domains tables vs (scope_of_types tables s)) (tree_at c.args.target.now.table c.args.inside.0))) none
 
 pub returns-clause-made : goal.returns-clause-made
 returns-clause-made c =
@@ -51,9 +53,12 @@ returns-clause-made c =
     let stay = sym (tree_at-Stays c.in_ok-env.ensures.grows.table.stays c.args.inside.0 c.requires.inside) in
     IfOk-weaker c.over_terms-made.result _ _
     (λ r h tables told.
-    h (given_over d tables c.names-names.result.now) (c.in_ok-env.ensures.made d tables refl) (subst (AllByRecursion (λ (v : Variable). TellsType d tables v.1)) (sym are) (variables-told d tables s told))
-    ∙ (λ i. Some (products (lifted_domains term_symbol (λ (v : Variable). type_tree tables (given_over d tables (names i)).scope.types v.1) 0 (are i)) (stay i)))
-    ∙ ap (λ ds. Some (products ds (tree_at c.args.target.now.table c.args.inside.0))) (term_domains-outside tables (scope_of_types tables s) (free_variables_of s)))
+    h (given_over d tables c.names-names.result.now) (c.in_ok-env.ensures.made d tables refl)
+    (subst (AllByRecursion (λ (v : Variable). TellsType d tables v.1)) (sym are) (variables-told d tables s told))
+    ∙ (λ i. Some (products (lifted_domains term_symbol (λ (v : Variable). type_tree tables (given_over d tables (names i)).scope.types v.1) 0 (are i))
+    (stay i)))
+    ∙ ap (λ ds. Some (products ds (tree_at c.args.target.now.table c.args.inside.0)))
+    (term_domains-outside tables (scope_of_types tables s) (free_variables_of s)))
     c.over_terms-made.ensures.made
 
 pub returns-clause-grows : goal.returns-clause-grows

@@ -14,7 +14,8 @@ returns-clause-made c =
     IfOk-weaker c.node.result _ _
     (λ r h.
     h
-    ∙ ap₂ (λ a b. Some (Pi a b)) (Holds-tree_at _ c.in_ok-domain.domain.0 _ c.in_ok-domain.ensures.made ∙ ap (App (Sym c.args.symbol)) (Holds-tree_at _ c.in_ok-index.index.0 _ c.in_ok-index.ensures.made))
+    ∙ ap₂ (λ a b. Some (Pi a b)) (Holds-tree_at _ c.in_ok-domain.domain.0 _ c.in_ok-domain.ensures.made
+    ∙ ap (App (Sym c.args.symbol)) (Holds-tree_at _ c.in_ok-index.index.0 _ c.in_ok-index.ensures.made))
     (sym (tree_at-Stays keeps.stays c.args.inside.0 c.requires.inside)))
     c.node.ensures.made
 

@@ -46,7 +46,8 @@ returns-clause-made c =
     ∙ ap (λ t. Some (products (replicate (length names) types) t))
     (Holds-tree_at _ c.in_ok-under_types.under_types.0 _ under_types
     ∙ ap (λ t. variables_product t tables s)
-    (Holds-tree_at _ c.in_ok-under_terms.under_terms.0 _ under_terms ∙ ap (λ t. hypotheses_product t tables s) (Holds-tree_at _ c.in_ok-inside.inside.0 _ inside)))
+    (Holds-tree_at _ c.in_ok-under_terms.under_terms.0 _ under_terms
+    ∙ ap (λ t. hypotheses_product t tables s) (Holds-tree_at _ c.in_ok-inside.inside.0 _ inside)))
     ∙ ap Some (sequent_tree-products tables s (length names) (ap length (c.names-count.ensures ∙ c.requires.step.params.type_vars))))
     c.over_types.ensures.made
 
@@ -54,7 +55,10 @@ pub returns-in_err-under_terms-clause-grows : goal.returns-in_err-under_terms-cl
 returns-in_err-under_terms-clause-grows c = Grows-trans c.in_ok-inside.ensures.grows c.over_hypotheses.ensures.grows
 
 pub returns-in_err-under_types-clause-grows : goal.returns-in_err-under_types-clause-grows
-returns-in_err-under_types-clause-grows c = Grows-trans (Grows-trans c.in_ok-inside.ensures.grows c.in_ok-under_terms.ensures.grows) c.over_variables.ensures.grows
+returns-in_err-under_types-clause-grows c = Grows-trans (Grows-trans c.in_ok-inside.ensures.grows c.in_ok-under_terms.ensures.grows)
+    c.over_variables.ensures.grows
 
 pub returns-clause-grows : goal.returns-clause-grows
-returns-clause-grows c = Grows-trans (Grows-trans (Grows-trans c.in_ok-inside.ensures.grows c.in_ok-under_terms.ensures.grows) c.in_ok-under_types.ensures.grows) (Grows-table _ _ c.over_types.ensures.keeps)
+returns-clause-grows c = Grows-trans
+    (Grows-trans (Grows-trans c.in_ok-inside.ensures.grows c.in_ok-under_terms.ensures.grows) c.in_ok-under_types.ensures.grows)
+    (Grows-table _ _ c.over_types.ensures.keeps)

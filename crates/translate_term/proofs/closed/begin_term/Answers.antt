@@ -9,19 +9,29 @@ use Rattle.translate_term.proofs.closed.begin_term.Goals as goal
 pub visit_term-requires : goal.visit_term-requires
 visit_term-requires c =
     let q = c.requires in
-    let e = first-rest c.args.nodes.now c.node-item.result c.node-item.is c.in-len1-up.len_at_least in
-    (q.0, q.1, _, subst (λ l. IsTermWalk q.0 q.1 c.args.target.now c.args.type_vars (Next c.args.depth ∷ c.args.walk.now.works) (spelled_terms l) c.args.walk.now.made) (sym e) q.2)
+    let e = first-rest c.args.nodes.now c.node-item.result c.node-item.is c.in-len1-up.len_at_least in (
+      q.0,
+      q.1,
+      _,
+      subst
+          (λ l. IsTermWalk q.0 q.1 c.args.target.now c.args.type_vars (Next c.args.depth ∷ c.args.walk.now.works) (spelled_terms l) c.args.walk.now.made) (sym e)
+          q.2,
+    )
 
 pub returns-in_ok-put_variable-in-empty-clause-walk : goal.returns-in_ok-put_variable-in-empty-clause-walk
 returns-in_ok-put_variable-in-empty-clause-walk c =
     λ given root w.
     let e = no-item c.args.nodes.now c.in-empty.len_below in
     subst (λ l. IsTermWalk given root c.put_variable.new.target c.args.type_vars c.args.walk.now.works (spelled_terms l) c.put_variable.new.made) (sym e)
-    (term_leaf given root c.args.target.now c.args.type_vars c.args.depth c.args.walk.now.works c.args.walk.now.made c.put_variable.new.target 0 [] c.put_variable.new.made refl c.put_variable.ensures.grows c.in_ok-put_variable-in-empty.ensures.made
-    (subst (λ l. IsTermWalk given root c.args.target.now c.args.type_vars (Next c.args.depth ∷ c.args.walk.now.works) (spelled_terms l) c.args.walk.now.made) e w))
+    (term_leaf given root c.args.target.now c.args.type_vars c.args.depth c.args.walk.now.works c.args.walk.now.made c.put_variable.new.target 0 []
+    c.put_variable.new.made refl c.put_variable.ensures.grows c.in_ok-put_variable-in-empty.ensures.made
+    (subst (λ l. IsTermWalk given root c.args.target.now c.args.type_vars (Next c.args.depth ∷ c.args.walk.now.works) (spelled_terms l) c.args.walk.now.made) e
+    w))
 
 pub returns-in_ok-visit_term-in-len1-up-clause-walk : goal.returns-in_ok-visit_term-in-len1-up-clause-walk
 returns-in_ok-visit_term-in-len1-up-clause-walk c =
     λ given root w.
     let e = first-rest c.args.nodes.now c.node-item.result c.node-item.is c.in-len1-up.len_at_least in
-    c.in_ok-visit_term-in-len1-up.ensures.walk given root _ (subst (λ l. IsTermWalk given root c.args.target.now c.args.type_vars (Next c.args.depth ∷ c.args.walk.now.works) (spelled_terms l) c.args.walk.now.made) (sym e) w)
+    c.in_ok-visit_term-in-len1-up.ensures.walk given root _
+    (subst (λ l. IsTermWalk given root c.args.target.now c.args.type_vars (Next c.args.depth ∷ c.args.walk.now.works) (spelled_terms l)
+    c.args.walk.now.made) (sym e) w)

@@ -11,7 +11,8 @@ over_variables-requires c =
     rw c.deref.ensures.value (
       _,
       _,
-      variables_start q.0 q.1 c.args.target.now c.args.closed.now q.2 c.requires.held _ c.in_ok-under_terms.under_terms c.in_ok-under_terms.ensures.grows (Holds-within _ c.in_ok-under_terms.under_terms.0 _ (c.in_ok-under_terms.ensures.made q.0 q.1 q.2)),
+      variables_start q.0 q.1 c.args.target.now c.args.closed.now q.2 c.requires.held _ c.in_ok-under_terms.under_terms c.in_ok-under_terms.ensures.grows
+          (Holds-within _ c.in_ok-under_terms.under_terms.0 _ (c.in_ok-under_terms.ensures.made q.0 q.1 q.2)),
     )
 
 pub over_types-requires : goal.over_types-requires
@@ -19,7 +20,8 @@ over_types-requires c =
     let q = c.requires.told in
     let all = rw c.deref.ensures.value at c.in_ok-under_types.ensures.made in
     let start =
-    variables_start q.0 q.1 c.args.target.now c.args.closed.now q.2 c.requires.held _ c.in_ok-under_terms.under_terms c.in_ok-under_terms.ensures.grows (Holds-within _ c.in_ok-under_terms.under_terms.0 _ (c.in_ok-under_terms.ensures.made q.0 q.1 q.2)) in
+    variables_start q.0 q.1 c.args.target.now c.args.closed.now q.2 c.requires.held _ c.in_ok-under_terms.under_terms c.in_ok-under_terms.ensures.grows
+    (Holds-within _ c.in_ok-under_terms.under_terms.0 _ (c.in_ok-under_terms.ensures.made q.0 q.1 q.2)) in
     Holds-within _ c.in_ok-under_types.under_types.0 _ (all _ _ start)
 
 pub returns-clause-made : goal.returns-clause-made
@@ -28,9 +30,11 @@ returns-clause-made c =
     IfOk-weaker c.over_types.result _ _
     (λ r h symbols s told.
     let is = c.in_ok-under_terms.ensures.made symbols s told in
-    let start = variables_start symbols s c.args.target.now c.args.closed.now told c.requires.held _ c.in_ok-under_terms.under_terms c.in_ok-under_terms.ensures.grows (Holds-within _ c.in_ok-under_terms.under_terms.0 _ is) in
+    let start = variables_start symbols s c.args.target.now c.args.closed.now told c.requires.held _ c.in_ok-under_terms.under_terms
+    c.in_ok-under_terms.ensures.grows (Holds-within _ c.in_ok-under_terms.under_terms.0 _ is) in
     h
-    ∙ ap Some (product_is symbols s c.args.target.now c.args.closed.now told c.requires.held _ _ (Holds-tree_at _ c.in_ok-under_terms.under_terms.0 _ is) (Holds-tree_at _ c.in_ok-under_types.under_types.0 _ (all _ _ start))))
+    ∙ ap Some (product_is symbols s c.args.target.now c.args.closed.now told c.requires.held _ _ (Holds-tree_at _ c.in_ok-under_terms.under_terms.0 _ is)
+    (Holds-tree_at _ c.in_ok-under_types.under_types.0 _ (all _ _ start))))
     c.over_types.ensures.made
 
 pub returns-clause-grows : goal.returns-clause-grows

@@ -12,7 +12,8 @@ abbrev pub invariant-loop-rest : goal.invariant-loop-rest
 invariant-loop-rest l =
     Grows l.fn.target l.target × (l.product.0 < length l.target.table)
     × ((given : Numbered) (hs : List Term) → AreHypotheses given hs l.fn.target l.type_vars l.outside (map closed_term_view l.fn.hyps) l.fn.inside
-    → HypothesesLeft given l.outside (map closed_term_view l.rest) (tree_at l.target.table l.product.0) (products (hypothesis_domains given l.outside hs) (tree_at l.fn.target.table l.fn.inside.0)))
+    → HypothesesLeft given l.outside (map closed_term_view l.rest) (tree_at l.target.table l.product.0)
+    (products (hypothesis_domains given l.outside hs) (tree_at l.fn.target.table l.fn.inside.0)))
     × (length l.rest ≤ length l.fn.hyps)
 
 abbrev pub decreases-loop-rest : goal.decreases-loop-rest

@@ -7,7 +7,8 @@ use Rattle.translate_term.proofs.closed.over_types.Given as goal
 abbrev pub invariant-loop-left : goal.invariant-loop-left
 invariant-loop-left l =
     Grows l.fn.target l.target × (l.product.0 < length l.target.table)
-    × (products (replicate l.left types) (tree_at l.target.table l.product.0) ≡ products (replicate l.type_vars types) (tree_at l.fn.target.table l.fn.inside.0))
+    × (products (replicate l.left types) (tree_at l.target.table l.product.0)
+    ≡ products (replicate l.type_vars types) (tree_at l.fn.target.table l.fn.inside.0))
 
 abbrev pub decreases-loop-left : goal.decreases-loop-left
 decreases-loop-left l = l.left

@@ -15,7 +15,8 @@ node-requires c = (Holds-within _ c.in_ok-domain.domain.0 _ c.in_ok-domain.ensur
 pub returns-clause-made : goal.returns-clause-made
 returns-clause-made c =
     IfOk-weaker c.node.result _ _
-    (λ r h. h ∙ ap₂ (λ a b. Some (Pi a b)) (Holds-tree_at _ c.in_ok-domain.domain.0 _ c.in_ok-domain.ensures.made) (sym (tree_at-Stays c.in_ok-domain.ensures.keeps.stays c.args.inside.0 c.requires.1)))
+    (λ r h. h ∙ ap₂ (λ a b. Some (Pi a b)) (Holds-tree_at _ c.in_ok-domain.domain.0 _ c.in_ok-domain.ensures.made)
+    (sym (tree_at-Stays c.in_ok-domain.ensures.keeps.stays c.args.inside.0 c.requires.1)))
     c.node.ensures.made
 
 pub returns-clause-grows : goal.returns-clause-grows

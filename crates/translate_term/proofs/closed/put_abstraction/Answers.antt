@@ -19,7 +19,8 @@ returns-clause-made c =
     record {
       id = p.id;
       is = p.is;
-      holds = p.holds ∙ ap₂ (λ a b. Some (Lam a b)) (Holds-tree_at _ c.in_ok-domain.domain.0 _ c.in_ok-domain.ensures.made) (sym (tree_at-Stays c.in_ok-domain.ensures.keeps.stays c.args.body.0 c.requires.1));
+      holds = p.holds ∙ ap₂ (λ a b. Some (Lam a b)) (Holds-tree_at _ c.in_ok-domain.domain.0 _ c.in_ok-domain.ensures.made)
+          (sym (tree_at-Stays c.in_ok-domain.ensures.keeps.stays c.args.body.0 c.requires.1));
     })
     c.put_node.ensures.made
 

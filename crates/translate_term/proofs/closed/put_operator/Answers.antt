@@ -12,5 +12,6 @@ unwrap-symbol-requires c = subst IsSome (sym c.in_ok-operator.ensures) c.require
 pub returns-clause-made : goal.returns-clause-made
 returns-clause-made c =
     OnOk-map c.put_node.result
-    (λ p s e. subst (λ k. IsPut c.args.made.now c.put_node.new.made c.put_node.new.target.table (Sym k)) (same_Some _ _ (sym c.unwrap-symbol.ensures ∙ c.in_ok-operator.ensures ∙ e)) p)
+    (λ p s e. subst (λ k. IsPut c.args.made.now c.put_node.new.made c.put_node.new.target.table (Sym k))
+    (same_Some _ _ (sym c.unwrap-symbol.ensures ∙ c.in_ok-operator.ensures ∙ e)) p)
     c.put_node.ensures.made

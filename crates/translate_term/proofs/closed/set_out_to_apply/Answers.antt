@@ -9,6 +9,7 @@ pub returns-clause-makes : goal.returns-clause-makes
 returns-clause-makes c =
     OnOk-map c.push-3.result
     (λ pushed given depth root ts made m.
-    subst (λ works. MakesTypes given depth root works ts made) (sym (pushed ∙ ap (λ l. Next ∷ l) (c.in_ok-push-2.ensures.pushed ∙ ap (λ l. Apply ∷ l) c.in_ok-push.ensures.pushed)))
+    subst (λ works. MakesTypes given depth root works ts made)
+    (sym (pushed ∙ ap (λ l. Next ∷ l) (c.in_ok-push-2.ensures.pushed ∙ ap (λ l. Apply ∷ l) c.in_ok-push.ensures.pushed)))
     (applied_to_next given depth root c.args.works.now ts c.args.count c.in-Some.others made (let h = c.in-Some.ensures in omega (arith, h)) m))
     c.push-3.ensures.pushed

@@ -21,15 +21,18 @@ put_node-requires c = application_parts c.requires.0 c.requires.1 _ _ _ _ c.two.
 pub returns-in_ok-put_node-in-Apply-clause-walk : goal.returns-in_ok-put_node-in-Apply-clause-walk
 returns-in_ok-put_node-in-Apply-clause-walk c =
     λ given root w.
-    application_made given root _ c.args.type_vars c.args.walk.now.works _ c.two.result.1 c.two.result.0 _ _ _ _ c.two.ensures c.put_node.ensures.grows c.in_ok-put_node-in-Apply.ensures.made (rw c.in-Apply.is at w)
+    application_made given root _ c.args.type_vars c.args.walk.now.works _ c.two.result.1 c.two.result.0 _ _ _ _ c.two.ensures c.put_node.ensures.grows
+    c.in_ok-put_node-in-Apply.ensures.made (rw c.in-Apply.is at w)
 
 pub two-requires-in-Bind : goal.two-requires-in-Bind
 two-requires-in-Bind c = abstraction_two c.requires.0 c.requires.1 _ _ _ _ _ (rw c.in-Bind.is at c.requires.2)
 
 pub put_abstraction-requires : goal.put_abstraction-requires
-put_abstraction-requires c = abstraction_parts c.requires.0 c.requires.1 _ _ _ _ c.two-in-Bind.result.1 c.two-in-Bind.result.0 _ _ c.two-in-Bind.ensures (rw c.in-Bind.is at c.requires.2)
+put_abstraction-requires c = abstraction_parts c.requires.0 c.requires.1 _ _ _ _ c.two-in-Bind.result.1 c.two-in-Bind.result.0 _ _ c.two-in-Bind.ensures
+    (rw c.in-Bind.is at c.requires.2)
 
 pub returns-in_ok-put_abstraction-in-Bind-clause-walk : goal.returns-in_ok-put_abstraction-in-Bind-clause-walk
 returns-in_ok-put_abstraction-in-Bind-clause-walk c =
     λ given root w.
-    abstraction_made given root _ c.args.type_vars c.args.walk.now.works _ c.two-in-Bind.result.1 c.two-in-Bind.result.0 _ _ _ _ c.two-in-Bind.ensures c.put_abstraction.ensures.grows c.in_ok-put_abstraction-in-Bind.ensures.made (rw c.in-Bind.is at w)
+    abstraction_made given root _ c.args.type_vars c.args.walk.now.works _ c.two-in-Bind.result.1 c.two-in-Bind.result.0 _ _ _ _ c.two-in-Bind.ensures
+    c.put_abstraction.ensures.grows c.in_ok-put_abstraction-in-Bind.ensures.made (rw c.in-Bind.is at w)

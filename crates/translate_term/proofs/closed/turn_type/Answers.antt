@@ -21,4 +21,5 @@ put_node-requires c = type_parts c.requires.0 c.requires.1 _ _ _ _ c.two.result.
 pub returns-in_ok-put_node-in-Apply-clause-walk : goal.returns-in_ok-put_node-in-Apply-clause-walk
 returns-in_ok-put_node-in-Apply-clause-walk c =
     λ given root w.
-    type_applied given root _ c.args.depth c.args.walk.now.works _ c.two.result.1 c.two.result.0 _ _ _ _ c.two.ensures c.put_node.ensures.grows c.in_ok-put_node-in-Apply.ensures.made (rw c.in-Apply.is at w)
+    type_applied given root _ c.args.depth c.args.walk.now.works _ c.two.result.1 c.two.result.0 _ _ _ _ c.two.ensures c.put_node.ensures.grows
+    c.in_ok-put_node-in-Apply.ensures.made (rw c.in-Apply.is at w)

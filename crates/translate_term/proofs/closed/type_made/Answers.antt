@@ -18,7 +18,8 @@ pub one-requires : goal.one-requires
 one-requires c = type_one c.requires.0 c.requires.1 _ _ _ _ (rw c.in_default.ensures.popped at c.loop-work.invariant.1 c.requires.0 c.requires.1 c.requires.2)
 
 pub returns-clause-made : goal.returns-clause-made
-returns-clause-made c = λ given root w. type_ends given root _ _ _ c.one.result _ _ c.one.ensures (rw c.in_default.ensures.popped at c.loop-work.invariant.1 given root w)
+returns-clause-made c = λ given root w. type_ends given root _ _ _ c.one.result _ _ c.one.ensures
+    (rw c.in_default.ensures.popped at c.loop-work.invariant.1 given root w)
 
 pub loop-work-smaller : goal.loop-work-smaller
 loop-work-smaller c = rw c.in-Some.ensures.popped c.in_ok-left.ensures.less

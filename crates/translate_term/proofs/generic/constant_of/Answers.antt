@@ -19,5 +19,6 @@ returns-clause-made c =
     IfOk-weaker c.call.result _ _
     (λ r h symbols scope t q.
     h ∙ ap Some (constant-made symbols scope t c.args.target.now c.args.name.now c.args.ty q c.unwrap-symbol.result _ named
-    (c.in_ok-args.ensures.arguments symbols scope _ t (constant-generic symbols scope t c.args.target.now c.args.name.now c.args.ty q c.unwrap-symbol.result named))))
+    (c.in_ok-args.ensures.arguments symbols scope _ t
+    (constant-generic symbols scope t c.args.target.now c.args.name.now c.args.ty q c.unwrap-symbol.result named))))
     called

@@ -11,9 +11,14 @@ loop-body-preserved c = (
 )
 
 pub returns-in-App-clause-is : goal.returns-in-App-clause-is
-returns-in-App-clause-is c = λ k pattern e. under_application _ _ _ k pattern c.in-App.field-0 c.in-App.pattern c.in-App.ensures.is (c.loop-body.invariant.2 k pattern e)
+returns-in-App-clause-is c = λ k pattern e. under_application _ _ _ k pattern c.in-App.field-0 c.in-App.pattern c.in-App.ensures.is
+    (c.loop-body.invariant.2 k pattern e)
 
 pub returns-in-SortType : goal.returns-in-SortType
 returns-in-SortType c =
     let other : is_other (tree_of_node c.args.source.now.table c.view.result) ≡ true = grind (arith, c.in-SortType.is) in
-    record { is = λ k pattern e. absurd (under_other _ _ _ k pattern _ c.view.ensures.is other (c.loop-body.invariant.2 k pattern e)); known = c.loop-body.invariant.0 }
+    record {
+      is = λ k pattern e. absurd (under_other _ _ _ k pattern _ c.view.ensures.is other (c.loop-body.invariant.2 k pattern e));
+      known =
+          c.loop-body.invariant.0;
+    }

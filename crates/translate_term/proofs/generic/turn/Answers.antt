@@ -16,6 +16,8 @@ returns-in-App-view-clause-matching c =
     OnOk-map c.set_out.result
     (λ e want root m.
     subst (λ l. IsMatching want root c.args.trees.now l c.args.found.now) (sym (e ∙ ap₂ (λ a b. a ∷ b ∷ c.args.tasks.now) c.meet.ensures c.meet-in-App.ensures))
-    (matching_application want root _ c.args.task _ _ c.in-App.head c.in-App.argument c.in-App.ensures.is c.in-App-view.function c.in-App-view.part c.in-App-view.ensures.is (omega (arith, m.fit.0, c.in-App.ensures.lower.0))
-    (omega (arith, m.fit.0, c.in-App.ensures.lower.1)) (omega (arith, m.fit.1, c.in-App-view.ensures.lower.0)) (omega (arith, m.fit.1, c.in-App-view.ensures.lower.1)) m))
+    (matching_application want root _ c.args.task _ _ c.in-App.head c.in-App.argument c.in-App.ensures.is c.in-App-view.function c.in-App-view.part
+    c.in-App-view.ensures.is (omega (arith, m.fit.0, c.in-App.ensures.lower.0))
+    (omega (arith, m.fit.0, c.in-App.ensures.lower.1)) (omega (arith, m.fit.1, c.in-App-view.ensures.lower.0))
+    (omega (arith, m.fit.1, c.in-App-view.ensures.lower.1)) m))
     c.set_out.ensures

@@ -8,8 +8,13 @@ use Rattle.translate_term.proofs.terms.constant.Goals as goal
 
 pub constant_of-requires : goal.constant_of-requires
 constant_of-requires c =
-    let made = c.in_ok-tree.ensures.made in
-    (_, _, _, constant-typed c.requires.0 _ _ _ _ _ c.args.name.now c.args.ty c.requires.1 c.requires.2 c.in_ok-tree.ensures.grows c.in_ok-tree.tree (made c.requires.0 c.requires.1))
+    let made = c.in_ok-tree.ensures.made in (
+      _,
+      _,
+      _,
+      constant-typed c.requires.0 _ _ _ _ _ c.args.name.now c.args.ty c.requires.1 c.requires.2 c.in_ok-tree.ensures.grows c.in_ok-tree.tree
+          (made c.requires.0 c.requires.1),
+    )
 
 pub returns-clause-made : goal.returns-clause-made
 returns-clause-made c =

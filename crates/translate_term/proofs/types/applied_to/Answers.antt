@@ -14,7 +14,8 @@ unwrap-symbol-requires c = subst IsSome (sym c.in_ok-found.ensures) c.requires.f
 pub returns-clause-made : goal.returns-clause-made
 returns-clause-made c =
     IfOk-weaker c.call.result _ _
-    (λ r h s e. h ∙ ap (λ k. Some (applied (Sym k) (trees_at c.args.target.now.table c.args.trees.now))) (same_Some _ _ (sym c.unwrap-symbol.ensures ∙ c.in_ok-found.ensures ∙ e)))
+    (λ r h s e. h ∙ ap (λ k. Some (applied (Sym k) (trees_at c.args.target.now.table c.args.trees.now)))
+    (same_Some _ _ (sym c.unwrap-symbol.ensures ∙ c.in_ok-found.ensures ∙ e)))
     c.call.ensures.made
 
 pub returns-clause-grows : goal.returns-clause-grows

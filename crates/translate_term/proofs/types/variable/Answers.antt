@@ -12,5 +12,6 @@ returns-in-Some-clause-made c =
 pub returns-in-None-clause-made : goal.returns-in-None-clause-made
 returns-in-None-clause-made c =
     IfOk-weaker c.node.result _ _
-    (λ r h given g. h ∙ ap Some (sym (told-absent _ _ c.args.name.now (sym c.find.ensures ∙ c.in-None.is))) ∙ ap (λ l. Some (told_types l c.args.name.now)) g.told)
+    (λ r h given g. h ∙ ap Some (sym (told-absent _ _ c.args.name.now (sym c.find.ensures ∙ c.in-None.is)))
+    ∙ ap (λ l. Some (told_types l c.args.name.now)) g.told)
     c.node.ensures.made

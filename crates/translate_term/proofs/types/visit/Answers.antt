@@ -14,17 +14,22 @@ returns-in-Some-clause-less c = visit-less _ c.args.id _ (size_at-positive _ c.a
 pub returns-in_ok-tree-in-Var-clause-walk : goal.returns-in_ok-tree-in-Var-clause-walk
 returns-in_ok-tree-in-Var-clause-walk c =
     OnOk-map3 c.note.result
-    (λ only new kept given root w. type_variable given root _ _ _ c.args.id _ _ _ c.in_ok-tree-in-Var.ensures.grows _ c.in_ok-tree-in-Var.tree only new kept c.in-Var.name.now c.in-Var.ensures.is (c.in_ok-tree-in-Var.ensures.made given) w)
+    (λ only new kept given root w. type_variable given root _ _ _ c.args.id _ _ _ c.in_ok-tree-in-Var.ensures.grows _ c.in_ok-tree-in-Var.tree only new kept
+    c.in-Var.name.now c.in-Var.ensures.is (c.in_ok-tree-in-Var.ensures.made given) w)
     c.note.ensures.noted c.note.ensures.new c.note.ensures.kept
 
 pub returns-in-Op-clause-walk : goal.returns-in-Op-clause-walk
 returns-in-Op-clause-walk c =
     OnOk-map c.set_out.result
-    (λ e given root w. rw e (type_set_out given root _ _ _ c.args.id _ _ c.in-Op.field-0.now c.in-Op.args.now (AreBelow-known _ _ _ (omega (arith, w.ends.0.known)) c.in-Op.ensures.lower) c.in-Op.ensures.is w))
+    (λ e given root w. rw e
+    (type_set_out given root _ _ _ c.args.id _ _ c.in-Op.field-0.now c.in-Op.args.now
+    (AreBelow-known _ _ _ (omega (arith, w.ends.0.known)) c.in-Op.ensures.lower) c.in-Op.ensures.is w))
     c.set_out.ensures
 
 pub returns-in-Op-clause-less : goal.returns-in-Op-clause-less
-returns-in-Op-clause-less c = OnOk-map c.set_out.result (λ e. rw e (set_out-less _ c.args.id c.in-Op.args.now _ (arguments-less _ c.args.id c.in-Op.field-0.now c.in-Op.args.now c.in-Op.ensures.is))) c.set_out.ensures
+returns-in-Op-clause-less c = OnOk-map c.set_out.result
+    (λ e. rw e (set_out-less _ c.args.id c.in-Op.args.now _ (arguments-less _ c.args.id c.in-Op.field-0.now c.in-Op.args.now c.in-Op.ensures.is)))
+    c.set_out.ensures
 
 pub returns-in_ok-tree-in-Var-clause-less : goal.returns-in_ok-tree-in-Var-clause-less
 returns-in_ok-tree-in-Var-clause-less c = OnOk-always c.note.result (visit-less _ c.args.id _ (size_at-positive _ c.args.id))

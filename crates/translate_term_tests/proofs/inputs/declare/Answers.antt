@@ -13,5 +13,6 @@ push-requires-clause-held c = IsHeld-Keeps c.args.base.now c.type_of_input.new.t
 pub push-requires-clause-follows : goal.push-requires-clause-follows
 push-requires-clause-follows c =
     let ts = c.type_of_input.new.table in
-    subst (λ ds. MayFollow (signature ++ map (declaration_in ts) ds) (declaration_in ts (record { name = c.in_ok-name.name; form = Symbol; ty = c.in_ok-ty.ty; body = None }))) (sym c.requires.none)
+    subst (λ ds. MayFollow (signature ++ map (declaration_in ts) ds)
+    (declaration_in ts (record { name = c.in_ok-name.name; form = Symbol; ty = c.in_ok-ty.ty; body = None }))) (sym c.requires.none)
     (input_follows ts c.in_ok-name.name c.in_ok-ty.ty c.in_ok-name.ensures c.in_ok-ty.ensures.made)

@@ -12,7 +12,8 @@ loop-task-init c =
     let trees = c.args.terms.now in
     let tasks : c.push.new.self ≡ task.Visit c.args.id ∷ [] = c.in_ok-push.ensures.pushed ∙ ap (λ l. task.Visit c.args.id ∷ l) c.new-tasks.ensures.empty in
     let comes = λ (steps : ℕ) (m : Tally) (h : IsTally trees steps c.args.self.now m).
-    subst (λ l. IsTypeWalk trees steps l c.args.self.now (count_type (type_at trees c.args.id.0) m)) (sym tasks) (record { now = m; tally = h; ready = (c.requires.id, tt {0}); ends = refl }) in
+    subst (λ l. IsTypeWalk trees steps l c.args.self.now (count_type (type_at trees c.args.id.0) m)) (sym tasks)
+    (record { now = m; tally = h; ready = (c.requires.id, tt {0}); ends = refl }) in
     let n = c.requires.count in
     record { can = (n.0, count_type (type_at trees c.args.id.0) n.1, comes n.0 n.1 n.2); comes = comes }
 

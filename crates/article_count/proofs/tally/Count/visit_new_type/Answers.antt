@@ -25,11 +25,15 @@ returns-in_ok-push-in-Op-clause-walks c = on_ok_weaker c.push_types.result
     let trees = c.args.terms.now in
     let name = c.in-Op.name.now in
     let ids = c.in-Op.args.now in
-    let is : Holds trees.types c.args.id.0 (operator name (types_of (types_at trees.types ids))) = subst (λ ts. Holds ts c.args.id.0 (operator name (types_of (types_at ts ids)))) c.types.ensures.types c.in-Op.ensures.is in
+    let is : Holds trees.types c.args.id.0 (operator name (types_of (types_at trees.types ids))) =
+    subst (λ ts. Holds ts c.args.id.0 (operator name (types_of (types_at ts ids)))) c.types.ensures.types c.in-Op.ensures.is in
     let known = AreBelow-known trees.types c.args.id.0 ids (omega (arith, walk.ready.0)) c.in-Op.ensures.lower in
-    let tasks : c.push_types.new.tasks ≡ with_visits ids (task.Made c.args.id ∷ c.args.tasks.now) = pushed ∙ ap (with_visits ids) c.in_ok-push-in-Op.ensures.pushed in
+    let tasks : c.push_types.new.tasks ≡ with_visits ids (task.Made c.args.id ∷ c.args.tasks.now) =
+    pushed ∙ ap (with_visits ids) c.in_ok-push-in-Op.ensures.pushed in
     rw (c.add-in-Op-2.ensures, c.add-in-Op.ensures, c.word_length-in-Op.ensures)
-    (subst (λ l. IsTypeWalk trees steps l (added (word_length word.TypeOp) (added c.name_length-in-Op.result c.args.self.now)) final) (sym tasks) (operator-IsTypeWalk c.args.id name ids c.name_length-in-Op.result c.name_length-in-Op.ensures (Holds-tree_at trees.types c.args.id.0 _ is) known c.requires.new walk)))
+    (subst (λ l. IsTypeWalk trees steps l (added (word_length word.TypeOp) (added c.name_length-in-Op.result c.args.self.now)) final) (sym tasks)
+    (operator-IsTypeWalk c.args.id name ids c.name_length-in-Op.result c.name_length-in-Op.ensures (Holds-tree_at trees.types c.args.id.0 _ is) known
+    c.requires.new walk)))
     c.push_types.ensures
 
 pub returns-in_ok-push-in-Op-clause-less : goal.returns-in_ok-push-in-Op-clause-less
@@ -38,7 +42,10 @@ returns-in_ok-push-in-Op-clause-less c = on_ok_weaker c.push_types.result
     let trees = c.args.terms.now in
     let name = c.in-Op.name.now in
     let ids = c.in-Op.args.now in
-    let is : Holds trees.types c.args.id.0 (operator name (types_of (types_at trees.types ids))) = subst (λ ts. Holds ts c.args.id.0 (operator name (types_of (types_at ts ids)))) c.types.ensures.types c.in-Op.ensures.is in
-    let tasks : c.push_types.new.tasks ≡ with_visits ids (task.Made c.args.id ∷ c.args.tasks.now) = pushed ∙ ap (with_visits ids) c.in_ok-push-in-Op.ensures.pushed in
-    subst (λ l. types_work trees l < types_work trees (task.Visit c.args.id ∷ c.args.tasks.now)) (sym tasks) (operator-less trees c.args.id name ids c.args.tasks.now (Holds-tree_at trees.types c.args.id.0 _ is)))
+    let is : Holds trees.types c.args.id.0 (operator name (types_of (types_at trees.types ids))) =
+    subst (λ ts. Holds ts c.args.id.0 (operator name (types_of (types_at ts ids)))) c.types.ensures.types c.in-Op.ensures.is in
+    let tasks : c.push_types.new.tasks ≡ with_visits ids (task.Made c.args.id ∷ c.args.tasks.now) =
+    pushed ∙ ap (with_visits ids) c.in_ok-push-in-Op.ensures.pushed in
+    subst (λ l. types_work trees l < types_work trees (task.Visit c.args.id ∷ c.args.tasks.now)) (sym tasks)
+    (operator-less trees c.args.id name ids c.args.tasks.now (Holds-tree_at trees.types c.args.id.0 _ is)))
     c.push_types.ensures

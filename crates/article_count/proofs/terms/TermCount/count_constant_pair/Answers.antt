@@ -11,5 +11,6 @@ count_free_variable-requires-clause-count c = can-then (λ q. add (name_length c
 pub returns : goal.returns
 returns c steps q m h =
     let trees = c.args.terms.now in
-    let behind = adds-CountsTerms (record c.count_free_variable.new.self { count = c.add.new.self }) c.list_length.result (list_length 2) (rw c.add.ensures refl) (ap (capped greatest_length) c.list_length.ensures) in
+    let behind = adds-CountsTerms (record c.count_free_variable.new.self { count = c.add.new.self }) c.list_length.result (list_length 2)
+    (rw c.add.ensures refl) (ap (capped greatest_length) c.list_length.ensures) in
     behind steps q _ (c.in_ok-count_free_variable.ensures steps q _ (c.count_name.ensures trees steps q m h))

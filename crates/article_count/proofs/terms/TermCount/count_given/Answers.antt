@@ -25,11 +25,14 @@ returns-in-Const c = rw c.in-Const.is c.count_named.ensures
 pub returns-in-List : goal.returns-in-List
 returns-in-List c =
     let trees = c.args.terms.now in
-    rw c.in-List.is (subst (λ l. OnOk c.count_constants.result (CountsTerms trees c.args.self.now c.count_constants.new.self (λ q. count_list constant_pair (pairs_at trees l)))) c.deref.ensures.value c.count_constants.ensures)
+    rw c.in-List.is (subst
+    (λ l. OnOk c.count_constants.result (CountsTerms trees c.args.self.now c.count_constants.new.self (λ q. count_list constant_pair (pairs_at trees l))))
+    c.deref.ensures.value c.count_constants.ensures)
 
 pub returns-in-TypeOp : goal.returns-in-TypeOp
 returns-in-TypeOp c = λ steps q m h.
     let trees = c.args.terms.now in
     let three = name_length c.in-TypeOp.op + name_length c.in-TypeOp.abs + name_length c.in-TypeOp.rep in
     rw c.in-TypeOp.is
-    (subst (λ l. IsTermTally trees steps q c.count_names.new.self (count_list (λ n. add (name_length n)) l (add three m))) c.deref-in-TypeOp.ensures.value (c.count_names.ensures trees steps q (add three m) (c.count_three.ensures trees steps q m h)))
+    (subst (λ l. IsTermTally trees steps q c.count_names.new.self (count_list (λ n. add (name_length n)) l (add three m))) c.deref-in-TypeOp.ensures.value
+    (c.count_names.ensures trees steps q (add three m) (c.count_three.ensures trees steps q m h)))

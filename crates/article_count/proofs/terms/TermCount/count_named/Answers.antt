@@ -10,4 +10,5 @@ count_term-requires-clause-count c = can-then (λ q. add (name_length c.args.nam
 
 pub returns : goal.returns
 returns c = on_ok_weaker c.count_term.result
-    (λ counts. counts-then (λ q. add (name_length c.args.name.now)) (λ q. count_under q 0 (term_at c.args.terms.now c.args.id.0)) (c.count_name.ensures c.args.terms.now) counts) c.count_term.ensures
+    (λ counts. counts-then (λ q. add (name_length c.args.name.now)) (λ q. count_under q 0 (term_at c.args.terms.now c.args.id.0))
+    (c.count_name.ensures c.args.terms.now) counts) c.count_term.ensures

@@ -8,4 +8,5 @@ use Rattle.article_count.proofs.terms.TermCount.count_names.Given as goal
 
 -- what is left comes to the same as the whole list
 abbrev pub invariant-loop-name : goal.invariant-loop-name
-invariant-loop-name l = (trees : Trees) → IsEach trees (λ (ns : List Name). Unit {0}) (λ (ns : List Name). ns) (λ q n. add (name_length n)) l.fn.self l.names (drop l.name-index l.names) l.self
+invariant-loop-name l = (trees : Trees) → IsEach trees (λ (ns : List Name). Unit {0}) (λ (ns : List Name). ns) (λ q n. add (name_length n)) l.fn.self l.names
+    (drop l.name-index l.names) l.self

@@ -10,4 +10,5 @@ returns c =
     let old = c.args.self.now in
     let new = c.count_given.new.self in
     subst (λ g. OnOk c.count_given.result (CountsTerms c.args.proof.now.trees old new (λ q. count_given q g))) c.params.ensures.is
-    (subst (λ t. OnOk c.count_given.result (CountsTerms t old new (λ q. count_given q (parameters_view t c.params.result.now)))) c.terms.ensures c.count_given.ensures)
+    (subst (λ t. OnOk c.count_given.result (CountsTerms t old new (λ q. count_given q (parameters_view t c.params.result.now)))) c.terms.ensures
+    c.count_given.ensures)

@@ -12,6 +12,7 @@ returns c = on_ok_weaker c.count_term.result
     (λ counts.
     let trees = c.args.terms.now in
     let s = c.args.sequent.now in
-    let hyps = subst (λ l. CountsTerms trees c.args.self.now c.count_terms.new.self (λ q. count_list (count_under q 0) (terms_at trees l))) c.ids.ensures.numbers c.in_ok-count_terms.ensures in
+    let hyps = subst (λ l. CountsTerms trees c.args.self.now c.count_terms.new.self (λ q. count_list (count_under q 0) (terms_at trees l)))
+    c.ids.ensures.numbers c.in_ok-count_terms.ensures in
     counts-then (λ q. count_list (count_under q 0) (terms_at trees s.hyps)) (λ q. count_under q 0 (term_at trees s.concl.0)) hyps counts)
     c.count_term.ensures

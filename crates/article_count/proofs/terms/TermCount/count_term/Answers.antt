@@ -13,7 +13,15 @@ loop-task-init c =
     let tasks : c.push.new.self ≡ root ∷ [] = c.in_ok-push.ensures.pushed ∙ ap (λ l. root ∷ l) c.new.ensures.empty in
     let comes = λ (steps q : ℕ) (m : Tally) (h : IsTermTally trees steps q c.args.self.now m).
     subst (λ l. IsTermWalk trees steps q l c.args.self.now c.new-2.result (count_under q 0 (term_at trees c.args.id.0) m)) (sym tasks)
-    (record { now = m; tally = h; numbers = []; held = c.new-2.ensures.empty; ready = ((c.requires.id, omega (arith, c.requires.id, h.loose.count)), tt {0}); ends = refl }) in
+    (record {
+      now = m;
+      tally = h;
+      numbers = [];
+      held = c.new-2.ensures.empty;
+      ready =
+          ((c.requires.id, omega (arith, c.requires.id, h.loose.count)), tt {0});
+      ends = refl;
+    }) in
     let n = c.requires.count in
     record { can = (n.0, n.1, count_under n.1 0 (term_at trees c.args.id.0) n.2, comes n.0 n.1 n.2 n.3); comes = comes }
 
@@ -21,5 +29,6 @@ pub returns : goal.returns
 returns c steps q m h =
     let trees = c.args.terms.now in
     let walk = c.loop-task.invariant.comes steps q m h in
-    let done = subst (λ l. IsTermWalk trees steps q l c.loop-task.self c.loop-task.walk.lengths (count_under q 0 (term_at trees c.args.id.0) m)) c.in_default.ensures.popped walk in
+    let done = subst (λ l. IsTermWalk trees steps q l c.loop-task.self c.loop-task.walk.lengths (count_under q 0 (term_at trees c.args.id.0) m))
+    c.in_default.ensures.popped walk in
     subst (IsTermTally trees steps q c.loop-task.self) done.ends done.tally

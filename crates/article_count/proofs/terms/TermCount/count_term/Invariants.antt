@@ -9,7 +9,8 @@ use Rattle.article_count.proofs.terms.TermCount.count_term.Given as goal
 abbrev pub invariant-loop-task : goal.invariant-loop-task
 invariant-loop-task l = record {
   can : CanWalkTerms l.terms l.walk.tasks l.self l.walk.lengths;
-  comes : (steps q : ℕ) (m : Tally) → IsTermTally l.terms steps q l.fn.self m → IsTermWalk l.terms steps q l.walk.tasks l.self l.walk.lengths (count_under q 0 (term_at l.terms l.fn.id.0) m);
+  comes : (steps q : ℕ) (m : Tally) → IsTermTally l.terms steps q l.fn.self m
+      → IsTermWalk l.terms steps q l.walk.tasks l.self l.walk.lengths (count_under q 0 (term_at l.terms l.fn.id.0) m);
 }
 
 abbrev pub decreases-loop-task : goal.decreases-loop-task

@@ -17,4 +17,5 @@ loop-id-preserved c = each-turned c.loop-id.id-index _ _ c.loop-id-test.true ref
 
 pub returns : goal.returns
 returns c =
-    list-ends c.loop-id.id-index (length c.args.ids.now) c.loop-id.self (record c.loop-id.self { count = c.add.new.self }) (omega (arith, c.loop-id-test.false)) refl (sym (length-map c.args.ids.now _)) (rw (c.add.ensures, c.list_length.ensures) refl) c.loop-id.invariant
+    list-ends c.loop-id.id-index (length c.args.ids.now) c.loop-id.self (record c.loop-id.self { count = c.add.new.self }) (omega (arith, c.loop-id-test.false))
+    refl (sym (length-map c.args.ids.now _)) (rw (c.add.ensures, c.list_length.ensures) refl) c.loop-id.invariant

@@ -11,5 +11,6 @@ abbrev pub invariant-loop-id : goal.invariant-loop-id
 invariant-loop-id l = record {
   room : l.self.count.keys.theorems ≡ l.fn.self.count.keys.theorems;
   known : AllByRecursion (λ i. i < l.fn.self.count.keys.theorems) (drop l.id-index l.ids);
-  each : (trees : Trees) → IsEach trees (λ (ids : List ℕ). Unit {0}) (λ (ids : List ℕ). ids) (λ q. count_premise) l.fn.self l.ids (drop l.id-index l.ids) l.self;
+  each : (trees : Trees) → IsEach trees (λ (ids : List ℕ). Unit {0}) (λ (ids : List ℕ). ids) (λ q. count_premise) l.fn.self l.ids (drop l.id-index l.ids)
+      l.self;
 }

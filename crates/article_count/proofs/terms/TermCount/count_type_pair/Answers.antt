@@ -18,6 +18,7 @@ returns c steps q m h =
     let trees = c.args.terms.now in
     let ty = type_at trees c.args.pair.now.1.0 in
     let type_counted = lifted {trees = trees} {c = c.count_name.new.self} c.count_type.new.self (count_type ty) (type-Grows ty) c.in_ok-count_type.ensures in
-    let behind = adds-CountsTerms {trees = trees} {c = record c.count_name.new.self { count = c.count_type.new.self }} (record c.count_name.new.self { count = c.add.new.self }) c.list_length.result (list_length 2) (rw c.add.ensures refl)
+    let behind = adds-CountsTerms {trees = trees} {c = record c.count_name.new.self { count = c.count_type.new.self }}
+    (record c.count_name.new.self { count = c.add.new.self }) c.list_length.result (list_length 2) (rw c.add.ensures refl)
     (ap (capped greatest_length) c.list_length.ensures) in
     behind steps q _ (type_counted steps q _ (c.count_name.ensures trees steps q m h))

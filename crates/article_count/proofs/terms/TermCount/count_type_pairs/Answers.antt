@@ -13,8 +13,11 @@ pub count_type_pair-requires-clause-ty : goal.count_type_pair-requires-clause-ty
 count_type_pair-requires-clause-ty c = (each-item c.loop-pair.pair-index c.pair-item.result c.pair-item.is c.loop-pair-test.true c.loop-pair.invariant).known.0
 
 pub loop-pair-preserved : goal.loop-pair-preserved
-loop-pair-preserved c = item-turned c.loop-pair.pair-index c.pair-item.result _ c.pair-item.is c.loop-pair-test.true refl (λ k. k.1) c.in_ok-count_type_pair.ensures c.loop-pair.invariant
+loop-pair-preserved c = item-turned c.loop-pair.pair-index c.pair-item.result _ c.pair-item.is c.loop-pair-test.true refl (λ k. k.1)
+    c.in_ok-count_type_pair.ensures c.loop-pair.invariant
 
 pub returns : goal.returns
 returns c =
-    list-ends c.loop-pair.pair-index (length c.args.pairs.now) c.loop-pair.self (record c.loop-pair.self { count = c.add.new.self }) (omega (arith, c.loop-pair-test.false)) refl (types-length c.args.terms.now.types c.args.pairs.now) (rw (c.add.ensures, c.list_length.ensures) refl) c.loop-pair.invariant
+    list-ends c.loop-pair.pair-index (length c.args.pairs.now) c.loop-pair.self (record c.loop-pair.self { count = c.add.new.self })
+    (omega (arith, c.loop-pair-test.false)) refl (types-length c.args.terms.now.types c.args.pairs.now) (rw (c.add.ensures, c.list_length.ensures) refl)
+    c.loop-pair.invariant

@@ -16,5 +16,6 @@ returns-clause-sums c = on_ok_weaker c.push.result
     let same = c.take-function.ensures.tasks ∙ c.take-argument.ensures.tasks in
     let memo = c.take-function.ensures.memo ∙ c.take-argument.ensures.memo in
     subst (λ l. IsUsesWalk c.args.terms.now root l v) (sym same)
-    (sum-IsUsesWalk v c.args.place x f rest was (pushed ∙ ap (λ n. n ∷ rest) c.saturating_add-sum.ensures) (rw (← memo, ← c.saturating_add-sum.ensures) c.in_ok-note.ensures.noted) walk))
+    (sum-IsUsesWalk v c.args.place x f rest was (pushed ∙ ap (λ n. n ∷ rest) c.saturating_add-sum.ensures)
+    (rw (← memo, ← c.saturating_add-sum.ensures) c.in_ok-note.ensures.noted) walk))
     c.push.ensures.pushed

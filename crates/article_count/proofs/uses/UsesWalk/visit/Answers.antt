@@ -14,11 +14,14 @@ returns-then-loose-place-clause-sums c = on_ok_weaker c.push.result
     c.push.ensures.pushed
 
 pub returns-then-loose-place-clause-less : goal.returns-then-loose-place-clause-less
-returns-then-loose-place-clause-less c = on_ok_weaker c.push.result (λ pushed. visit-uses-less c.args.terms.now c.args.place c.args.self.now.tasks) c.push.ensures.pushed
+returns-then-loose-place-clause-less c = on_ok_weaker c.push.result (λ pushed. visit-uses-less c.args.terms.now c.args.place c.args.self.now.tasks)
+    c.push.ensures.pushed
 
 pub returns-in-Some-clause-sums : goal.returns-in-Some-clause-sums
 returns-in-Some-clause-sums c = on_ok_weaker c.push-in-Some.result
-    (λ pushed root walk. made-IsUsesWalk _ c.args.place c.in-Some.sum (walk.noted c.args.place c.in-Some.sum c.in-Some.ensures.noted) pushed refl walk) c.push-in-Some.ensures.pushed
+    (λ pushed root walk. made-IsUsesWalk _ c.args.place c.in-Some.sum (walk.noted c.args.place c.in-Some.sum c.in-Some.ensures.noted) pushed refl walk)
+    c.push-in-Some.ensures.pushed
 
 pub returns-in-Some-clause-less : goal.returns-in-Some-clause-less
-returns-in-Some-clause-less c = on_ok_weaker c.push-in-Some.result (λ pushed. visit-uses-less c.args.terms.now c.args.place c.args.self.now.tasks) c.push-in-Some.ensures.pushed
+returns-in-Some-clause-less c = on_ok_weaker c.push-in-Some.result (λ pushed. visit-uses-less c.args.terms.now c.args.place c.args.self.now.tasks)
+    c.push-in-Some.ensures.pushed

@@ -15,6 +15,7 @@ returns-in-App-clause-sums c = on_ok_weaker c.set_out.result
     let here = walk.ends.0 in
     let lower = c.in-App.ensures.lower in
     subst (λ l. IsUsesWalk trees root l c.set_out.new.self) (sym tasks)
-    (app-IsUsesWalk c.set_out.new.self p f x (Some-term_in trees.terms p.id.0 _ c.in-App.ensures.is) (omega (arith, here.0, lower.0), omega (arith, here.1, lower.0)) (omega (arith, here.0, lower.1), omega (arith, here.1, lower.1)) refl refl
+    (app-IsUsesWalk c.set_out.new.self p f x (Some-term_in trees.terms p.id.0 _ c.in-App.ensures.is)
+    (omega (arith, here.0, lower.0), omega (arith, here.1, lower.0)) (omega (arith, here.0, lower.1), omega (arith, here.1, lower.1)) refl refl
     c.set_out.ensures.sums c.set_out.ensures.memo walk))
     c.set_out.ensures.tasks

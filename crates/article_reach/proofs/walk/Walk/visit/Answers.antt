@@ -17,6 +17,7 @@ returns-clause-walks c = on_ok_weaker c.run.result
     let v = c.run.new.self in
     let found = step_found (step_at p.made c.args.step) in
     let first = c.in_ok-want_step.ensures in
-    let r = subst (λ trees. IsWalk trees (step_count p) w → IsWalk trees (step_count p) v × Wants trees [] w v) c.terms.ensures (run (step_count p)) first.walk in
+    let r = subst (λ trees. IsWalk trees (step_count p) w → IsWalk trees (step_count p) v × Wants trees [] w v) c.terms.ensures (run (step_count p)) first.walk
+    in
     subst (λ fs. WalksOn p fs c.args.self.now v) (append-nil found) (trans-WalksOn p found [] c.args.self.now w v first (record { walk = r.0; wants = r.1 })))
     c.run.ensures.walks

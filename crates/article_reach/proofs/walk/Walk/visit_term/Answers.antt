@@ -10,13 +10,15 @@ returns-then-index c count walk =
     let w = c.args.self.now in
     let known = walk.tasks.0 in
     let same = walk.terms in
-    passed-Turned c.args.terms.now count w w (task.Term c.args.id) walk (sym (get_or_read w.terms.items c.args.id.0 _ (omega (arith, known, same)) c.index.ensures false) ∙ c.if-index.true)
+    passed-Turned c.args.terms.now count w w (task.Term c.args.id) walk
+    (sym (get_or_read w.terms.items c.args.id.0 _ (omega (arith, known, same)) c.index.ensures false) ∙ c.if-index.true)
 
 pub returns-in-Bound : goal.returns-in-Bound
 returns-in-Bound c count walk =
     let trees = c.args.terms.now in
     let w = c.args.self.now in
-    bound-Turned trees count w _ c.args.id (record { walk = walk; types = refl; terms = refl }) c.in-Bound.field-0 c.in-Bound.ensures.is (marks-none trees count w _ refl refl refl refl) refl
+    bound-Turned trees count w _ c.args.id (record { walk = walk; types = refl; terms = refl }) c.in-Bound.field-0 c.in-Bound.ensures.is
+    (marks-none trees count w _ refl refl refl refl) refl
 
 pub returns-in_ok-note_variable-in-Free : goal.returns-in_ok-note_variable-in-Free
 returns-in_ok-note_variable-in-Free c = on_ok_weaker c.push.result
@@ -34,7 +36,8 @@ returns-in_ok-note-in-Const c = on_ok_weaker c.push-in-Const.result
     let trees = c.args.terms.now in
     let w = c.args.self.now in
     let name = c.in-Const.name.now in
-    constant-Turned trees count w _ c.args.id (record { walk = walk; types = refl; terms = refl }) name c.in-Const.ty c.in-Const.ensures.is c.in-Const.ensures.lower
+    constant-Turned trees count w _ c.args.id (record { walk = walk; types = refl; terms = refl }) name c.in-Const.ty c.in-Const.ensures.is
+    c.in-Const.ensures.lower
     (marks-constant trees count w _ name refl refl c.in_ok-note-in-Const.ensures refl) tasks)
     c.push-in-Const.ensures.pushed
 
@@ -43,7 +46,8 @@ returns-in_ok-push-in-App c = on_ok_weaker c.push-in-App-2.result
     (λ tasks count walk.
     let trees = c.args.terms.now in
     let w = c.args.self.now in
-    application-Turned trees count w _ c.args.id (record { walk = walk; types = refl; terms = refl }) c.in-App.f c.in-App.x c.in-App.ensures.is c.in-App.ensures.lower.0 c.in-App.ensures.lower.1
+    application-Turned trees count w _ c.args.id (record { walk = walk; types = refl; terms = refl }) c.in-App.f c.in-App.x c.in-App.ensures.is
+    c.in-App.ensures.lower.0 c.in-App.ensures.lower.1
     (marks-none trees count w _ refl refl refl refl) (tasks ∙ ap (λ l. task.Term c.in-App.f ∷ l) c.in_ok-push-in-App.ensures.pushed))
     c.push-in-App-2.ensures.pushed
 
@@ -52,6 +56,7 @@ returns-in_ok-push-in-Lam c = on_ok_weaker c.push-in-Lam-2.result
     (λ tasks count walk.
     let trees = c.args.terms.now in
     let w = c.args.self.now in
-    abstraction-Turned trees count w _ c.args.id (record { walk = walk; types = refl; terms = refl }) c.in-Lam.ty c.in-Lam.body c.in-Lam.ensures.is c.in-Lam.ensures.lower.0 c.in-Lam.ensures.lower.1
+    abstraction-Turned trees count w _ c.args.id (record { walk = walk; types = refl; terms = refl }) c.in-Lam.ty c.in-Lam.body c.in-Lam.ensures.is
+    c.in-Lam.ensures.lower.0 c.in-Lam.ensures.lower.1
     (marks-none trees count w _ refl refl refl refl) (tasks ∙ ap (λ l. task.Type c.in-Lam.ty ∷ l) c.in_ok-push-in-Lam.ensures.pushed))
     c.push-in-Lam-2.ensures.pushed

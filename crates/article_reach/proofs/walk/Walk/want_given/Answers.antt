@@ -24,5 +24,6 @@ returns-in-List c = on_ok_weaker c.want_constants.result
     (λ walks.
     let trees = c.args.proof.now.trees in
     subst (λ fs. WalksOn c.args.proof.now fs c.args.self.now c.want_constants.new.self)
-    (ap (constants_put trees) c.deref-in-List.ensures.value ∙ constants-put trees c.in-List.pairs.items ∙ ap (λ g. given_found (parameters_view trees g)) (sym c.in-List.is)) walks)
+    (ap (constants_put trees) c.deref-in-List.ensures.value ∙ constants-put trees c.in-List.pairs.items
+    ∙ ap (λ g. given_found (parameters_view trees g)) (sym c.in-List.is)) walks)
     c.want_constants.ensures

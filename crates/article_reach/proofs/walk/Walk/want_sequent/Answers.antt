@@ -16,7 +16,9 @@ returns c = on_ok_weaker c.push_terms.result
     let s = c.args.sequent.now in
     let v : Walk = record w { tasks = c.push_terms.new.tasks } in
     let more = map task.Term s.hyps ++ task.Term s.concl ∷ [] in
-    let tasks = put ∙ ap (λ l. with_terms l c.push.new.self) c.ids.ensures.numbers ∙ ap (λ l. map task.Term s.hyps ++ l) c.in_ok-push.ensures.pushed ∙ sym (append_assoc (map task.Term s.hyps) (task.Term s.concl ∷ []) w.tasks) in
+    let tasks = put ∙ ap (λ l. with_terms l c.push.new.self) c.ids.ensures.numbers ∙ ap (λ l. map task.Term s.hyps ++ l) c.in_ok-push.ensures.pushed
+    ∙ sym (append_assoc (map task.Term s.hyps) (task.Term s.concl ∷ []) w.tasks) in
     subst (λ fs. WalksOn p fs w v) (terms-found p.trees s.hyps s.concl)
-    (gains-WalksOn p w v [] more c.requires.walk (marks-none p.trees _ w v refl refl refl refl) (terms-known p.trees s.hyps s.concl c.requires.known.0 c.requires.known.1) refl refl tasks))
+    (gains-WalksOn p w v [] more c.requires.walk (marks-none p.trees _ w v refl refl refl refl)
+    (terms-known p.trees s.hyps s.concl c.requires.known.0 c.requires.known.1) refl refl tasks))
     c.push_terms.ensures

@@ -18,4 +18,5 @@ returns-clause-walks c =
     let v : Walk = record w { steps = c.mark_steps.new.flags } in
     let found = steps_found c.args.ids.now in
     subst (λ fs. WalksOn p fs w v) (append-nil found)
-    (gains-WalksOn p w v found [] c.requires.walk (marks-steps p.trees _ w v c.args.ids.now c.mark_steps.ensures.count c.mark_steps.ensures.each refl refl refl) (tt {0}) refl refl refl)
+    (gains-WalksOn p w v found [] c.requires.walk (marks-steps p.trees _ w v c.args.ids.now c.mark_steps.ensures.count c.mark_steps.ensures.each refl refl refl)
+    (tt {0}) refl refl refl)

@@ -17,5 +17,6 @@ returns c = on_ok_weaker c.push.result
     let w = c.args.self.now in
     let v : Walk = record w { tasks = c.push.new.self } in
     subst (λ fs. WalksOn p fs w v) (append-nil (term_found (term_at p.trees c.args.term.0)))
-    (gains-WalksOn p w v [] (task.Term c.args.term ∷ []) c.requires.walk (marks-none p.trees _ w v refl refl refl refl) (c.requires.known, tt {0}) refl refl put))
+    (gains-WalksOn p w v [] (task.Term c.args.term ∷ []) c.requires.walk (marks-none p.trees _ w v refl refl refl refl) (c.requires.known, tt {0}) refl refl
+    put))
     c.push.ensures.pushed

@@ -9,5 +9,6 @@ pub returns : goal.returns
 returns c = on_ok_weaker c.want_term.result
     (λ walks.
     let p = c.args.proof.now in
-    trans-WalksOn p (variable_found p.trees c.args.variable.now) (term_found (term_at p.trees c.args.term.0)) c.args.self.now c.want_variable.new.self c.want_term.new.self c.in_ok-want_variable.ensures walks)
+    trans-WalksOn p (variable_found p.trees c.args.variable.now) (term_found (term_at p.trees c.args.term.0)) c.args.self.now c.want_variable.new.self
+    c.want_term.new.self c.in_ok-want_variable.ensures walks)
     c.want_term.ensures

@@ -18,5 +18,6 @@ returns c = on_ok_weaker c.push.result
     let x = c.args.variable.now in
     let v : Walk = record w { numbers = c.note_variable.new.numbers; tasks = c.push.new.self } in
     subst (λ fs. WalksOn p fs w v) (ap (λ l. Found.named x.name ∷ l) (append-nil (type_found (type_at p.trees x.ty.0))))
-    (gains-WalksOn p w v (Found.named x.name ∷ []) (task.Type x.ty ∷ []) c.requires.walk (marks-variable p.trees _ w v x.name refl refl refl c.in_ok-note_variable.ensures) (c.requires.known, tt {0}) refl refl put))
+    (gains-WalksOn p w v (Found.named x.name ∷ []) (task.Type x.ty ∷ []) c.requires.walk
+    (marks-variable p.trees _ w v x.name refl refl refl c.in_ok-note_variable.ensures) (c.requires.known, tt {0}) refl refl put))
     c.push.ensures.pushed

@@ -11,7 +11,10 @@ returns-then-len-eq-MAX_LINE-clause-feeds c =
 pub returns-then-self-len-eq-MAX_ARTICLE-clause-feeds : goal.returns-then-self-len-eq-MAX_ARTICLE-clause-feeds
 returns-then-self-len-eq-MAX_ARTICLE-clause-feeds c =
     take_full _ _ _ _ c.self-2.invariant _ c.self-2.view_is c.requires _ _ _
-    (λ h. elim c.else-byte-ne10.branch [ else-byte-ne10-via-then-byte-ne10+else-len-eq-MAX_LINE w ↦ grind (arith, common_steps) | else-byte-ne10-via-else-byte-ne10 w ↦ grind (arith, common_steps) ])
+    (λ h. elim c.else-byte-ne10.branch [
+      | else-byte-ne10-via-then-byte-ne10+else-len-eq-MAX_LINE w ↦ grind (arith, common_steps)
+      | else-byte-ne10-via-else-byte-ne10 w ↦ grind (arith, common_steps)
+    ])
     (grind (arith, common_steps)) c.refuse-then-self-len-eq-MAX_ARTICLE.ensures.stopped
 
 pub returns-then-is_err-clause-feeds : goal.returns-then-is_err-clause-feeds
@@ -24,5 +27,8 @@ returns-clause-feeds c =
     let longer : c.push.new.self.items ≡ c.self-2.inside.rest.items ++ c.args.byte ∷ [] = grind (arith, common_steps) in
     let len : length c.push.new.self.items ≡ length c.self-2.inside.rest.items + 1 = grind (arith, common_steps) in
     take_byte _ _ _ _ c.self-2.invariant _ c.self-2.view_is c.requires _ _ _ _ longer len c.if-byte-eq10.false
-    (λ h. elim c.else-byte-ne10.branch [ else-byte-ne10-via-then-byte-ne10+else-len-eq-MAX_LINE w ↦ grind (arith, common_steps) | else-byte-ne10-via-else-byte-ne10 w ↦ grind (arith, common_steps) ])
+    (λ h. elim c.else-byte-ne10.branch [
+      | else-byte-ne10-via-then-byte-ne10+else-len-eq-MAX_LINE w ↦ grind (arith, common_steps)
+      | else-byte-ne10-via-else-byte-ne10 w ↦ grind (arith, common_steps)
+    ])
     (λ h. grind (arith, common_steps)) refl

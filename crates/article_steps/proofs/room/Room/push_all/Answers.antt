@@ -19,7 +19,8 @@ pushed_all-room (j ∷ js) a = pushed_all-room js (pushed j a)
 pushed_all-length : (js : List Job) (i : ℕ) (a : Agenda) → i ≤ length js → length (pushed_all (take i js) a).jobs ≡ i + length a.jobs
 pushed_all-length js zero a h = omega arith
 pushed_all-length [] (suc i) a h = absurd (omega (arith, h))
-pushed_all-length (j ∷ js) (suc i) a h = pushed_all-length js i (pushed j a) (omega (arith, h)) ∙ (let e : i + suc (length a.jobs) ≡ suc i + length a.jobs = omega arith in e)
+pushed_all-length (j ∷ js) (suc i) a h = pushed_all-length js i (pushed j a) (omega (arith, h))
+    ∙ (let e : i + suc (length a.jobs) ≡ suc i + length a.jobs = omega arith in e)
 
 pub loop-job-preserved : goal.loop-job-preserved
 loop-job-preserved c =
@@ -28,7 +29,8 @@ loop-job-preserved c =
     let next : i + 1 ≡ suc i = omega arith in
     let d : Job = job.Type (record { 0 = 0 }) in
     c.push.ensures ∙ ap (pushed (slice_index_or js i d)) c.loop-job.invariant
-    ∙ sym (ap (λ k. pushed_all (take k js) c.args.self.now) next ∙ ap (λ l. pushed_all l c.args.self.now) (take-suc js i d c.loop-job-test.true) ∙ pushed_all-last (take i js) (slice_index_or js i d) c.args.self.now)
+    ∙ sym (ap (λ k. pushed_all (take k js) c.args.self.now) next ∙ ap (λ l. pushed_all l c.args.self.now) (take-suc js i d c.loop-job-test.true)
+    ∙ pushed_all-last (take i js) (slice_index_or js i d) c.args.self.now)
 
 pub push-requires : goal.push-requires
 push-requires c =

@@ -16,5 +16,7 @@ reversed-front xs (suc n) less e h =
 
 pub returns : goal.returns
 returns c =
-    let same = reversed-front c.self.inside.binders.items c.self.inside.depth c.saturating_sub-self-inside.result c.saturating_sub-self-inside.ensures (omega (arith, c.self.invariant.1)) in
-    ap (λ bs. record { room = length c.self.inside.jobs.items; jobs = reverse (take c.self.inside.len c.self.inside.jobs.items); binders = bs }) same ∙ ap unbound c.self.view_is
+    let same = reversed-front c.self.inside.binders.items c.self.inside.depth c.saturating_sub-self-inside.result c.saturating_sub-self-inside.ensures
+    (omega (arith, c.self.invariant.1)) in
+    ap (λ bs. record { room = length c.self.inside.jobs.items; jobs = reverse (take c.self.inside.len c.self.inside.jobs.items); binders = bs }) same
+    ∙ ap unbound c.self.view_is

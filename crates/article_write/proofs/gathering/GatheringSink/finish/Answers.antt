@@ -9,8 +9,10 @@ returns-in-Ok g c old faults text w =
     let begun = g.S.Sink.got c.args.self.begun.value in
     let got = g.S.Sink.got c.args.self.sink in
     let i = g.S.Sink.faults c.args.self.sink in
-    writes_given old begun got c.args.self.waiting text faults i (g.S.Sink.faults c.given.result.0) (g.S.Sink.got c.given.result.0) c.given.ensures.kept.0 c.given.result.1 c.args.self.grown
-    (subst (λ o. Writes (told_since old old []) faults text (told_since begun got c.args.self.waiting) i o) c.in-Ok.is w) c.given.ensures.ok c.given.ensures.kept.1 c.given.ensures.grown c.given.ensures.cause
+    writes_given old begun got c.args.self.waiting text faults i (g.S.Sink.faults c.given.result.0) (g.S.Sink.got c.given.result.0) c.given.ensures.kept.0
+    c.given.result.1 c.args.self.grown
+    (subst (λ o. Writes (told_since old old []) faults text (told_since begun got c.args.self.waiting) i o) c.in-Ok.is w) c.given.ensures.ok
+    c.given.ensures.kept.1 c.given.ensures.grown c.given.ensures.cause
 
 pub returns : goal.returns
 returns g c old faults text w =

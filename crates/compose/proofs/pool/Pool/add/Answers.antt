@@ -35,11 +35,13 @@ invariant_of-self-in-Ok c =
     let steps : c.len-count.result ≡ length c.self.inside.steps.items = grind (arith, common_steps) in
     let count : c.len-count.result ≡ length held = steps ∙ ap length c.self.invariant.numbered ∙ length_map (λ (u : Said). u.step) held in
     record {
-      numbered = c.in_ok-hold.ensures.steps ∙ steps-push held s c.self.inside.steps.items c.args.step c.self.invariant.numbered refl ∙ sym (ap steps_in c.in_ok-hold.ensures.held);
+      numbered = c.in_ok-hold.ensures.steps ∙ steps-push held s c.self.inside.steps.items c.args.step c.self.invariant.numbered refl
+          ∙ sym (ap steps_in c.in_ok-hold.ensures.held);
       listed = subst (λ p. AreListed p new) (sym c.in_ok-hold.ensures.held)
           (AreListed-add held s old new c.note.ensures.others c.self.invariant.listed
           (subst (λ n. IsNoted (held ++ s ∷ []) n (list_of old c.args.sequent.concl) (list_of new c.args.sequent.concl)) count
-          (subst (λ p. IsNoted p c.len-count.result (list_of old c.args.sequent.concl) (list_of new c.args.sequent.concl)) (c.deref.ensures.value ∙ c.in_ok-hold.ensures.held) c.in-Ok.ensures.noted)));
+          (subst (λ p. IsNoted p c.len-count.result (list_of old c.args.sequent.concl) (list_of new c.args.sequent.concl))
+          (c.deref.ensures.value ∙ c.in_ok-hold.ensures.held) c.in-Ok.ensures.noted)));
     }
 
 pub invariant_of-self-in-Err : goal.invariant_of-self-in-Err
@@ -50,8 +52,11 @@ invariant_of-self-in-Err c =
     let new = c.note.new.lists.entries in
     let steps : c.len-count.result ≡ length own = grind (arith, common_steps) in
     let count : c.len-count.result ≡ length held = steps ∙ ap length c.self.invariant.numbered ∙ length_map (λ (u : Said). u.step) held in
-    let back : c.truncate.new.self.items ≡ held = c.truncate.ensures.items ∙ ap (take c.len-count.result) c.in_ok-hold.ensures.held ∙ ap (λ n. take n (held ++ s ∷ [])) count ∙ take-append_seam held (s ∷ []) in
-    let steps_back : c.truncate-in-Err.new.self.items ≡ own = c.truncate-in-Err.ensures.items ∙ ap (take c.len-count.result) c.in_ok-hold.ensures.steps ∙ ap (λ n. take n (own ++ c.args.step ∷ [])) steps ∙ take-append_seam own (c.args.step ∷ []) in
+    let back : c.truncate.new.self.items ≡ held = c.truncate.ensures.items ∙ ap (take c.len-count.result) c.in_ok-hold.ensures.held ∙ ap
+    (λ n. take n (held ++ s ∷ [])) count ∙ take-append_seam held (s ∷ []) in
+    let steps_back : c.truncate-in-Err.new.self.items ≡ own =
+    c.truncate-in-Err.ensures.items ∙ ap (take c.len-count.result) c.in_ok-hold.ensures.steps ∙ ap (λ n. take n (own ++ c.args.step ∷ [])) steps
+    ∙ take-append_seam own (c.args.step ∷ []) in
     record {
       numbered = steps_back ∙ c.self.invariant.numbered ∙ sym (ap steps_in back);
       listed = subst (λ p. AreListed p new) (sym back) (AreListed-same held c.self.inside.lists.entries new c.in-Err.ensures.unchanged c.self.invariant.listed);

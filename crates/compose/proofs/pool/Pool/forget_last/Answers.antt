@@ -16,7 +16,9 @@ invariant_of-self c =
     let place : c.len.result ≡ length held = grind (arith, common_steps) in
     let count : vec_len c.self.inside.steps ≡ length c.self.inside.steps.items = grind (arith, common_steps) in
     record {
-      numbered = c.pop-step.ensures.rest ∙ ap (λ n. take (n - 1) c.self.inside.steps.items) count ∙ steps-pop held said c.self.inside.steps.items (c.self.invariant.numbered ∙ ap steps_in c.in-Some.ensures.items);
+      numbered = c.pop-step.ensures.rest ∙ ap (λ n. take (n - 1) c.self.inside.steps.items) count
+          ∙ steps-pop held said c.self.inside.steps.items (c.self.invariant.numbered ∙ ap steps_in c.in-Some.ensures.items);
       listed = AreListed-back held said lists c.strike.new.lists.entries c.strike.ensures.others all
-          (subst (λ p. IsStruck (held ++ said ∷ []) p (list_of lists said.sequent.concl) (list_of c.strike.new.lists.entries said.sequent.concl)) place (c.strike.ensures.struck (held ++ said ∷ []) (all said.sequent.concl).ordered));
+          (subst (λ p. IsStruck (held ++ said ∷ []) p (list_of lists said.sequent.concl) (list_of c.strike.new.lists.entries said.sequent.concl)) place
+          (c.strike.ensures.struck (held ++ said ∷ []) (all said.sequent.concl).ordered));
     }

@@ -7,4 +7,5 @@ use Rattle.dk_read.proofs.names.Names.copied.Goals as goal
 pub returns : goal.returns
 returns c =
     subst (λ x. IfOk c.copied.result (λ bytes. bytes.items ≡ x))
-    (sym (name_at-names_of c.self.inside.table c.self.inside.meanings.items c.args.number c.self.invariant.each) ∙ ap (λ l. name_at l c.args.number) c.self.view_is) c.copied.ensures
+    (sym (name_at-names_of c.self.inside.table c.self.inside.meanings.items c.args.number c.self.invariant.each)
+    ∙ ap (λ l. name_at l c.args.number) c.self.view_is) c.copied.ensures

@@ -13,7 +13,8 @@ apply-requires c =
     record {
       sound = grows.sound c.requires.sound;
       function = c.in-Ok.ensures.known;
-      ordered = first_ordered old one (name_at old.names c.args.name) (tree_at one.module.table c.in-Ok.atom.0) c.args.first c.requires.sound.is_module grows c.requires.ordered c.in-Ok.ensures.means;
+      ordered = first_ordered old one (name_at old.names c.args.name) (tree_at one.module.table c.in-Ok.atom.0) c.args.first c.requires.sound.is_module grows
+          c.requires.ordered c.in-Ok.ensures.means;
       token = IsTokenKnown-longer old.names one.names c.args.token grows.names.longer c.requires.token;
     }
 
@@ -24,7 +25,9 @@ returns-in-Ok c =
     let grows = c.meaning.ensures.grows in
     record {
       becomes = becomes_as _ _ c.apply.new.self c.apply.result
-          (first_applies old one (name_at old.names c.args.name) (tree_at one.module.table c.in-Ok.atom.0) c.args.first c.args.place (token_in old.names c.args.token) (token_in one.names c.args.token) grows c.in-Ok.ensures.means (token-Grows old.names one.names c.args.token grows.names.stays c.requires.token))
+          (first_applies old one (name_at old.names c.args.name) (tree_at one.module.table c.in-Ok.atom.0) c.args.first c.args.place
+          (token_in old.names c.args.token) (token_in one.names c.args.token) grows c.in-Ok.ensures.means
+          (token-Grows old.names one.names c.args.token grows.names.stays c.requires.token))
           c.apply.ensures.becomes;
       ready = c.apply.ensures.ready;
     }
@@ -33,6 +36,7 @@ pub returns-in-Err : goal.returns-in-Err
 returns-in-Err c =
     let old = c.args.self.now in
     record {
-      becomes = after_unknown (before old) (head_of old) (frames_of old) c.args.first c.args.place (name_at old.names c.args.name) (token_in old.names c.args.token) c.meaning.new.self c.in-Err.stop c.in-Err.ensures.means;
+      becomes = after_unknown (before old) (head_of old) (frames_of old) c.args.first c.args.place (name_at old.names c.args.name)
+          (token_in old.names c.args.token) c.meaning.new.self c.in-Err.stop c.in-Err.ensures.means;
       ready = tt;
     }

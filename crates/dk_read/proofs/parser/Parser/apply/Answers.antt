@@ -14,7 +14,8 @@ returns-in_ok-atom-in-Name-clause-becomes c =
     let one = c.meaning.new.self in
     let x = tree_at one.module.table c.in_ok-atom-in-Name.atom.0 in
     becomes_as _ _ c.argue.new.self c.argue.result
-    (name_applies (before old) (head_of old) (frames_of old) (tree_in old.module.table c.args.function) c.args.place old.names c.args.token c.in-Name.name x c.in-Name.is c.in_ok-atom-in-Name.ensures.means
+    (name_applies (before old) (head_of old) (frames_of old) (tree_in old.module.table c.args.function) c.args.place old.names c.args.token c.in-Name.name x
+    c.in-Name.is c.in_ok-atom-in-Name.ensures.means
     ∙ grown_atom old one c.args.function x c.meaning.ensures.grows c.requires.function)
     c.argue.ensures.becomes
 
@@ -24,7 +25,8 @@ returns-in_ok-atom-in-TypeWord-clause-becomes c =
     let one = c.node.new.self in
     let x = tree_at one.module.table c.in_ok-atom-in-TypeWord.atom.0 in
     becomes_as _ _ c.argue-in-TypeWord.new.self c.argue-in-TypeWord.result
-    (type_applies (before old) (head_of old) (frames_of old) (tree_in old.module.table c.args.function) c.args.place old.names c.args.token x c.in-TypeWord.is (held_is one.module.table c.in_ok-atom-in-TypeWord.atom.0 SortType c.in_ok-atom-in-TypeWord.ensures.made)
+    (type_applies (before old) (head_of old) (frames_of old) (tree_in old.module.table c.args.function) c.args.place old.names c.args.token x c.in-TypeWord.is
+    (held_is one.module.table c.in_ok-atom-in-TypeWord.atom.0 SortType c.in_ok-atom-in-TypeWord.ensures.made)
     ∙ grown_atom old one c.args.function x c.node.ensures.grows c.requires.function)
     c.argue-in-TypeWord.ensures.becomes
 
@@ -42,7 +44,9 @@ pub returns-in-Some : goal.returns-in-Some
 returns-in-Some c =
     let p = c.args.self.now in
     record {
-      becomes = becomes_as _ _ c.end_application.new.self c.end_application.result (ap (λ f. reading.applies (before p) (head_of p) (frames_of p) (tree_in p.module.table f) c.args.place (token_in p.names c.args.token)) c.in-Some.is) c.end_application.ensures.becomes;
+      becomes = becomes_as _ _ c.end_application.new.self c.end_application.result
+          (ap (λ f. reading.applies (before p) (head_of p) (frames_of p) (tree_in p.module.table f) c.args.place (token_in p.names c.args.token)) c.in-Some.is)
+          c.end_application.ensures.becomes;
       ready = c.end_application.ensures.ready;
     }
 
@@ -52,6 +56,7 @@ returns-in-None c =
     record {
       becomes =
           ap (λ f. reading.applies (before p) (head_of p) (frames_of p) (tree_in p.module.table f) c.args.place (token_in p.names c.args.token)) c.in-None.is
-          ∙ nothing_applies (before p) (head_of p) (frames_of p) c.args.place p.names c.args.token (sign_after c.args.token c.in_default.not-Name c.in_default.not-TypeWord c.in_default.not-LeftParen);
+          ∙ nothing_applies (before p) (head_of p) (frames_of p) c.args.place p.names c.args.token
+          (sign_after c.args.token c.in_default.not-Name c.in_default.not-TypeWord c.in_default.not-LeftParen);
       ready = tt;
     }

@@ -10,5 +10,6 @@ advance-requires-clause-reading c = reading_grows c.args.self.now c.number.new.s
 pub returns-clause-becomes : goal.returns-clause-becomes
 returns-clause-becomes c =
     becomes_as _ _ c.advance.new.self c.advance.result
-    (advance_grows c.args.self.now c.number.new.self c.args.place (tokens.Name c.args.word.now) _ c.number.ensures.grows c.requires.reading (ap tokens.Name (sym c.in_ok-name.ensures.named)))
+    (advance_grows c.args.self.now c.number.new.self c.args.place (tokens.Name c.args.word.now) _ c.number.ensures.grows c.requires.reading
+    (ap tokens.Name (sym c.in_ok-name.ensures.named)))
     c.advance.ensures.becomes

@@ -13,5 +13,7 @@ returns-in-Some-Domain-clause-sound c =
     let f = frame.Domain c.in-Some-Domain.name in
     let count : vec_len p.frames ≡ length p.frames.items = grind (arith, common_steps) in
     let split : reverse p.frames.items ≡ f ∷ reverse c.pop.new.self.items =
-    popped p.frames.items c.pop.new.self.items c.deref.result.now (vec_len p.frames) f c.deref.ensures.value count c.pop.ensures.rest (sym c.last.ensures.value ∙ ap option_copied c.in-Some-Domain.is ∙ ap Some c.in-Some-Domain.field-0-is) in
-    plain_out p.module p.names p.nameless p.atoms p.binders p.head (reverse c.pop.new.self.items) f tt (subst (IsSoundIn p.module p.names p.nameless p.atoms p.binders p.head) split c.requires.sound)
+    popped p.frames.items c.pop.new.self.items c.deref.result.now (vec_len p.frames) f c.deref.ensures.value count c.pop.ensures.rest
+    (sym c.last.ensures.value ∙ ap option_copied c.in-Some-Domain.is ∙ ap Some c.in-Some-Domain.field-0-is) in
+    plain_out p.module p.names p.nameless p.atoms p.binders p.head (reverse c.pop.new.self.items) f tt
+    (subst (IsSoundIn p.module p.names p.nameless p.atoms p.binders p.head) split c.requires.sound)

@@ -11,7 +11,8 @@ pub returns-in-Binder-clause-means : goal.returns-in-Binder-clause-means
 returns-in-Binder-clause-means c =
     let p = c.args.self.now in
     means_made _ c.args.place (name_at p.names c.args.name) c.variable.new.self (Var c.saturating_sub-number.result) c.variable.result
-    (meaning_is p c.args.name (meaning.Binder c.in-Binder.level) c.requires.sound c.in-Binder.ensures ∙ ap (λ i. Some (Var i)) (sym (c.saturating_sub-number.ensures ∙ ap (λ i. i - 1) c.saturating_sub.ensures)))
+    (meaning_is p c.args.name (meaning.Binder c.in-Binder.level) c.requires.sound c.in-Binder.ensures
+    ∙ ap (λ i. Some (Var i)) (sym (c.saturating_sub-number.ensures ∙ ap (λ i. i - 1) c.saturating_sub.ensures)))
     c.variable.ensures.made c.variable.ensures.memory
 
 pub named-requires-clause-declared : goal.named-requires-clause-declared

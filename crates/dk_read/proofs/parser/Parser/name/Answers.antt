@@ -6,6 +6,7 @@ returns-in-Nothing-clause-becomes c = names_new c.args.self.now c.args.form c.ar
 
 pub returns-in-Symbol : goal.returns-in-Symbol
 returns-in-Symbol c = record {
-  becomes = names_taken c.args.self.now c.args.form c.args.place c.args.name c.meaning.result c.requires.sound c.requires.closed c.meaning.ensures c.in-Symbol.is;
+  becomes = names_taken c.args.self.now c.args.form c.args.place c.args.name c.meaning.result c.requires.sound c.requires.closed c.meaning.ensures
+      c.in-Symbol.is;
   ready = tt;
 }

@@ -19,7 +19,8 @@ apply-requires c =
 
 pub returns-in-InApplication : goal.returns-in-InApplication
 returns-in-InApplication c = record {
-  becomes = becomes_as _ _ c.apply.new.self c.apply.result (at_state c.args.self.now (state.InApplication c.in-InApplication.function) c.args.place c.args.token c.in-InApplication.is) c.apply.ensures.becomes;
+  becomes = becomes_as _ _ c.apply.new.self c.apply.result
+      (at_state c.args.self.now (state.InApplication c.in-InApplication.function) c.args.place c.args.token c.in-InApplication.is) c.apply.ensures.becomes;
   ready = c.apply.ensures.ready;
 }
 
@@ -33,25 +34,32 @@ pub returns-in_default : goal.returns-in_default
 returns-in_default c =
     let p = c.args.self.now in
     record {
-      becomes = becomes_as _ _ c.apply-in_default.new.self c.apply-in_default.result (at_state p state.AtTerm c.args.place c.args.token c.in-AtTerm.is ∙ term_begins (before p) (head_of p) (frames_of p) c.args.place p.names c.args.token c.in_default.not-Name) c.apply-in_default.ensures.becomes;
+      becomes = becomes_as _ _ c.apply-in_default.new.self c.apply-in_default.result
+          (at_state p state.AtTerm c.args.place c.args.token c.in-AtTerm.is
+          ∙ term_begins (before p) (head_of p) (frames_of p) c.args.place p.names c.args.token c.in_default.not-Name) c.apply-in_default.ensures.becomes;
       ready = c.apply-in_default.ensures.ready;
     }
 
 pub returns-in_default-token : goal.returns-in_default-token
 returns-in_default-token c = record {
-  becomes = becomes_as _ _ c.after_first.new.self c.after_first.result (first_becomes c.args.self.now c.args.self.now.state c.in-AfterFirst.first c.args.place c.in-AfterFirst.name c.args.token c.in-AfterFirst.is (no_colon c.args.token c.in_default-token.not-Colon)) c.after_first.ensures.becomes;
+  becomes = becomes_as _ _ c.after_first.new.self c.after_first.result
+      (first_becomes c.args.self.now c.args.self.now.state c.in-AfterFirst.first c.args.place c.in-AfterFirst.name c.args.token c.in-AfterFirst.is
+      (no_colon c.args.token c.in_default-token.not-Colon)) c.after_first.ensures.becomes;
   ready = c.after_first.ensures.ready;
 }
 
 pub returns-in-Between : goal.returns-in-Between
 returns-in-Between c = record {
-  becomes = becomes_as _ _ c.begin.new.self c.begin.result (at_state c.args.self.now state.Between c.args.place c.args.token c.in-Between.is) c.begin.ensures.becomes;
+  becomes = becomes_as _ _ c.begin.new.self c.begin.result (at_state c.args.self.now state.Between c.args.place c.args.token c.in-Between.is)
+      c.begin.ensures.becomes;
   ready = c.begin.ensures.ready;
 }
 
 pub returns-in-Name-token : goal.returns-in-Name-token
 returns-in-Name-token c = record {
-  becomes = becomes_as _ _ c.name.new.self c.name.result (at_token c.args.self.now (state.AfterKeyword c.in-AfterKeyword.form) c.args.place c.args.token (token.Name c.in-Name-token.name) c.in-AfterKeyword.is c.in-Name-token.is) c.name.ensures.becomes;
+  becomes = becomes_as _ _ c.name.new.self c.name.result
+      (at_token c.args.self.now (state.AfterKeyword c.in-AfterKeyword.form) c.args.place c.args.token (token.Name c.in-Name-token.name) c.in-AfterKeyword.is
+      c.in-Name-token.is) c.name.ensures.becomes;
   ready = c.name.ensures.ready;
 }
 
@@ -59,7 +67,8 @@ pub returns-in_default-token-2 : goal.returns-in_default-token-2
 returns-in_default-token-2 c =
     let p = c.args.self.now in
     record {
-      becomes = at_state p (state.AfterKeyword c.in-AfterKeyword.form) c.args.place c.args.token c.in-AfterKeyword.is ∙ name_wanted (before p) c.in-AfterKeyword.form c.args.place p.names c.args.token c.in_default-token-2.not-Name;
+      becomes = at_state p (state.AfterKeyword c.in-AfterKeyword.form) c.args.place c.args.token c.in-AfterKeyword.is
+          ∙ name_wanted (before p) c.in-AfterKeyword.form c.args.place p.names c.args.token c.in_default-token-2.not-Name;
       ready = tt;
     }
 
@@ -67,6 +76,7 @@ pub returns-in_default-token-3 : goal.returns-in_default-token-3
 returns-in_default-token-3 c =
     let p = c.args.self.now in
     record {
-      becomes = at_state p (state.AfterName c.in-AfterName.form c.in-AfterName.name) c.args.place c.args.token c.in-AfterName.is ∙ colon_wanted (before p) c.in-AfterName.form (name_at p.names c.in-AfterName.name) c.args.place p.names c.args.token c.in_default-token-3.not-Colon;
+      becomes = at_state p (state.AfterName c.in-AfterName.form c.in-AfterName.name) c.args.place c.args.token c.in-AfterName.is
+          ∙ colon_wanted (before p) c.in-AfterName.form (name_at p.names c.in-AfterName.name) c.args.place p.names c.args.token c.in_default-token-3.not-Colon;
       ready = tt;
     }

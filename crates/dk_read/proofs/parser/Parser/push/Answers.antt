@@ -16,8 +16,10 @@ returns-clause-ready c =
     let p = c.args.self.now in
     let none : reverse p.frames.items ≡ [] = ap reverse c.requires.closed in
     let e = c.in_ok-push.ensures in
-    let declared = declared_in p.module c.push.new.self p.names c.put.new.self p.nameless p.atoms p.binders p.head c.put.ensures.keeps c.args.name (declaration_in p.module.table c.args.decl) c.requires.name.1
-    e.table e.held (e.is_module c.requires.sound.is_module) e.declared c.requires.follows.new_name (length signature + c.len-symbol.result) (omega (arith, symbols-length p.module.table p.module.decls, c.len-symbol.ensures.count)) c.put.ensures.puts
+    let declared = declared_in p.module c.push.new.self p.names c.put.new.self p.nameless p.atoms p.binders p.head c.put.ensures.keeps c.args.name
+    (declaration_in p.module.table c.args.decl) c.requires.name.1
+    e.table e.held (e.is_module c.requires.sound.is_module) e.declared c.requires.follows.new_name (length signature + c.len-symbol.result)
+    (omega (arith, symbols-length p.module.table p.module.decls, c.len-symbol.ensures.count)) c.put.ensures.puts
     (subst (IsSoundIn p.module p.names p.nameless p.atoms p.binders p.head) none c.requires.sound) in
     let place = c.in_ok-make_place.ensures in
     let trees = c.push.new.self.table in

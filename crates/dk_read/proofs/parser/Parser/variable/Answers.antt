@@ -10,7 +10,8 @@ found : (c : goal.After-result-1) → slice_get c.args.self.now.atoms.variables.
 found c =
     let id = c.in-Some.id.now in
     let item = c.in-Some.ensures.lookup.3 in
-    ap (λ (l : List LpId). slice_get l c.args.number) (sym c.deref.ensures.value) ∙ slice_get-get_or c.deref.result.now c.args.number id item.0 ∙ ap Some (sym (item.1 id))
+    ap (λ (l : List LpId). slice_get l c.args.number) (sym c.deref.ensures.value) ∙ slice_get-get_or c.deref.result.now c.args.number id item.0
+    ∙ ap Some (sym (item.1 id))
 
 holds : (c : goal.After-result-1) → Holds c.args.self.now.module.table c.in-Some.id.now.0 (Var c.args.number)
 holds c = c.requires.sound.atoms.0 c.args.number c.in-Some.id.now (found c)

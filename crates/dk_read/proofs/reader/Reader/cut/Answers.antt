@@ -22,7 +22,8 @@ returns-clause-feeds c = λ text fed.
     let some : 1 ≤ length back = omega (arith, c.split_at.ensures.back_len, c.requires.over) in
     let limit = c.stop_at.ensures.limit ∙ c.read.ensures.limit ∙ c.requires.limit in
     subst (λ w. IsFed c.stop_at.new.self (text ++ w)) (sym c.split_at.ensures.by_index.0)
-    (fed_there c.read.new.self c.stop_at.new.self n c.stop_at.ensures.stops c.stop_at.ensures.stays text front back limit whole some (c.read.ensures.feeds text fed))
+    (fed_there c.read.new.self c.stop_at.new.self n c.stop_at.ensures.stops c.stop_at.ensures.stays text front back limit whole some
+    (c.read.ensures.feeds text fed))
 
 pub returns-clause-goes : goal.returns-clause-goes
 returns-clause-goes c = λ e. absurd (stops_there c.read.new.self c.stop_at.new.self c.args.most c.stop_at.ensures.stops c.stop_at.ensures.stays e)

@@ -11,4 +11,5 @@ returns-in-Opening-clause-ends c = λ text fed.
     opening_ends c.args.self c.in-Opening.count text progress going within fed
 
 pub returns-in-Stopped-clause-ends : goal.returns-in-Stopped-clause-ends
-returns-in-Stopped-clause-ends c = λ text fed. stopped c.args.self c.in-Stopped.fault text (ap (λ (r : Reading). r.fault) (sym c.self.view_is) ∙ ap fault_in c.in-Stopped.is) fed
+returns-in-Stopped-clause-ends c = λ text fed. stopped c.args.self c.in-Stopped.fault text
+    (ap (λ (r : Reading). r.fault) (sym c.self.view_is) ∙ ap fault_in c.in-Stopped.is) fed

@@ -8,7 +8,8 @@ pub returns-in-Err : goal.returns-in-Err
 returns-in-Err c =
     let old = c.args.self.now in
     record {
-      takes = token_stops (old.place + 1) c.args.first (before old.parser) (state_of old.parser) (token_in old.parser.names c.args.token) (tokens.begins old.place c.args.byte) c.advance.new.self
+      takes = token_stops (old.place + 1) c.args.first (before old.parser) (state_of old.parser) (token_in old.parser.names c.args.token)
+          (tokens.begins old.place c.args.byte) c.advance.new.self
           (record { parser = c.advance.new.self; pending = old.pending; word = old.word; place = old.place }) c.in-Err.stop refl c.in-Err.ensures.becomes;
       reading = tt;
       place = tt;
@@ -18,7 +19,8 @@ pub returns-in-Ok : goal.returns-in-Ok
 returns-in-Ok c =
     let old = c.args.self.now in
     record {
-      takes = token_goes (old.place + 1) c.args.first old.parser c.advance.new.self (token_in old.parser.names c.args.token) (tokens.begins old.place c.args.byte) c.begin.new.self c.begin.result c.in-Ok.ensures.becomes c.begin.ensures.takes;
+      takes = token_goes (old.place + 1) c.args.first old.parser c.advance.new.self (token_in old.parser.names c.args.token)
+          (tokens.begins old.place c.args.byte) c.begin.new.self c.begin.result c.in-Ok.ensures.becomes c.begin.ensures.takes;
       reading = c.begin.ensures.reading;
       place = c.begin.ensures.place;
     }

@@ -8,4 +8,7 @@ returns-in-Ok c =
     let old = c.args.self.now in
     let n = c.word_len-count.result in
     let new : Text = record { parser = old.parser; pending = old.pending; word = c.extend_from_slice.new.self; place = old.place + n } in
-    record { takes = took_word old new c.args.piece.now n (omega (arith, c.if-count-eq0.false)) refl refl c.requires.reading c.args.first c.requires.pending c.requires.pending c.word_len-count.ensures.run c.in-Ok.ensures.items }
+    record {
+      takes = took_word old new c.args.piece.now n (omega (arith, c.if-count-eq0.false)) refl refl c.requires.reading c.args.first c.requires.pending
+          c.requires.pending c.word_len-count.ensures.run c.in-Ok.ensures.items;
+    }

@@ -17,6 +17,7 @@ pub returns-in_default : goal.returns-in_default
 returns-in_default c =
     let old = c.args.self.now in
     record {
-      closes = ends_broken old.parser (record { parser = c.stuck.new.self; pending = old.pending; word = old.word; place = old.place }) old.place c.stuck.result c.in_default.not-Between c.stuck.ensures;
+      closes = ends_broken old.parser (record { parser = c.stuck.new.self; pending = old.pending; word = old.word; place = old.place }) old.place c.stuck.result
+          c.in_default.not-Between c.stuck.ensures;
       reading = tt;
     }

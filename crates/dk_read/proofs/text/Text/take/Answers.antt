@@ -25,7 +25,8 @@ pub returns-then-byte-eq61 : goal.returns-then-byte-eq61
 returns-then-byte-eq61 c =
     let old = c.args.self.now in
     record {
-      takes = next_does old c.end_token.new.self (pending.AfterColon c.in-AfterColon.first) c.args.byte _ c.end_token.result c.in-AfterColon.is (AfterColon-assign c.in-AfterColon.first old.place c.args.byte c.if-byte-eq61.true) c.end_token.ensures.takes;
+      takes = next_does old c.end_token.new.self (pending.AfterColon c.in-AfterColon.first) c.args.byte _ c.end_token.result c.in-AfterColon.is
+          (AfterColon-assign c.in-AfterColon.first old.place c.args.byte c.if-byte-eq61.true) c.end_token.ensures.takes;
       reading = c.end_token.ensures.reading;
       place = c.end_token.ensures.place;
     }
@@ -34,7 +35,8 @@ pub returns-else-byte-eq61 : goal.returns-else-byte-eq61
 returns-else-byte-eq61 c =
     let old = c.args.self.now in
     record {
-      takes = next_does old c.end_and_begin.new.self (pending.AfterColon c.in-AfterColon.first) c.args.byte _ c.end_and_begin.result c.in-AfterColon.is (AfterColon-other c.in-AfterColon.first old.place c.args.byte c.if-byte-eq61.false) c.end_and_begin.ensures.takes;
+      takes = next_does old c.end_and_begin.new.self (pending.AfterColon c.in-AfterColon.first) c.args.byte _ c.end_and_begin.result c.in-AfterColon.is
+          (AfterColon-other c.in-AfterColon.first old.place c.args.byte c.if-byte-eq61.false) c.end_and_begin.ensures.takes;
       reading = c.end_and_begin.ensures.reading;
       place = c.end_and_begin.ensures.place;
     }
@@ -43,7 +45,8 @@ pub returns-then-byte-eq62 : goal.returns-then-byte-eq62
 returns-then-byte-eq62 c =
     let old = c.args.self.now in
     record {
-      takes = next_does old c.end_token-then-byte-eq62.new.self (pending.AfterMinus c.in-AfterMinus.first) c.args.byte _ c.end_token-then-byte-eq62.result c.in-AfterMinus.is (AfterMinus-arrow c.in-AfterMinus.first old.place c.args.byte c.if-byte-eq62.true) c.end_token-then-byte-eq62.ensures.takes;
+      takes = next_does old c.end_token-then-byte-eq62.new.self (pending.AfterMinus c.in-AfterMinus.first) c.args.byte _ c.end_token-then-byte-eq62.result
+          c.in-AfterMinus.is (AfterMinus-arrow c.in-AfterMinus.first old.place c.args.byte c.if-byte-eq62.true) c.end_token-then-byte-eq62.ensures.takes;
       reading = c.end_token-then-byte-eq62.ensures.reading;
       place = c.end_token-then-byte-eq62.ensures.place;
     }
@@ -52,7 +55,9 @@ pub returns-else-byte-eq62 : goal.returns-else-byte-eq62
 returns-else-byte-eq62 c =
     let old = c.args.self.now in
     record {
-      takes = next_sticks old (record { parser = c.stuck.new.self; pending = old.pending; word = old.word; place = old.place }) (pending.AfterMinus c.in-AfterMinus.first) c.args.byte c.in-AfterMinus.first c.stuck.result c.in-AfterMinus.is (AfterMinus-other c.in-AfterMinus.first old.place c.args.byte c.if-byte-eq62.false) c.stuck.ensures;
+      takes = next_sticks old (record { parser = c.stuck.new.self; pending = old.pending; word = old.word; place = old.place })
+          (pending.AfterMinus c.in-AfterMinus.first) c.args.byte c.in-AfterMinus.first c.stuck.result c.in-AfterMinus.is
+          (AfterMinus-other c.in-AfterMinus.first old.place c.args.byte c.if-byte-eq62.false) c.stuck.ensures;
       reading = tt;
       place = tt;
     }
@@ -61,7 +66,8 @@ pub returns-then-byte-eq62-2 : goal.returns-then-byte-eq62-2
 returns-then-byte-eq62-2 c =
     let old = c.args.self.now in
     record {
-      takes = next_does old c.end_token-then-byte-eq62-2.new.self (pending.AfterEquals c.in-AfterEquals.first) c.args.byte _ c.end_token-then-byte-eq62-2.result c.in-AfterEquals.is (AfterEquals-arrow c.in-AfterEquals.first old.place c.args.byte c.if-byte-eq62-2.true) c.end_token-then-byte-eq62-2.ensures.takes;
+      takes = next_does old c.end_token-then-byte-eq62-2.new.self (pending.AfterEquals c.in-AfterEquals.first) c.args.byte _ c.end_token-then-byte-eq62-2.result
+          c.in-AfterEquals.is (AfterEquals-arrow c.in-AfterEquals.first old.place c.args.byte c.if-byte-eq62-2.true) c.end_token-then-byte-eq62-2.ensures.takes;
       reading = c.end_token-then-byte-eq62-2.ensures.reading;
       place = c.end_token-then-byte-eq62-2.ensures.place;
     }
@@ -70,7 +76,9 @@ pub returns-else-byte-eq62-2 : goal.returns-else-byte-eq62-2
 returns-else-byte-eq62-2 c =
     let old = c.args.self.now in
     record {
-      takes = next_sticks old (record { parser = c.stuck-else-byte-eq62-2.new.self; pending = old.pending; word = old.word; place = old.place }) (pending.AfterEquals c.in-AfterEquals.first) c.args.byte c.in-AfterEquals.first c.stuck-else-byte-eq62-2.result c.in-AfterEquals.is (AfterEquals-other c.in-AfterEquals.first old.place c.args.byte c.if-byte-eq62-2.false) c.stuck-else-byte-eq62-2.ensures;
+      takes = next_sticks old (record { parser = c.stuck-else-byte-eq62-2.new.self; pending = old.pending; word = old.word; place = old.place })
+          (pending.AfterEquals c.in-AfterEquals.first) c.args.byte c.in-AfterEquals.first c.stuck-else-byte-eq62-2.result c.in-AfterEquals.is
+          (AfterEquals-other c.in-AfterEquals.first old.place c.args.byte c.if-byte-eq62-2.false) c.stuck-else-byte-eq62-2.ensures;
       reading = tt;
       place = tt;
     }
@@ -79,7 +87,8 @@ pub returns-then-byte-eq59 : goal.returns-then-byte-eq59
 returns-then-byte-eq59 c =
     let old = c.args.self.now in
     record {
-      takes = next_does old c.wait.new.self (pending.AfterParen c.in-AfterParen.first) c.args.byte _ c.wait.result c.in-AfterParen.is (AfterParen-comment c.in-AfterParen.first old.place c.args.byte c.if-byte-eq59.true) c.wait.ensures.takes;
+      takes = next_does old c.wait.new.self (pending.AfterParen c.in-AfterParen.first) c.args.byte _ c.wait.result c.in-AfterParen.is
+          (AfterParen-comment c.in-AfterParen.first old.place c.args.byte c.if-byte-eq59.true) c.wait.ensures.takes;
       reading = c.wait.ensures.reading;
       place = c.wait.ensures.place;
     }
@@ -88,7 +97,9 @@ pub returns-else-byte-eq59 : goal.returns-else-byte-eq59
 returns-else-byte-eq59 c =
     let old = c.args.self.now in
     record {
-      takes = next_does old c.end_and_begin-else-byte-eq59.new.self (pending.AfterParen c.in-AfterParen.first) c.args.byte _ c.end_and_begin-else-byte-eq59.result c.in-AfterParen.is (AfterParen-other c.in-AfterParen.first old.place c.args.byte c.if-byte-eq59.false) c.end_and_begin-else-byte-eq59.ensures.takes;
+      takes = next_does old c.end_and_begin-else-byte-eq59.new.self (pending.AfterParen c.in-AfterParen.first) c.args.byte _
+          c.end_and_begin-else-byte-eq59.result c.in-AfterParen.is (AfterParen-other c.in-AfterParen.first old.place c.args.byte c.if-byte-eq59.false)
+          c.end_and_begin-else-byte-eq59.ensures.takes;
       reading = c.end_and_begin-else-byte-eq59.ensures.reading;
       place = c.end_and_begin-else-byte-eq59.ensures.place;
     }
@@ -97,7 +108,8 @@ pub returns-then-byte-eq59-2 : goal.returns-then-byte-eq59-2
 returns-then-byte-eq59-2 c =
     let old = c.args.self.now in
     record {
-      takes = next_does old c.wait-then-byte-eq59-2.new.self (pending.InComment c.in-InComment.first) c.args.byte _ c.wait-then-byte-eq59-2.result c.in-InComment.is (InComment-semicolon c.in-InComment.first old.place c.args.byte c.if-byte-eq59-2.true) c.wait-then-byte-eq59-2.ensures.takes;
+      takes = next_does old c.wait-then-byte-eq59-2.new.self (pending.InComment c.in-InComment.first) c.args.byte _ c.wait-then-byte-eq59-2.result
+          c.in-InComment.is (InComment-semicolon c.in-InComment.first old.place c.args.byte c.if-byte-eq59-2.true) c.wait-then-byte-eq59-2.ensures.takes;
       reading = c.wait-then-byte-eq59-2.ensures.reading;
       place = c.wait-then-byte-eq59-2.ensures.place;
     }
@@ -106,7 +118,8 @@ pub returns-else-byte-eq59-2 : goal.returns-else-byte-eq59-2
 returns-else-byte-eq59-2 c =
     let old = c.args.self.now in
     record {
-      takes = next_does old c.wait-else-byte-eq59-2.new.self (pending.InComment c.in-InComment.first) c.args.byte _ c.wait-else-byte-eq59-2.result c.in-InComment.is (InComment-other c.in-InComment.first old.place c.args.byte c.if-byte-eq59-2.false) c.wait-else-byte-eq59-2.ensures.takes;
+      takes = next_does old c.wait-else-byte-eq59-2.new.self (pending.InComment c.in-InComment.first) c.args.byte _ c.wait-else-byte-eq59-2.result
+          c.in-InComment.is (InComment-other c.in-InComment.first old.place c.args.byte c.if-byte-eq59-2.false) c.wait-else-byte-eq59-2.ensures.takes;
       reading = c.wait-else-byte-eq59-2.ensures.reading;
       place = c.wait-else-byte-eq59-2.ensures.place;
     }
@@ -115,7 +128,8 @@ pub returns-then-byte-eq41 : goal.returns-then-byte-eq41
 returns-then-byte-eq41 c =
     let old = c.args.self.now in
     record {
-      takes = next_does old c.wait-then-byte-eq41.new.self (pending.AfterSemicolon c.in-AfterSemicolon.first) c.args.byte _ c.wait-then-byte-eq41.result c.in-AfterSemicolon.is (AfterSemicolon-end c.in-AfterSemicolon.first old.place c.args.byte c.if-byte-eq41.true) c.wait-then-byte-eq41.ensures.takes;
+      takes = next_does old c.wait-then-byte-eq41.new.self (pending.AfterSemicolon c.in-AfterSemicolon.first) c.args.byte _ c.wait-then-byte-eq41.result
+          c.in-AfterSemicolon.is (AfterSemicolon-end c.in-AfterSemicolon.first old.place c.args.byte c.if-byte-eq41.true) c.wait-then-byte-eq41.ensures.takes;
       reading = c.wait-then-byte-eq41.ensures.reading;
       place = c.wait-then-byte-eq41.ensures.place;
     }
@@ -124,7 +138,9 @@ pub returns-then-byte-eq59-3 : goal.returns-then-byte-eq59-3
 returns-then-byte-eq59-3 c =
     let old = c.args.self.now in
     record {
-      takes = next_does old c.wait-then-byte-eq59-3.new.self (pending.AfterSemicolon c.in-AfterSemicolon.first) c.args.byte _ c.wait-then-byte-eq59-3.result c.in-AfterSemicolon.is (AfterSemicolon-semicolon c.in-AfterSemicolon.first old.place c.args.byte c.if-byte-eq59-3.true) c.wait-then-byte-eq59-3.ensures.takes;
+      takes = next_does old c.wait-then-byte-eq59-3.new.self (pending.AfterSemicolon c.in-AfterSemicolon.first) c.args.byte _ c.wait-then-byte-eq59-3.result
+          c.in-AfterSemicolon.is (AfterSemicolon-semicolon c.in-AfterSemicolon.first old.place c.args.byte c.if-byte-eq59-3.true)
+          c.wait-then-byte-eq59-3.ensures.takes;
       reading = c.wait-then-byte-eq59-3.ensures.reading;
       place = c.wait-then-byte-eq59-3.ensures.place;
     }
@@ -133,7 +149,9 @@ pub returns-else-byte-eq59-3 : goal.returns-else-byte-eq59-3
 returns-else-byte-eq59-3 c =
     let old = c.args.self.now in
     record {
-      takes = next_does old c.wait-else-byte-eq59-3.new.self (pending.AfterSemicolon c.in-AfterSemicolon.first) c.args.byte _ c.wait-else-byte-eq59-3.result c.in-AfterSemicolon.is (AfterSemicolon-other c.in-AfterSemicolon.first old.place c.args.byte c.if-byte-eq41.false c.if-byte-eq59-3.false) c.wait-else-byte-eq59-3.ensures.takes;
+      takes = next_does old c.wait-else-byte-eq59-3.new.self (pending.AfterSemicolon c.in-AfterSemicolon.first) c.args.byte _ c.wait-else-byte-eq59-3.result
+          c.in-AfterSemicolon.is (AfterSemicolon-other c.in-AfterSemicolon.first old.place c.args.byte c.if-byte-eq41.false c.if-byte-eq59-3.false)
+          c.wait-else-byte-eq59-3.ensures.takes;
       reading = c.wait-else-byte-eq59-3.ensures.reading;
       place = c.wait-else-byte-eq59-3.ensures.place;
     }

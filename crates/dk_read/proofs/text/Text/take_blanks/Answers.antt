@@ -10,4 +10,8 @@ returns c =
     let old = c.args.self.now in
     let n = c.blank_len-count.result in
     let new : Text = record { parser = old.parser; pending = old.pending; word = c.args.self.now.word; place = old.place + n } in
-    record { takes = took_blanks old new c.args.piece.now n (subst (λ k. 1 ≤ k) (sym c.blank_len-count.ensures.run) (run_some is_space c.args.piece.now c.requires.some c.requires.blank)) refl refl c.requires.reading c.requires.pending c.requires.pending c.blank_len-count.ensures.run }
+    record {
+      takes = took_blanks old new c.args.piece.now n
+          (subst (λ k. 1 ≤ k) (sym c.blank_len-count.ensures.run) (run_some is_space c.args.piece.now c.requires.some c.requires.blank)) refl refl
+          c.requires.reading c.requires.pending c.requires.pending c.blank_len-count.ensures.run;
+    }

@@ -8,4 +8,7 @@ returns c =
     let old = c.args.self.now in
     let n = c.comment_len-count.result in
     let new : Text = record { parser = old.parser; pending = old.pending; word = c.args.self.now.word; place = old.place + n } in
-    record { takes = took_comment old new c.args.piece.now n (omega (arith, c.if-count-eq0.false)) refl refl c.requires.reading c.args.first c.requires.pending c.requires.pending c.comment_len-count.ensures.run }
+    record {
+      takes = took_comment old new c.args.piece.now n (omega (arith, c.if-count-eq0.false)) refl refl c.requires.reading c.args.first c.requires.pending
+          c.requires.pending c.comment_len-count.ensures.run;
+    }

@@ -8,5 +8,6 @@ returns c =
     let took = c.in_ok-count.ensures.takes in
     record {
       takes = took_more c.args.self.now c.take_one.new.self c.pass_blanks-blanks.new.self c.args.piece.now c.in_ok-count.count c.pass_blanks-blanks.result took
-          (subst (λ l. Passed c.take_one.new.self l c.pass_blanks-blanks.new.self c.pass_blanks-blanks.result) (rest-drop c.args.piece.now c.in_ok-count.count took.within) c.pass_blanks-blanks.ensures);
+          (subst (λ l. Passed c.take_one.new.self l c.pass_blanks-blanks.new.self c.pass_blanks-blanks.result)
+          (rest-drop c.args.piece.now c.in_ok-count.count took.within) c.pass_blanks-blanks.ensures);
     }

@@ -12,10 +12,16 @@ returns-in-Ok c =
     let old = c.args.self.now in
     let r = c.requires in
     let new : Text = record { parser = c.advance.new.self; pending = old.pending; word = old.word; place = old.place + c.args.count } in
-    record { takes = took_sign old c.args.piece.now c.args.count c.args.token r.pending r.signs new c.in-Ok.ensures.becomes r.pending refl c.in-Ok.ensures.reading }
+    record {
+      takes = took_sign old c.args.piece.now c.args.count c.args.token r.pending r.signs new c.in-Ok.ensures.becomes r.pending refl
+          c.in-Ok.ensures.reading;
+    }
 
 pub returns-in-Err : goal.returns-in-Err
 returns-in-Err c =
     let old = c.args.self.now in
     let new : Text = record { parser = c.advance.new.self; pending = old.pending; word = old.word; place = old.place } in
-    record { takes = failed_sign old c.args.piece.now c.args.count c.args.token c.requires.pending c.requires.signs new c.advance.new.self c.in-Err.stop refl c.in-Err.ensures.becomes }
+    record {
+      takes = failed_sign old c.args.piece.now c.args.count c.args.token c.requires.pending c.requires.signs new c.advance.new.self c.in-Err.stop refl
+          c.in-Err.ensures.becomes;
+    }

@@ -15,6 +15,7 @@ returns-in_err-flush g c =
 pub loop-rest-preserved : goal.loop-rest-preserved
 loop-rest-preserved g c = record {
   text = rw c.in_ok-flush.ensures.none
-      (gained_handed _ _ _ _ _ _ _ _ c.loop-rest.invariant.text (cut _ _ _ _ c.split_at.ensures.front c.split_at.ensures.back) (rw c.gather.ensures at c.in_ok-flush.ensures.ok));
+      (gained_handed _ _ _ _ _ _ _ _ c.loop-rest.invariant.text (cut _ _ _ _ c.split_at.ensures.front c.split_at.ensures.back)
+      (rw c.gather.ensures at c.in_ok-flush.ensures.ok));
   later = omega (arith, c.loop-rest.invariant.later, c.in_ok-flush.ensures.cause.later);
 }

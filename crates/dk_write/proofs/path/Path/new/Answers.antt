@@ -8,4 +8,7 @@ returns c =
     let m = c.args.source.now in
     let most = length c.in_ok-frames.frames.items in
     let same : c.greatest_depth-room.result ≡ most = omega (arith, c.in_ok-frames.frames.ok, c.in_ok-frames.ensures.len) in
-    record { room = told_within most m.table m.decls (omega (arith, c.in_ok-frames.frames.small)) (subst (λ n. AreTold n m.table m.decls) same c.greatest_depth-room.ensures) }
+    record {
+      room = told_within most m.table m.decls (omega (arith, c.in_ok-frames.frames.small))
+          (subst (λ n. AreTold n m.table m.decls) same c.greatest_depth-room.ensures);
+    }

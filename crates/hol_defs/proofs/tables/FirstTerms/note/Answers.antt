@@ -12,5 +12,7 @@ returns-then-is_some c = noted c.args.variable c.args.term c.args.self.now (ap i
 pub returns : goal.returns
 returns c = λ v. ap (lookup (same_variable v)) (
     c.in_ok-insert.ensures.entries
-    ∙ insert_entry-absent same_variable c.args.variable c.args.term c.self.inside.terms (ap (lookup (same_variable c.args.variable)) c.self.view_is ∙ none-found (lookup (same_variable c.args.variable) c.args.self.now) (ap is_some (sym c.find.ensures) ∙ sym c.is_some.ensures ∙ c.if-is_some.false))
+    ∙ insert_entry-absent same_variable c.args.variable c.args.term c.self.inside.terms
+    (ap (lookup (same_variable c.args.variable)) c.self.view_is
+    ∙ none-found (lookup (same_variable c.args.variable) c.args.self.now) (ap is_some (sym c.find.ensures) ∙ sym c.is_some.ensures ∙ c.if-is_some.false))
     ∙ ap (λ l. l ++ (c.args.variable, c.args.term) ∷ []) c.self.view_is)

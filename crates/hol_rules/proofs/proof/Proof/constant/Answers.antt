@@ -7,7 +7,8 @@ pub invariant_of-self : goal.invariant_of-self
 invariant_of-self c = IsKept-Keeps c.constant.ensures.keeps c.self.inside.symbols c.self.inside.steps.items c.self.inside.made.items c.self.invariant
 
 pub returns-clause-grows : goal.returns-clause-grows
-returns-clause-grows c = rw (← c.self.view_is) (Grows-Keeps c.constant.ensures.keeps c.self.inside.symbols c.self.inside.steps.items c.self.inside.made.items c.self.invariant)
+returns-clause-grows c = rw (← c.self.view_is)
+    (Grows-Keeps c.constant.ensures.keeps c.self.inside.symbols c.self.inside.steps.items c.self.inside.made.items c.self.invariant)
 
 pub constant-requires : goal.constant-requires
 constant-requires c = rw (← c.self.view_is) at c.requires

@@ -20,16 +20,19 @@ pub apart-requires-clause-two : goal.apart-requires-clause-two
 apart-requires-clause-two c = step-grown c.equation.ensures.grows c.args.two c.requires.two
 
 pub conclude-requires-clause-sequent : goal.conclude-requires-clause-sequent
-conclude-requires-clause-sequent c = (c.in_ok-hyps.ensures.known, (c.in_ok-concl.ensures.made bool (subst (λ t. HasType t bool) (sym c.concl-p.ensures.is.is) c.concl-p.ensures.typed)).known)
+conclude-requires-clause-sequent c =
+    (c.in_ok-hyps.ensures.known, (c.in_ok-concl.ensures.made bool (subst (λ t. HasType t bool) (sym c.concl-p.ensures.is.is) c.concl-p.ensures.typed)).known)
 
 pub conclude-requires-clause-follows : goal.conclude-requires-clause-follows
 conclude-requires-clause-follows c =
-    (deduct_antisym-ends c.args.self.now c.args.one c.args.two c.requires.one c.requires.two c.concl-p.result c.concl-q.result c.concl-p.ensures.is c.concl-p.ensures.typed c.concl-q.ensures.is
+    (deduct_antisym-ends c.args.self.now c.args.one c.args.two c.requires.one c.requires.two c.concl-p.result c.concl-q.result c.concl-p.ensures.is
+    c.concl-p.ensures.typed c.concl-q.ensures.is
     c.equation.new.self c.equation.ensures.grows c.in_ok-concl.concl c.in_ok-concl.ensures.made c.in_ok-hyps.hyps c.in_ok-hyps.ensures).follows
 
 pub returns : goal.returns
 returns c =
-    ended (deduct_antisym-ends c.args.self.now c.args.one c.args.two c.requires.one c.requires.two c.concl-p.result c.concl-q.result c.concl-p.ensures.is c.concl-p.ensures.typed c.concl-q.ensures.is
+    ended (deduct_antisym-ends c.args.self.now c.args.one c.args.two c.requires.one c.requires.two c.concl-p.result c.concl-q.result c.concl-p.ensures.is
+    c.concl-p.ensures.typed c.concl-q.ensures.is
     c.equation.new.self c.equation.ensures.grows c.in_ok-concl.concl c.in_ok-concl.ensures.made c.in_ok-hyps.hyps c.in_ok-hyps.ensures)
     c.conclude.new.self c.conclude.result c.conclude.ensures
 

@@ -2,7 +2,8 @@ use Rattle.hol_rules.proofs.Concluded.{Grows-refl, refused-definition, stopped-d
 use Rattle.hol_rules.proofs.proof.Proof.define_const_list.Goals as goal
 
 pub returns-in_err-judge_list : goal.returns-in_err-judge_list
-returns-in_err-judge_list c = refused-definition _ (Grows-refl c.args.self.now) _ c.from_residual.result c.in_err-judge_list.field-0.0 c.from_residual.ensures.1 (c.in_err-judge_list.ensures.refused)
+returns-in_err-judge_list c = refused-definition _ (Grows-refl c.args.self.now) _ c.from_residual.result c.in_err-judge_list.field-0.0 c.from_residual.ensures.1
+    (c.in_err-judge_list.ensures.refused)
 
 pub returns-in_err-premise : goal.returns-in_err-premise
 returns-in_err-premise c = stopped-definition _ (Grows-refl c.args.self.now) _ c.from_residual-in_err-premise.result c.from_residual-in_err-premise.ensures.1

@@ -15,10 +15,15 @@ pub returns-clause-made : goal.returns-clause-made
 returns-clause-made c =
     let trees = c.self.inside.terms in
     let l = rw (← c.self.view_is) at c.requires.one in
-    let same = sequent_at-kept trees c.self.inside.symbols c.self.inside.steps.items c.self.inside.made.items c.self.invariant c.args.one c.index.result.now l c.index.ensures in
+    let same = sequent_at-kept trees c.self.inside.symbols c.self.inside.steps.items c.self.inside.made.items c.self.invariant c.args.one c.index.result.now l
+    c.index.ensures in
     rw (← c.self.view_is) (
-    subst (λ (s : Sequent). IfOk c.image_of.result (λ image. IsStated c.image_of.new.terms image (substituted (type.pairs_at trees.types c.args.put.now.types.items) (term_pairs_at trees c.args.put.now.terms.items) s))) (sym same) c.image_of.ensures.made
+    subst (λ (s : Sequent). IfOk c.image_of.result
+    (λ image. IsStated c.image_of.new.terms image
+    (substituted (type.pairs_at trees.types c.args.put.now.types.items) (term_pairs_at trees c.args.put.now.terms.items) s))) (sym same)
+    c.image_of.ensures.made
     )
 
 pub returns-clause-grows : goal.returns-clause-grows
-returns-clause-grows c = rw (← c.self.view_is) (Grows-Keeps c.image_of.ensures.keeps c.self.inside.symbols c.self.inside.steps.items c.self.inside.made.items c.self.invariant)
+returns-clause-grows c = rw (← c.self.view_is)
+    (Grows-Keeps c.image_of.ensures.keeps c.self.inside.symbols c.self.inside.steps.items c.self.inside.made.items c.self.invariant)

@@ -7,7 +7,8 @@ pub invariant_of-self : goal.invariant_of-self
 invariant_of-self c = IsKept-Keeps c.raw_instance.ensures.keeps c.self.inside.symbols c.self.inside.steps.items c.self.inside.made.items c.self.invariant
 
 pub returns-clause-grows : goal.returns-clause-grows
-returns-clause-grows c = rw (← c.self.view_is) (Grows-Keeps c.raw_instance.ensures.keeps c.self.inside.symbols c.self.inside.steps.items c.self.inside.made.items c.self.invariant)
+returns-clause-grows c = rw (← c.self.view_is)
+    (Grows-Keeps c.raw_instance.ensures.keeps c.self.inside.symbols c.self.inside.steps.items c.self.inside.made.items c.self.invariant)
 
 pub raw_instance-requires-clause-body : goal.raw_instance-requires-clause-body
 raw_instance-requires-clause-body c = rw (← c.self.view_is) at c.requires.body
@@ -16,4 +17,5 @@ pub raw_instance-requires-clause-arg : goal.raw_instance-requires-clause-arg
 raw_instance-requires-clause-arg c = rw (← c.self.view_is) at c.requires.arg
 
 pub returns-clause-made : goal.returns-clause-made
-returns-clause-made c = rw (← c.self.view_is) (IfOk-held c.raw_instance.new.self _ _ refl c.raw_instance.result c.raw_instance.ensures.known c.raw_instance.ensures.made)
+returns-clause-made c = rw (← c.self.view_is)
+    (IfOk-held c.raw_instance.new.self _ _ refl c.raw_instance.result c.raw_instance.ensures.known c.raw_instance.ensures.made)

@@ -9,7 +9,8 @@ pub returns-clause-free : goal.returns-clause-free
 returns-clause-free c =
     let trees = c.self.inside.terms in
     let l = rw (← c.self.view_is) at c.requires.one in
-    let same = sequent_at-kept trees c.self.inside.symbols c.self.inside.steps.items c.self.inside.made.items c.self.invariant c.args.one c.index.result.now l c.index.ensures in
+    let same = sequent_at-kept trees c.self.inside.symbols c.self.inside.steps.items c.self.inside.made.items c.self.invariant c.args.one c.index.result.now l
+    c.index.ensures in
     let found = rw c.ids.ensures.numbers at c.is_free_in_any.ensures.free in
     rw (← c.self.view_is) (
     subst (λ (s : Sequent). IfOk c.is_free_in_any.result (λ free. free ≡ is_free_in (variable_view trees c.args.var.now) s.hypotheses)) (sym same) found

@@ -29,7 +29,8 @@ returns-clause-fits c =
     let is = rw (← c.self.view_is) at c.sequent-sequent.ensures.is in
     elim c.match-judge_list.branch [
       | in-Ok w ↦ rw (w.result-is, ← c.self.view_is) (
-          list-judged trees c.self.inside.symbols made c.args.pairs.now c.sequent-sequent.result.now c.ids.result.now (sequent_at made c.args.one) c.self.invariant.symbols_taken c.ids.ensures.numbers is ∙ w.in-Ok.ensures.fits
+          list-judged trees c.self.inside.symbols made c.args.pairs.now c.sequent-sequent.result.now c.ids.result.now (sequent_at made c.args.one)
+          c.self.invariant.symbols_taken c.ids.ensures.numbers is ∙ w.in-Ok.ensures.fits
           )
       | in-Err w ↦ rw w.result-is tt
     ]
@@ -43,6 +44,8 @@ returns-clause-refused c =
       | in-Ok w ↦ rw w.result-is tt
       | in-Err w ↦ rw (w.result-is, ← c.self.view_is) (
           list-fails made (pairs_at trees c.args.pairs.now) c.args.one w.in-Err.fault
-          (subst (Refuses w.in-Err.fault) (sym (list-judged trees c.self.inside.symbols made c.args.pairs.now c.sequent-sequent.result.now c.ids.result.now (sequent_at made c.args.one) c.self.invariant.symbols_taken c.ids.ensures.numbers is)) w.in-Err.ensures.refusal)
+          (subst (Refuses w.in-Err.fault)
+          (sym (list-judged trees c.self.inside.symbols made c.args.pairs.now c.sequent-sequent.result.now c.ids.result.now (sequent_at made c.args.one)
+          c.self.invariant.symbols_taken c.ids.ensures.numbers is)) w.in-Err.ensures.refusal)
           )
     ]

@@ -14,4 +14,6 @@ pub returns-clause-refusal : goal.returns-clause-refusal
 returns-clause-refusal c =
     let names = named_by c.args.names in
     let f = term_at c.self.inside.terms c.args.predicate.0 in
-    rw (← c.self.view_is) (subst (λ ss. IfErr c.judge_op.result (λ fault. Refuses fault (operator_fault ss names f))) (sym c.self.invariant.symbols_taken) c.judge_op.ensures.refusal)
+    rw (← c.self.view_is)
+    (subst (λ ss. IfErr c.judge_op.result (λ fault. Refuses fault (operator_fault ss names f))) (sym c.self.invariant.symbols_taken)
+    c.judge_op.ensures.refusal)

@@ -25,17 +25,21 @@ invariant_of-self c =
     let h = rw (← c.self.view_is) at c.requires.term in
     let known = rw (← c.self.view_is) at c.requires.known in
     let follows = rw (← c.self.view_is) at c.requires.follows in
-    OnOk-OnErr r (OnOk-both _ _ r (OnOk-both _ _ r e.takes e.fits) (OnOk-both _ _ r e.noted e.kept)) (OnErr-both _ _ r e.untaken (OnErr-both _ _ r e.unnoted e.unkept))
+    OnOk-OnErr r (OnOk-both _ _ r (OnOk-both _ _ r e.takes e.fits) (OnOk-both _ _ r e.noted e.kept))
+    (OnErr-both _ _ r e.untaken (OnErr-both _ _ r e.unnoted e.unkept))
     (λ p. rw (e.table, p.1.0, p.1.1) (
-    IsKept-defined trees s.symbols s.steps.items s.made.items c.self.invariant c.keep_constant.new.symbols (one.Const c.args.name.now ∷ []) (Symbol.defined (Definition.constant c.args.name.now t) ∷ [])
-    (const-newly trees s.symbols c.keep_constant.new.symbols s.steps.items c.args.name.now c.args.name.now t h refl p.0.0 e.known p.0.1) c.args.step known follows
+    IsKept-defined trees s.symbols s.steps.items s.made.items c.self.invariant c.keep_constant.new.symbols (one.Const c.args.name.now ∷ [])
+    (Symbol.defined (Definition.constant c.args.name.now t) ∷ [])
+    (const-newly trees s.symbols c.keep_constant.new.symbols s.steps.items c.args.name.now c.args.name.now t h refl p.0.0 e.known p.0.1) c.args.step known
+    follows
     ))
     (λ q. rw (e.table, q.0, q.1.0, q.1.1) c.self.invariant)
 
 pub returns-clause-number : goal.returns-clause-number
 returns-clause-number c =
     let s = c.self.inside in
-    IfOk-more c.keep_constant.result c.keep_constant.ensures.number (λ id e. rw (← c.self.view_is) (e ∙ sym (step_count-kept s.terms s.symbols s.steps.items s.made.items c.self.invariant c.args.step)))
+    IfOk-more c.keep_constant.result c.keep_constant.ensures.number
+    (λ id e. rw (← c.self.view_is) (e ∙ sym (step_count-kept s.terms s.symbols s.steps.items s.made.items c.self.invariant c.args.step)))
 
 pub returns-clause-kept : goal.returns-clause-kept
 returns-clause-kept c =
@@ -47,7 +51,8 @@ returns-clause-kept c =
     let h = rw (← c.self.view_is) at c.requires.term in
     OnOk-IfOk r (OnOk-both _ _ r (OnOk-both _ _ r e.takes e.fits) (OnOk-both _ _ r e.noted e.kept)) (λ p id. rw (← c.self.view_is, e.table, p.1.0, p.1.1) (
     ap (λ made. record { trees = trees; made = made }) (
-    made_view-defined trees s.symbols s.steps.items s.made.items c.self.invariant c.keep_constant.new.symbols (one.Const c.args.name.now ∷ []) (Symbol.defined (Definition.constant c.args.name.now t) ∷ [])
+    made_view-defined trees s.symbols s.steps.items s.made.items c.self.invariant c.keep_constant.new.symbols (one.Const c.args.name.now ∷ [])
+    (Symbol.defined (Definition.constant c.args.name.now t) ∷ [])
     (const-newly trees s.symbols c.keep_constant.new.symbols s.steps.items c.args.name.now c.args.name.now t h refl p.0.0 e.known p.0.1) c.args.step
     )
     ))

@@ -23,14 +23,18 @@ invariant_of-self c =
     let premise = rw (← c.self.view_is) at c.requires.premise in
     let known = rw (← c.self.view_is) at c.requires.known in
     let follows = rw (← c.self.view_is) at c.requires.follows in
-    OnOk-OnErr r (OnOk-both _ _ r (OnOk-both _ _ r e.takes e.fits) (OnOk-both _ _ r e.noted e.kept)) (OnErr-both _ _ r e.untaken (OnErr-both _ _ r e.unnoted e.unkept))
-    (λ p. rw (e.table, p.1.0, p.1.1) (IsKept-list trees s.symbols s.steps.items s.made.items c.self.invariant c.keep_constants.new.symbols c.args.pairs.now (numbers.sequent_at trees c.args.premise.now) premise p.0.0 e.known p.0.1 c.args.step known follows))
+    OnOk-OnErr r (OnOk-both _ _ r (OnOk-both _ _ r e.takes e.fits) (OnOk-both _ _ r e.noted e.kept))
+    (OnErr-both _ _ r e.untaken (OnErr-both _ _ r e.unnoted e.unkept))
+    (λ p. rw (e.table, p.1.0, p.1.1)
+    (IsKept-list trees s.symbols s.steps.items s.made.items c.self.invariant c.keep_constants.new.symbols c.args.pairs.now
+    (numbers.sequent_at trees c.args.premise.now) premise p.0.0 e.known p.0.1 c.args.step known follows))
     (λ q. rw (e.table, q.0, q.1.0, q.1.1) c.self.invariant)
 
 pub returns-clause-number : goal.returns-clause-number
 returns-clause-number c =
     let s = c.self.inside in
-    IfOk-more c.keep_constants.result c.keep_constants.ensures.number (λ id e. rw (← c.self.view_is) (e ∙ sym (step_count-kept s.terms s.symbols s.steps.items s.made.items c.self.invariant c.args.step)))
+    IfOk-more c.keep_constants.result c.keep_constants.ensures.number
+    (λ id e. rw (← c.self.view_is) (e ∙ sym (step_count-kept s.terms s.symbols s.steps.items s.made.items c.self.invariant c.args.step)))
 
 pub returns-clause-kept : goal.returns-clause-kept
 returns-clause-kept c =
@@ -39,7 +43,11 @@ returns-clause-kept c =
     let r = c.keep_constants.result in
     let e = c.keep_constants.ensures in
     let premise = rw (← c.self.view_is) at c.requires.premise in
-    OnOk-IfOk r (OnOk-both _ _ r (OnOk-both _ _ r e.takes e.fits) (OnOk-both _ _ r e.noted e.kept)) (λ p id. rw (← c.self.view_is, e.table, p.1.0, p.1.1) (ap (λ made. record { trees = trees; made = made }) (made_view-list trees s.symbols s.steps.items s.made.items c.self.invariant c.keep_constants.new.symbols c.args.pairs.now (numbers.sequent_at trees c.args.premise.now) premise p.0.0 e.known p.0.1 c.args.step)))
+    OnOk-IfOk r (OnOk-both _ _ r (OnOk-both _ _ r e.takes e.fits) (OnOk-both _ _ r e.noted e.kept))
+    (λ p id. rw (← c.self.view_is, e.table, p.1.0, p.1.1)
+    (ap (λ made. record { trees = trees; made = made })
+    (made_view-list trees s.symbols s.steps.items s.made.items c.self.invariant c.keep_constants.new.symbols c.args.pairs.now
+    (numbers.sequent_at trees c.args.premise.now) premise p.0.0 e.known p.0.1 c.args.step)))
 
 pub returns-clause-unchanged : goal.returns-clause-unchanged
 returns-clause-unchanged c =

@@ -32,7 +32,9 @@ invariant_of-self c =
     let e = c.keep_laws.ensures in
     let names = named_by c.args.names in
     OnOk-OnErr r (OnOk-both _ _ r e.takes (OnOk-both _ _ r e.noted e.kept)) (OnErr-both _ _ r e.untaken (OnErr-both _ _ r e.unnoted e.unkept))
-    (λ p. rw (p.1.0, p.1.1) (IsKept-type c.args.version s.terms c.keep_laws.new.terms e.keeps s.symbols c.keep_laws.new.symbols s.steps.items s.made.items c.self.invariant names c.args.one one c.args.parts parts c.args.laws laws c.in_ok-steps.steps c.in_ok-steps.ensures p.0 e.known))
+    (λ p. rw (p.1.0, p.1.1)
+    (IsKept-type c.args.version s.terms c.keep_laws.new.terms e.keeps s.symbols c.keep_laws.new.symbols s.steps.items s.made.items c.self.invariant names
+    c.args.one one c.args.parts parts c.args.laws laws c.in_ok-steps.steps c.in_ok-steps.ensures p.0 e.known))
     (λ q. rw (q.0, q.1.0, q.1.1) (IsKept-Keeps e.keeps s.symbols s.steps.items s.made.items c.self.invariant))
 
 pub returns-clause-numbers : goal.returns-clause-numbers
@@ -50,14 +52,19 @@ returns-clause-kept c =
     let r = c.keep_laws.result in
     let e = c.keep_laws.ensures in
     let names = named_by c.args.names in
-    OnOk-IfOk r (OnOk-both _ _ r e.takes (OnOk-both _ _ r e.noted e.kept)) (λ p ids. rw (← c.self.view_is, p.1.0, p.1.1) (made_view-type c.args.version s.terms c.keep_laws.new.terms e.keeps s.symbols c.keep_laws.new.symbols s.steps.items s.made.items c.self.invariant names c.args.one one c.args.parts parts c.args.laws laws c.in_ok-steps.steps c.in_ok-steps.ensures p.0 e.known))
+    OnOk-IfOk r (OnOk-both _ _ r e.takes (OnOk-both _ _ r e.noted e.kept))
+    (λ p ids. rw (← c.self.view_is, p.1.0, p.1.1)
+    (made_view-type c.args.version s.terms c.keep_laws.new.terms e.keeps s.symbols c.keep_laws.new.symbols s.steps.items s.made.items c.self.invariant names
+    c.args.one one c.args.parts parts c.args.laws laws c.in_ok-steps.steps c.in_ok-steps.ensures p.0 e.known))
 
 pub returns-clause-unchanged : goal.returns-clause-unchanged
 returns-clause-unchanged c =
     let s = c.self.inside in
     let r = c.keep_laws.result in
     let e = c.keep_laws.ensures in
-    OnErr-more r (OnErr-both _ _ r e.untaken (OnErr-both _ _ r e.unnoted e.unkept)) (λ q. rw (← c.self.view_is, q.0, q.1.0, q.1.1) (sym (made_view-Keeps e.keeps s.symbols s.steps.items s.made.items c.self.invariant.symbols_known c.self.invariant.known)))
+    OnErr-more r (OnErr-both _ _ r e.untaken (OnErr-both _ _ r e.unnoted e.unkept))
+    (λ q. rw (← c.self.view_is, q.0, q.1.0, q.1.1)
+    (sym (made_view-Keeps e.keeps s.symbols s.steps.items s.made.items c.self.invariant.symbols_known c.self.invariant.known)))
 
 pub returns-clause-keeps : goal.returns-clause-keeps
 returns-clause-keeps c = rw (← c.self.view_is) c.keep_laws.ensures.keeps

@@ -5,7 +5,8 @@ pub invariant_of-self : goal.invariant_of-self
 invariant_of-self c = IsKept-Keeps c.laws_of.ensures.keeps c.self.inside.symbols c.self.inside.steps.items c.self.inside.made.items c.self.invariant
 
 pub returns-clause-grows : goal.returns-clause-grows
-returns-clause-grows c = rw (← c.self.view_is) (Grows-Keeps c.laws_of.ensures.keeps c.self.inside.symbols c.self.inside.steps.items c.self.inside.made.items c.self.invariant)
+returns-clause-grows c = rw (← c.self.view_is)
+    (Grows-Keeps c.laws_of.ensures.keeps c.self.inside.symbols c.self.inside.steps.items c.self.inside.made.items c.self.invariant)
 
 pub laws_of-requires-clause-whole : goal.laws_of-requires-clause-whole
 laws_of-requires-clause-whole c = rw (← c.self.view_is) at c.requires.whole

@@ -14,4 +14,5 @@ pub returns : goal.returns
 returns c = rw (c.in_ok-put.ensures.types, c.in_ok-put.ensures.terms) at c.subst_prepared-step.ensures
 
 pub returns-in_err-put : goal.returns-in_err-put
-returns-in_err-put c = refused (Grows-refl c.args.self.now) _ c.from_residual.result c.in_err-put.field-0.0 c.from_residual.ensures.1 (fails-both _ _ _ c.in_err-put.ensures.refused)
+returns-in_err-put c = refused (Grows-refl c.args.self.now) _ c.from_residual.result c.in_err-put.field-0.0 c.from_residual.ensures.1
+    (fails-both _ _ _ c.in_err-put.ensures.refused)

@@ -8,19 +8,22 @@ use Rattle.hol_rules.proofs.Ends.{ended}
 use Rattle.hol_rules.proofs.proof.Proof.subst_prepared.Goals as goal
 
 pub image-requires-clause-pairs : goal.image-requires-clause-pairs
-image-requires-clause-pairs c = record { known_types = c.requires.types; known_terms = AreTermPairs-known c.args.self.now.trees c.args.put.now.terms.items c.requires.terms }
+image-requires-clause-pairs c = record
+    { known_types = c.requires.types; known_terms = AreTermPairs-known c.args.self.now.trees c.args.put.now.terms.items c.requires.terms }
 
 pub conclude-requires-clause-parameters : goal.conclude-requires-clause-parameters
 conclude-requires-clause-parameters c =
     let put = c.args.put.now in
-    let pairs : AreKnownPairs c.args.self.now.trees put.types.items put.terms.items = record { known_types = c.requires.types; known_terms = AreTermPairs-known c.args.self.now.trees put.terms.items c.requires.terms } in
+    let pairs : AreKnownPairs c.args.self.now.trees put.types.items put.terms.items =
+    record { known_types = c.requires.types; known_terms = AreTermPairs-known c.args.self.now.trees put.terms.items c.requires.terms } in
     given_known c.args.self.now put.types.items put.terms.items c.args.one pairs c.image.new.self c.image.ensures.grows c.in_ok-given.given
     (ap (λ (s : Substitution). s.types.items) c.in_ok-given.ensures) (ap (λ (s : Substitution). s.terms.items) c.in_ok-given.ensures)
 
 pub conclude-requires-clause-follows : goal.conclude-requires-clause-follows
 conclude-requires-clause-follows c =
     let put = c.args.put.now in
-    let pairs : AreKnownPairs c.args.self.now.trees put.types.items put.terms.items = record { known_types = c.requires.types; known_terms = AreTermPairs-known c.args.self.now.trees put.terms.items c.requires.terms } in
+    let pairs : AreKnownPairs c.args.self.now.trees put.types.items put.terms.items =
+    record { known_types = c.requires.types; known_terms = AreTermPairs-known c.args.self.now.trees put.terms.items c.requires.terms } in
     (subst-ends c.args.self.now put.types.items put.terms.items c.args.one pairs c.image.new.self c.image.ensures.grows c.in_ok-given.given
     (ap (λ (s : Substitution). s.types.items) c.in_ok-given.ensures) (ap (λ (s : Substitution). s.terms.items) c.in_ok-given.ensures)
     c.requires.fits c.requires.one c.in_ok-sequent.sequent c.in_ok-sequent.ensures.made).follows
@@ -28,7 +31,8 @@ conclude-requires-clause-follows c =
 pub returns : goal.returns
 returns c =
     let put = c.args.put.now in
-    let pairs : AreKnownPairs c.args.self.now.trees put.types.items put.terms.items = record { known_types = c.requires.types; known_terms = AreTermPairs-known c.args.self.now.trees put.terms.items c.requires.terms } in
+    let pairs : AreKnownPairs c.args.self.now.trees put.types.items put.terms.items =
+    record { known_types = c.requires.types; known_terms = AreTermPairs-known c.args.self.now.trees put.terms.items c.requires.terms } in
     ended (subst-ends c.args.self.now put.types.items put.terms.items c.args.one pairs c.image.new.self c.image.ensures.grows c.in_ok-given.given
     (ap (λ (s : Substitution). s.types.items) c.in_ok-given.ensures) (ap (λ (s : Substitution). s.terms.items) c.in_ok-given.ensures)
     c.requires.fits c.requires.one c.in_ok-sequent.sequent c.in_ok-sequent.ensures.made)

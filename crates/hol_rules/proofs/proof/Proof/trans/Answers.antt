@@ -9,24 +9,31 @@ pub returns-then-ne : goal.returns-then-ne
 returns-then-ne c =
     let n : c.in_ok-second.second.left.0 ≡ c.in_ok-first.first.right.0 → ⊥ = grind arith in
     refuses (Grows-refl c.args.self.now) _ (Refused NotAlike)
-    (trans-apart c.args.self.now c.is_proof.ensures c.args.one c.requires.one c.in_ok-first.first c.in_ok-first.ensures.sides c.args.two c.requires.two c.in_ok-second.second c.in_ok-second.ensures.sides c.sides.ensures.distinct n)
+    (trans-apart c.args.self.now c.is_proof.ensures c.args.one c.requires.one c.in_ok-first.first c.in_ok-first.ensures.sides c.args.two c.requires.two
+    c.in_ok-second.second c.in_ok-second.ensures.sides c.sides.ensures.distinct n)
 
 pub conclude-requires-clause-follows : goal.conclude-requires-clause-follows
 conclude-requires-clause-follows c =
     let e : c.in_ok-second.second.left.0 ≡ c.in_ok-first.first.right.0 = grind arith in
-    (trans-ends c.args.self.now c.is_proof.ensures c.args.one c.requires.one c.in_ok-first.first c.in_ok-first.ensures.sides c.args.two c.requires.two c.in_ok-second.second c.in_ok-second.ensures.sides e c.equation.new.self c.equation.ensures.grows c.in_ok-concl.concl c.in_ok-concl.ensures.made c.in_ok-hyps.hyps c.in_ok-hyps.ensures).follows
+    (trans-ends c.args.self.now c.is_proof.ensures c.args.one c.requires.one c.in_ok-first.first c.in_ok-first.ensures.sides c.args.two c.requires.two
+    c.in_ok-second.second c.in_ok-second.ensures.sides e c.equation.new.self c.equation.ensures.grows c.in_ok-concl.concl c.in_ok-concl.ensures.made
+    c.in_ok-hyps.hyps c.in_ok-hyps.ensures).follows
 
 pub returns : goal.returns
 returns c =
     let e : c.in_ok-second.second.left.0 ≡ c.in_ok-first.first.right.0 = grind arith in
-    ended (trans-ends c.args.self.now c.is_proof.ensures c.args.one c.requires.one c.in_ok-first.first c.in_ok-first.ensures.sides c.args.two c.requires.two c.in_ok-second.second c.in_ok-second.ensures.sides e c.equation.new.self c.equation.ensures.grows c.in_ok-concl.concl c.in_ok-concl.ensures.made c.in_ok-hyps.hyps c.in_ok-hyps.ensures)
+    ended (trans-ends c.args.self.now c.is_proof.ensures c.args.one c.requires.one c.in_ok-first.first c.in_ok-first.ensures.sides c.args.two c.requires.two
+    c.in_ok-second.second c.in_ok-second.ensures.sides e c.equation.new.self c.equation.ensures.grows c.in_ok-concl.concl c.in_ok-concl.ensures.made
+    c.in_ok-hyps.hyps c.in_ok-hyps.ensures)
     c.conclude.new.self c.conclude.result c.conclude.ensures
 
 pub returns-in_err-first : goal.returns-in_err-first
-returns-in_err-first c = refused (Grows-refl c.args.self.now) _ c.from_residual.result c.in_err-first.field-0.0 c.from_residual.ensures.1 (fails-row _ _ _ c.in_err-first.ensures.refused)
+returns-in_err-first c = refused (Grows-refl c.args.self.now) _ c.from_residual.result c.in_err-first.field-0.0 c.from_residual.ensures.1
+    (fails-row _ _ _ c.in_err-first.ensures.refused)
 
 pub returns-in_err-second : goal.returns-in_err-second
-returns-in_err-second c = refused (Grows-refl c.args.self.now) _ c.from_residual-in_err-second.result c.in_err-second.field-0.0 c.from_residual-in_err-second.ensures.1 (rw c.in_ok-first.ensures.sides.parts (fails-row _ _ _ c.in_err-second.ensures.refused))
+returns-in_err-second c = refused (Grows-refl c.args.self.now) _ c.from_residual-in_err-second.result c.in_err-second.field-0.0
+    c.from_residual-in_err-second.ensures.1 (rw c.in_ok-first.ensures.sides.parts (fails-row _ _ _ c.in_err-second.ensures.refused))
 
 pub returns-in_err-concl : goal.returns-in_err-concl
 returns-in_err-concl c = stopped c.equation.ensures.grows _ c.from_residual-in_err-concl.result c.from_residual-in_err-concl.ensures.1
@@ -47,4 +54,7 @@ pub joined-requires-clause-two : goal.joined-requires-clause-two
 joined-requires-clause-two c = step-grown c.equation.ensures.grows c.args.two c.requires.two
 
 pub conclude-requires-clause-sequent : goal.conclude-requires-clause-sequent
-conclude-requires-clause-sequent c = (c.in_ok-hyps.ensures.known, (c.in_ok-concl.ensures.made _ (left_side-typed c.args.self.now c.args.one c.in_ok-first.first c.in_ok-first.ensures.sides)).known)
+conclude-requires-clause-sequent c = (
+  c.in_ok-hyps.ensures.known,
+  (c.in_ok-concl.ensures.made _ (left_side-typed c.args.self.now c.args.one c.in_ok-first.first c.in_ok-first.ensures.sides)).known,
+)

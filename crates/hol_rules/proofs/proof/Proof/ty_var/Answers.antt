@@ -6,7 +6,8 @@ pub invariant_of-self : goal.invariant_of-self
 invariant_of-self c = IsKept-Keeps c.ty_var.ensures.keeps c.self.inside.symbols c.self.inside.steps.items c.self.inside.made.items c.self.invariant
 
 pub returns-clause-grows : goal.returns-clause-grows
-returns-clause-grows c = rw (← c.self.view_is) (Grows-Keeps c.ty_var.ensures.keeps c.self.inside.symbols c.self.inside.steps.items c.self.inside.made.items c.self.invariant)
+returns-clause-grows c = rw (← c.self.view_is)
+    (Grows-Keeps c.ty_var.ensures.keeps c.self.inside.symbols c.self.inside.steps.items c.self.inside.made.items c.self.invariant)
 
 pub returns-clause-known : goal.returns-clause-known
 returns-clause-known c = c.ty_var.ensures.known

@@ -18,7 +18,8 @@ invariant_of-self c =
     let r = c.use_constant.result in
     let e = c.use_constant.ensures in
     OnOk-OnErr r (OnOk-both _ _ r e.takes e.noted) (OnErr-both _ _ r e.untaken e.unnoted)
-    (λ p. rw (e.table, p.1) (IsKept-used_constant s.terms s.symbols s.steps.items s.made.items c.self.invariant c.use_constant.new.symbols c.args.name.now p.0 e.known))
+    (λ p. rw (e.table, p.1)
+    (IsKept-used_constant s.terms s.symbols s.steps.items s.made.items c.self.invariant c.use_constant.new.symbols c.args.name.now p.0 e.known))
     (λ q. rw (e.table, q.0, q.1) c.self.invariant)
 
 pub returns-clause-takes : goal.returns-clause-takes
@@ -26,17 +27,23 @@ returns-clause-takes c =
     let s = c.self.inside in
     let r = c.use_constant.result in
     let e = c.use_constant.ensures in
-    OnOk-more r (OnOk-both _ _ r e.takes e.noted) (λ p. rw (← c.self.view_is, e.table, p.1) (made_view-used_constant s.terms s.symbols s.steps.items s.made.items c.self.invariant c.use_constant.new.symbols c.args.name.now p.0 e.known))
+    OnOk-more r (OnOk-both _ _ r e.takes e.noted)
+    (λ p. rw (← c.self.view_is, e.table, p.1)
+    (made_view-used_constant s.terms s.symbols s.steps.items s.made.items c.self.invariant c.use_constant.new.symbols c.args.name.now p.0 e.known))
 
 pub returns-clause-fits : goal.returns-clause-fits
 returns-clause-fits c =
     let s = c.self.inside in
-    rw (← c.self.view_is) (subst (λ ss. OnOk c.use_constant.result (FitsGeneric (generic_type ss c.args.name.now) (type_at s.terms c.args.ty.0))) (sym c.self.invariant.symbols_taken) c.use_constant.ensures.fits)
+    rw (← c.self.view_is)
+    (subst (λ ss. OnOk c.use_constant.result (FitsGeneric (generic_type ss c.args.name.now) (type_at s.terms c.args.ty.0)))
+    (sym c.self.invariant.symbols_taken) c.use_constant.ensures.fits)
 
 pub returns-clause-refusal : goal.returns-clause-refusal
 returns-clause-refusal c =
     let s = c.self.inside in
-    rw (← c.self.view_is) (subst (λ ss. IfErr c.use_constant.result (λ fault. RefusesConstant fault (generic_type ss c.args.name.now) (type_at s.terms c.args.ty.0))) (sym c.self.invariant.symbols_taken) c.use_constant.ensures.refusal)
+    rw (← c.self.view_is)
+    (subst (λ ss. IfErr c.use_constant.result (λ fault. RefusesConstant fault (generic_type ss c.args.name.now) (type_at s.terms c.args.ty.0)))
+    (sym c.self.invariant.symbols_taken) c.use_constant.ensures.refusal)
 
 pub returns-clause-unchanged : goal.returns-clause-unchanged
 returns-clause-unchanged c =

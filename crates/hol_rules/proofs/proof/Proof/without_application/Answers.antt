@@ -11,7 +11,8 @@ returns-then-are_new c =
     let names = named_by c.args.names in
     let is = c.are_new.ensures.new c.self.inside.terms c.args.names.variables.now c.self.invariant.symbols_known in
     rw (← c.self.view_is) (
-    subst (λ ss. Refused NotTheSequent ≡ Refused (if are_new ss names then NotTheSequent else NameTaken)) (sym c.self.invariant.symbols_taken) (ap (λ b. Refused (if b then NotTheSequent else NameTaken)) (sym c.if-are_new.true ∙ is))
+    subst (λ ss. Refused NotTheSequent ≡ Refused (if are_new ss names then NotTheSequent else NameTaken)) (sym c.self.invariant.symbols_taken)
+    (ap (λ b. Refused (if b then NotTheSequent else NameTaken)) (sym c.if-are_new.true ∙ is))
     )
 
 pub returns-else-are_new : goal.returns-else-are_new
@@ -19,5 +20,6 @@ returns-else-are_new c =
     let names = named_by c.args.names in
     let is = c.are_new.ensures.new c.self.inside.terms c.args.names.variables.now c.self.invariant.symbols_known in
     rw (← c.self.view_is) (
-    subst (λ ss. Refused NameTaken ≡ Refused (if are_new ss names then NotTheSequent else NameTaken)) (sym c.self.invariant.symbols_taken) (ap (λ b. Refused (if b then NotTheSequent else NameTaken)) (sym c.if-are_new.false ∙ is))
+    subst (λ ss. Refused NameTaken ≡ Refused (if are_new ss names then NotTheSequent else NameTaken)) (sym c.self.invariant.symbols_taken)
+    (ap (λ b. Refused (if b then NotTheSequent else NameTaken)) (sym c.if-are_new.false ∙ is))
     )

@@ -9,7 +9,8 @@ pub lift-requires : goal.lift-requires
 lift-requires c = slice_get_within _ _ c.requires.known.0 c.requires.known.1
 
 pub returns-clause-made : goal.returns-clause-made
-returns-clause-made c = IfOk-weaker c.lift.result _ _ (λ r h t ht. h ∙ ap (λ x. Some (lift c.args.k x)) (Some-term_in c.args.self.now.terms c.args.id.0 t ht)) c.lift.ensures.made
+returns-clause-made c = IfOk-weaker c.lift.result _ _ (λ r h t ht. h ∙ ap (λ x. Some (lift c.args.k x)) (Some-term_in c.args.self.now.terms c.args.id.0 t ht))
+    c.lift.ensures.made
 
 pub returns-clause-keeps : goal.returns-clause-keeps
 returns-clause-keeps c = λ i t h. c.lift.ensures.keeps.stays.each i.0 t h

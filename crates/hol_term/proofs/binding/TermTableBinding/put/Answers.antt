@@ -15,7 +15,8 @@ put-requires-clause-body c = slice_get_within _ _ c.requires.body.0 c.requires.b
 pub returns-clause-made : goal.returns-clause-made
 returns-clause-made c =
     IfOk-weaker c.put.result _ _
-    (λ r h a t ha ht. h ∙ ap₂ (λ x y. Some (put x y)) (Some-term_in c.args.self.now.terms c.args.arg.0 a ha) (Some-term_in c.args.self.now.terms c.args.body.0 t ht))
+    (λ r h a t ha ht. h ∙ ap₂ (λ x y. Some (put x y)) (Some-term_in c.args.self.now.terms c.args.arg.0 a ha)
+    (Some-term_in c.args.self.now.terms c.args.body.0 t ht))
     c.put.ensures.made
 
 pub returns-clause-keeps : goal.returns-clause-keeps

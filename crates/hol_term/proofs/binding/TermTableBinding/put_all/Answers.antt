@@ -10,7 +10,8 @@ pub put_all-requires-clause-body : goal.put_all-requires-clause-body
 put_all-requires-clause-body c = slice_get_within _ _ c.requires.body.0 c.requires.body.1
 
 pub returns-clause-made : goal.returns-clause-made
-returns-clause-made c = IfOk-weaker c.put_all.result _ _ (λ r. Holds-put_all c.args.self.now c.put_all.new.self c.args.args.now c.args.body r) c.put_all.ensures.made
+returns-clause-made c = IfOk-weaker c.put_all.result _ _ (λ r. Holds-put_all c.args.self.now c.put_all.new.self c.args.args.now c.args.body r)
+    c.put_all.ensures.made
 
 pub returns-clause-keeps : goal.returns-clause-keeps
 returns-clause-keeps c = λ i t h. c.put_all.ensures.keeps.stays.each i.0 t h

@@ -9,12 +9,14 @@ invariant_of-self-in-With c =
     let f = rw (c.deref.ensures.value, c.deref-2.ensures.value) at c.in-With.ensures in
     let e = c.in_ok-number-in-With.ensures in
     let below : (p : ℕ) → greater_part c.args.entry.node ≡ Some p → p < length es = λ p g. subst (λ l. p < length l) (sym c.self.view_is) (c.requires p g) in
-    indexed_with es c.put_with.new.entries.items c.self.inside.children.items c.put_with.new.children.items (kept_in c.self.inside.others) c.args.entry c.in-With.part c.self.invariant below f e.entries e.children
+    indexed_with es c.put_with.new.entries.items c.self.inside.children.items c.put_with.new.children.items (kept_in c.self.inside.others) c.args.entry
+    c.in-With.part c.self.invariant below f e.entries e.children
 
 pub invariant_of-self-in_err-number-in-Apart : goal.invariant_of-self-in_err-number-in-Apart
 invariant_of-self-in_err-number-in-Apart c =
     let e = c.in_err-number-in-Apart.ensures.unchanged in
-    indexed_same c.self.inside.entries.items c.put_apart.new.entries.items c.self.inside.children.items c.put_apart.new.children.items c.self.inside.others c.put_apart.new.others c.self.invariant e.0 e.1 e.2
+    indexed_same c.self.inside.entries.items c.put_apart.new.entries.items c.self.inside.children.items c.put_apart.new.children.items c.self.inside.others
+    c.put_apart.new.others c.self.invariant e.0 e.1 e.2
 
 pub invariant_of-self-in-Apart : goal.invariant_of-self-in-Apart
 invariant_of-self-in-Apart c =
@@ -22,7 +24,8 @@ invariant_of-self-in-Apart c =
     let f = rw (c.deref.ensures.value, c.deref-2.ensures.value) at c.in-Apart.ensures in
     let e = c.in_ok-number-in-Apart.ensures in
     let below : (p : ℕ) → greater_part c.args.entry.node ≡ Some p → p < length es = λ p g. subst (λ l. p < length l) (sym c.self.view_is) (c.requires p g) in
-    indexed_apart es c.put_apart.new.entries.items c.self.inside.children.items c.put_apart.new.children.items (kept_in c.self.inside.others) (kept_in c.put_apart.new.others) c.args.entry c.self.invariant below f e.entries e.children e.others.0
+    indexed_apart es c.put_apart.new.entries.items c.self.inside.children.items c.put_apart.new.children.items (kept_in c.self.inside.others)
+    (kept_in c.put_apart.new.others) c.args.entry c.self.invariant below f e.entries e.children e.others.0
 
 pub returns-in-At-clause-inserted : goal.returns-in-At-clause-inserted
 returns-in-At-clause-inserted c =

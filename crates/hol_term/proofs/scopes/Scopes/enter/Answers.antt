@@ -7,13 +7,17 @@ use Rattle.hol_term.proofs.scopes.Scopes.enter.Goals as goal
 
 pub invariant_of-self : goal.invariant_of-self
 invariant_of-self c =
-    let h = rw (← c.self.view_is) at c.requires in
-    ((entered c.self.inside.inner.items c.put.new.inner.items (record { outer = c.args.outer; ty = c.args.ty }) c.self.invariant.0 h c.put.ensures.adds).inner, c.put.ensures.placed)
+    let h = rw (← c.self.view_is) at c.requires in (
+      (entered c.self.inside.inner.items c.put.new.inner.items (record { outer = c.args.outer; ty = c.args.ty }) c.self.invariant.0 h c.put.ensures.adds).inner,
+      c.put.ensures.placed,
+    )
 
 pub invariant_of-self-2 : goal.invariant_of-self-2
 invariant_of-self-2 c =
-    let h = rw (← c.self.view_is) at c.requires in
-    ((entered c.self.inside.inner.items c.put.new.inner.items (record { outer = c.args.outer; ty = c.args.ty }) c.self.invariant.0 h c.put.ensures.adds).inner, c.put.ensures.placed)
+    let h = rw (← c.self.view_is) at c.requires in (
+      (entered c.self.inside.inner.items c.put.new.inner.items (record { outer = c.args.outer; ty = c.args.ty }) c.self.invariant.0 h c.put.ensures.adds).inner,
+      c.put.ensures.placed,
+    )
 
 pub overflow_add-result : goal.overflow_add-result
 overflow_add-result c =

@@ -7,7 +7,8 @@ use Rattle.hol_term.proofs.ScopeLaws.{list_in-none, innermost_within, innermost_
 use Rattle.hol_term.proofs.scopes.Scopes.innermost.Goals as goal
 
 pub returns-then-scope-eq0-clause-none : goal.returns-then-scope-eq0-clause-none
-returns-then-scope-eq0-clause-none c = rw (← c.self.view_is) (ap (list_in (lists_of c.self.inside.inner.items)) c.if-scope-eq0.true ∙ list_in-none c.self.inside.inner.items)
+returns-then-scope-eq0-clause-none c = rw (← c.self.view_is)
+    (ap (list_in (lists_of c.self.inside.inner.items)) c.if-scope-eq0.true ∙ list_in-none c.self.inside.inner.items)
 
 pub index-requires : goal.index-requires
 index-requires c =

@@ -18,4 +18,8 @@ returns-in-Some-clause-inserted c = rw (← c.self.view_is) (refl, c.self.invari
 pub returns-in_ok-number-in-None-clause-inserted : goal.returns-in_ok-number-in-None-clause-inserted
 returns-in_ok-number-in-None-clause-inserted c =
     let e = c.in_ok-number-in-None.ensures in
-    rw (← c.self.view_is) (e.entries, e.number, none_alike c.self.inside.entries.items c.self.inside.numbers c.args.entry.node c.self.invariant (sym c.in-None.ensures))
+    rw (← c.self.view_is) (
+      e.entries,
+      e.number,
+      none_alike c.self.inside.entries.items c.self.inside.numbers c.args.entry.node c.self.invariant (sym c.in-None.ensures),
+    )

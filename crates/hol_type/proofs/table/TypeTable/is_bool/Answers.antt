@@ -8,5 +8,6 @@ pub returns-else-is_empty-clause-is : goal.returns-else-is_empty-clause-is
 returns-else-is_empty-clause-is c =
     let some = not_from_Decides _ (Decides-eqb _ 0) (sym c.is_empty.ensures ∙ c.if-is_empty.false) in (
       λ h. absurd (let f = c.if-is_empty.false in cc),
-      λ e. absurd (arguments-not_bool c.args.self.now c.in-Op.name.now c.in-Op.args.now some (sym (Holds-tree_at c.args.self.now c.args.id.0 _ c.in-Op.ensures.is) ∙ e)),
+      λ e. absurd (arguments-not_bool c.args.self.now c.in-Op.name.now c.in-Op.args.now some
+          (sym (Holds-tree_at c.args.self.now c.args.id.0 _ c.in-Op.ensures.is) ∙ e)),
     )

@@ -9,13 +9,18 @@ loop-arg-init c = measuring_begins _ _ c.requires
 
 pub loop-arg-preserved : goal.loop-arg-preserved
 loop-arg-preserved c =
-    measuring_goes_on _ _ _ _ c.loop-arg.size c.loop-arg.depth c.measures_of-part.result _ _ c.measures_of-part.ensures c.saturating_add-size.ensures c.max-depth.ensures
-    (subst (λ l. IsMeasuring c.args.self.now c.args.args.now l c.loop-arg.size c.loop-arg.depth) (drop_more c.args.args.now c.loop-arg.arg-index _ c.loop-arg-test.true) c.loop-arg.invariant)
+    measuring_goes_on _ _ _ _ c.loop-arg.size c.loop-arg.depth c.measures_of-part.result _ _ c.measures_of-part.ensures c.saturating_add-size.ensures
+    c.max-depth.ensures
+    (subst (λ l. IsMeasuring c.args.self.now c.args.args.now l c.loop-arg.size c.loop-arg.depth)
+    (drop_more c.args.args.now c.loop-arg.arg-index _ c.loop-arg-test.true) c.loop-arg.invariant)
 
 pub measures_of-part-requires : goal.measures_of-part-requires
-measures_of-part-requires c = (subst (AreKnown c.args.self.now) (drop_more c.args.args.now c.loop-arg.arg-index (record { 0 = 0 }) c.loop-arg-test.true) c.loop-arg.invariant.known).0
+measures_of-part-requires c =
+    (subst (AreKnown c.args.self.now) (drop_more c.args.args.now c.loop-arg.arg-index (record { 0 = 0 }) c.loop-arg-test.true) c.loop-arg.invariant.known).0
 
 pub returns : goal.returns
 returns c =
-    measuring_ends c.args.self.now c.args.args.now c.loop-arg.size c.loop-arg.depth c.max-above.result c.saturating_add.result c.max-above.ensures c.saturating_add.ensures
-    (subst (λ l. IsMeasuring c.args.self.now c.args.args.now l c.loop-arg.size c.loop-arg.depth) (drop_all c.loop-arg.arg-index c.args.args.now (omega (arith, c.loop-arg-test.false))) c.loop-arg.invariant)
+    measuring_ends c.args.self.now c.args.args.now c.loop-arg.size c.loop-arg.depth c.max-above.result c.saturating_add.result c.max-above.ensures
+    c.saturating_add.ensures
+    (subst (λ l. IsMeasuring c.args.self.now c.args.args.now l c.loop-arg.size c.loop-arg.depth)
+    (drop_all c.loop-arg.arg-index c.args.args.now (omega (arith, c.loop-arg-test.false))) c.loop-arg.invariant)

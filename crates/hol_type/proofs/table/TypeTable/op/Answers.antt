@@ -16,4 +16,6 @@ pub returns-clause-within : goal.returns-clause-within
 returns-clause-within c = c.in_ok-check_limits.ensures.within _ (c.measures-measures.ensures _)
 
 pub returns-in_err-check_limits-clause-refusal : goal.returns-in_err-check_limits-clause-refusal
-returns-in_err-check_limits-clause-refusal c = if_err c.from_residual.result (λ e is. subst (λ f. RefusesType f (operator c.args.name.now (types_of (types_at c.args.self.now c.args.args.now)))) (sym is) (c.in_err-check_limits.ensures.refusal _ (c.measures-measures.ensures c.args.name.now))) c.from_residual.ensures.1
+returns-in_err-check_limits-clause-refusal c = if_err c.from_residual.result
+    (λ e is. subst (λ f. RefusesType f (operator c.args.name.now (types_of (types_at c.args.self.now c.args.args.now)))) (sym is)
+    (c.in_err-check_limits.ensures.refusal _ (c.measures-measures.ensures c.args.name.now))) c.from_residual.ensures.1

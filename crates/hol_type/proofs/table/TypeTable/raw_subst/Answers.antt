@@ -11,7 +11,11 @@ use Rattle.hol_type.proofs.SubstitutionTurns.{walk_begins, walk_ends}
 use Rattle.hol_type.proofs.table.TypeTable.raw_subst.Goals as goal
 
 pub loop-task-init : goal.loop-task-init
-loop-task-init c = (Keeps-refl _, rw (c.in_ok-push.ensures.pushed, c.new.ensures.empty) (walk_begins _ _ c.args.root _ c.requires.pairs c.requires.root c.new-2.ensures.empty))
+loop-task-init c = (
+  Keeps-refl _,
+  rw (c.in_ok-push.ensures.pushed, c.new.ensures.empty)
+      (walk_begins _ _ c.args.root _ c.requires.pairs c.requires.root c.new-2.ensures.empty),
+)
 
 pub loop-task-preserved : goal.loop-task-preserved
 loop-task-preserved c =
@@ -36,9 +40,12 @@ unwrap-requires c =
 pub returns-clause-made : goal.returns-clause-made
 returns-clause-made c =
     let w = rw c.in_default.ensures.popped at c.loop-task.invariant.1 in
-    walk_ends _ _ _ _ _ c.unwrap.result _ c.loop-task.invariant.0 c.requires.root (if_some _ c.find.result c.unwrap.result c.unwrap.ensures c.find.ensures.noted) w
+    walk_ends _ _ _ _ _ c.unwrap.result _ c.loop-task.invariant.0 c.requires.root
+    (if_some _ c.find.result c.unwrap.result c.unwrap.ensures c.find.ensures.noted) w
 
 pub returns-clause-known : goal.returns-clause-known
 returns-clause-known c =
     let w = rw c.in_default.ensures.popped at c.loop-task.invariant.1 in
-    Holds-within _ _ _ (walk_ends _ _ _ _ _ c.unwrap.result _ c.loop-task.invariant.0 c.requires.root (if_some _ c.find.result c.unwrap.result c.unwrap.ensures c.find.ensures.noted) w)
+    Holds-within _ _ _
+    (walk_ends _ _ _ _ _ c.unwrap.result _ c.loop-task.invariant.0 c.requires.root
+    (if_some _ c.find.result c.unwrap.result c.unwrap.ensures c.find.ensures.noted) w)

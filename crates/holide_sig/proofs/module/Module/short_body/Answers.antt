@@ -18,4 +18,5 @@ returns-else-symbol-lt-SIGNATURE-clause-is c =
 pub returns-else-symbol-lt-SIGNATURE-clause-known : goal.returns-else-symbol-lt-SIGNATURE-clause-known
 returns-else-symbol-lt-SIGNATURE-clause-known c =
     subst (λ r. IfSome r (λ id. id.0 < length c.args.self.now.table)) (sym c.short_tree.ensures)
-    (short_id-known c.args.self.now.table c.get.result.now (AreDeclsKnown-slice_get c.args.self.now.table c.args.self.now.decls _ _ c.requires.held.decls c.get.ensures))
+    (short_id-known c.args.self.now.table c.get.result.now
+    (AreDeclsKnown-slice_get c.args.self.now.table c.args.self.now.decls _ _ c.requires.held.decls c.get.ensures))

@@ -11,4 +11,5 @@ returns-else-symbol-lt-SIGNATURE-clause-is c =
     ∙ ap (option_map (declaration_in c.args.self.now.table)) c.get.ensures)
 
 pub returns-else-symbol-lt-SIGNATURE-clause-known : goal.returns-else-symbol-lt-SIGNATURE-clause-known
-returns-else-symbol-lt-SIGNATURE-clause-known c = (AreDeclsKnown-slice_get c.args.self.now.table c.args.self.now.decls _ _ c.requires.held.decls c.get.ensures).ty
+returns-else-symbol-lt-SIGNATURE-clause-known c =
+    (AreDeclsKnown-slice_get c.args.self.now.table c.args.self.now.decls _ _ c.requires.held.decls c.get.ensures).ty

@@ -21,18 +21,23 @@ returns-in_ok-count-in-Pi-clause-front c =
     let b = tree_at ts c.in-Pi.body.0 in
     let known = front-known m c.requires.front.0 head (subst (IsFront m c.requires.front.0) c.in-Symbol.is c.requires.front.1) in
     let count : c.in_ok-count-in-Pi.count ≡ saturated (occurrences 0 b) = c.in_ok-count-in-Pi.ensures.count in
-    let spent : c.saturating_add-in-Pi.result ≡ saturated (saturated (head.spent + c.size-domain.result) + saturated (c.in_ok-count-in-Pi.count * (c.size.result - 1))) =
+    let spent : c.saturating_add-in-Pi.result ≡ saturated
+    (saturated (head.spent + c.size-domain.result) + saturated (c.in_ok-count-in-Pi.count * (c.size.result - 1))) =
     omega (arith, c.saturating_add-in-Pi.ensures, c.saturating_add.ensures, c.saturating_mul-more.ensures)
     in
-    λ t h. after-product m head c.in-Pi.body a b (tree_at ts c.args.arg.0) c.saturating_add-in-Pi.result c.size-domain.result c.in_ok-count-in-Pi.count c.size.result
-    (Holds-tree_at ts head.rest.0 (Pi a b) c.in-Pi.ensures.is) refl (omega (arith, c.in-Pi.ensures.lower.1, known)) c.size-domain.ensures count c.size.ensures spent t (subst (IsFront m t) c.in-Symbol.is h)
+    λ t h. after-product m head c.in-Pi.body a b (tree_at ts c.args.arg.0) c.saturating_add-in-Pi.result c.size-domain.result c.in_ok-count-in-Pi.count
+    c.size.result
+    (Holds-tree_at ts head.rest.0 (Pi a b) c.in-Pi.ensures.is) refl (omega (arith, c.in-Pi.ensures.lower.1, known)) c.size-domain.ensures count c.size.ensures
+    spent t (subst (IsFront m t) c.in-Symbol.is h)
 
 pub returns-in_default-view : goal.returns-in_default-view
 returns-in_default-view c =
     let m = c.args.base.now in
     record {
       front = λ t h.
-          after-leaf m c.in-Symbol.head c.view.result (tree_at m.table c.args.arg.0) (Holds-tree_at m.table c.in-Symbol.head.rest.0 (tree_of_node m.table c.view.result) c.view.ensures.is) c.in_default-view.not-Pi t (subst (IsFront m t) c.in-Symbol.is h);
+          after-leaf m c.in-Symbol.head c.view.result (tree_at m.table c.args.arg.0)
+          (Holds-tree_at m.table c.in-Symbol.head.rest.0 (tree_of_node m.table c.view.result) c.view.ensures.is) c.in_default-view.not-Pi t
+          (subst (IsFront m t) c.in-Symbol.is h);
       column = refl;
       weights = c.requires.weights;
     }

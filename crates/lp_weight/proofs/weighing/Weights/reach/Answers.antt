@@ -14,4 +14,8 @@ loop-id-preserved c =
     let m = c.args.base.now in
     let column : c.push.new.self ≡ c.loop-id.self.column ++ c.in_ok-spread.spread ∷ [] = rw c.in_ok-spread.ensures.column at c.in_ok-push.ensures in
     let is = subst (λ n. IsSpread m (tree_at m.table n) c.in_ok-spread.spread) c.len-in-loop-id.ensures c.in_ok-spread.ensures.spread in
-    record { walk = c.in_ok-spread.ensures.weights.walk; column = rw column (column-more m c.loop-id.self.column c.in_ok-spread.spread c.loop-id.invariant.column is) }
+    record {
+      walk = c.in_ok-spread.ensures.weights.walk;
+      column =
+          rw column (column-more m c.loop-id.self.column c.in_ok-spread.spread c.loop-id.invariant.column is);
+    }

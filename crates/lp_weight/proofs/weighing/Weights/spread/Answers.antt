@@ -16,7 +16,8 @@ returns-in_ok-front-in-App-clause-spread c =
     let u = tree_at m.table c.in-App.x.0 in
     let is = c.requires.weights.column c.in-App.f.0 c.get-function.result c.get-function.ensures in
     rw (Holds-tree_at m.table c.args.id.0 (App t u) c.in-App.ensures.is)
-    (spread-app m t u c.get-function.result c.in_ok-front-in-App.front c.spreads.result c.saturating_add-inner.result is c.spreads.ensures c.saturating_add-inner.ensures (c.in_ok-front-in-App.ensures.front t is.front))
+    (spread-app m t u c.get-function.result c.in_ok-front-in-App.front c.spreads.result c.saturating_add-inner.result is c.spreads.ensures
+    c.saturating_add-inner.ensures (c.in_ok-front-in-App.ensures.front t is.front))
 
 pub applied-requires-clause-front : goal.applied-requires-clause-front
 applied-requires-clause-front c =

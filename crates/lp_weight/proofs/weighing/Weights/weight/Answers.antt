@@ -5,11 +5,13 @@ use Rattle.lp_weight.proofs.SpreadLaws.{weight_at-decl, body-weight, no_body-wei
 use Rattle.lp_weight.proofs.weighing.Weights.weight.Goals as goal
 
 pub tree_weight-requires-clause-known : goal.tree_weight-requires-clause-known
-tree_weight-requires-clause-known c = (AreDeclsKnown-slice_get c.args.base.now.table c.args.base.now.decls c.args.i c.get-decl.result.now c.requires.held.decls c.get-decl.ensures).ty
+tree_weight-requires-clause-known c =
+    (AreDeclsKnown-slice_get c.args.base.now.table c.args.base.now.decls c.args.i c.get-decl.result.now c.requires.held.decls c.get-decl.ensures).ty
 
 pub tree_weight-requires-in-Some-clause-known : goal.tree_weight-requires-in-Some-clause-known
 tree_weight-requires-in-Some-clause-known c =
-    subst (IsBodyKnown c.args.base.now.table) c.in-Some.is (AreDeclsKnown-slice_get c.args.base.now.table c.args.base.now.decls c.args.i c.get-decl.result.now c.requires.held.decls c.get-decl.ensures).body
+    subst (IsBodyKnown c.args.base.now.table) c.in-Some.is
+    (AreDeclsKnown-slice_get c.args.base.now.table c.args.base.now.decls c.args.i c.get-decl.result.now c.requires.held.decls c.get-decl.ensures).body
 
 pub returns-in-None-clause-weight : goal.returns-in-None-clause-weight
 returns-in-None-clause-weight c =

@@ -8,4 +8,5 @@ pub returns-in-Some-clause-names : goal.returns-in-Some-clause-names
 returns-in-Some-clause-names c =
     let names = c.self.inside.names.items in
     let at : slice_get names c.in-Some.number ≡ Some c.args.name.now = ap (λ l. slice_get l c.in-Some.number) (sym c.deref.ensures.value) ∙ c.in-Some.ensures in
-    subst (λ l. l ≡ with_name l c.args.name.now) c.self.view_is (sym (with_name-old names c.args.name.now c.in-Some.number (c.self.invariant.once c.in-Some.number c.args.name.now at)))
+    subst (λ l. l ≡ with_name l c.args.name.now) c.self.view_is
+    (sym (with_name-old names c.args.name.now c.in-Some.number (c.self.invariant.once c.in-Some.number c.args.name.now at)))

@@ -8,7 +8,9 @@ pub returns-clause-numbers : goal.returns-clause-numbers
 returns-clause-numbers c = IfOk-weaker c.listed.result _ _ (λ hyps e. e ∙ c.in_ok-list.ensures) c.listed.ensures
 
 pub returns-clause-terms : goal.returns-clause-terms
-returns-clause-terms c = IfOk-weaker c.listed.result _ _ (λ hyps e trees d k. ap (terms_at trees) (e ∙ c.in_ok-list.ensures) ∙ terms_at-union trees d [] c.args.ids.now tt k) c.listed.ensures
+returns-clause-terms c = IfOk-weaker c.listed.result _ _
+    (λ hyps e trees d k. ap (terms_at trees) (e ∙ c.in_ok-list.ensures) ∙ terms_at-union trees d [] c.args.ids.now tt k) c.listed.ensures
 
 pub returns-clause-known : goal.returns-clause-known
-returns-clause-known c = IfOk-weaker c.listed.result _ _ (λ hyps e trees k. subst (AreKnown trees) (sym (e ∙ c.in_ok-list.ensures)) (AreKnown-union trees [] c.args.ids.now tt k)) c.listed.ensures
+returns-clause-known c = IfOk-weaker c.listed.result _ _
+    (λ hyps e trees k. subst (AreKnown trees) (sym (e ∙ c.in_ok-list.ensures)) (AreKnown-union trees [] c.args.ids.now tt k)) c.listed.ensures

@@ -15,7 +15,8 @@ pub returns-clause-type_vars : goal.returns-clause-type_vars
 returns-clause-type_vars c =
     let found = type_variable_places (term_at c.args.table.now c.args.id.0) in
     IfOk-weaker c.unite-2.result _ _
-    (λ _ _. c.in_ok-unite.ensures.united ∙ ap (union name_eq c.args.self.now.type_vars) (c.deref.ensures.value ∙ c.in_ok-names.ensures) ∙ union-distinct name_eq name_eq-Decides found c.args.self.now.type_vars)
+    (λ _ _. c.in_ok-unite.ensures.united ∙ ap (union name_eq c.args.self.now.type_vars) (c.deref.ensures.value ∙ c.in_ok-names.ensures)
+    ∙ union-distinct name_eq name_eq-Decides found c.args.self.now.type_vars)
     c.unite-2.ensures.united
 
 pub returns-clause-free_vars : goal.returns-clause-free_vars
@@ -34,5 +35,6 @@ pub returns-clause-known : goal.returns-clause-known
 returns-clause-known c =
     let trees = c.args.table.now in
     IfOk-weaker c.unite-2.result _ _
-    (λ _ e h. subst (HaveTypes trees) (sym e) (HaveTypes-union trees c.args.self.now.free_vars c.in_ok-free_vars.field-0.items h c.in_ok-free_vars.ensures.known))
+    (λ _ e h. subst (HaveTypes trees) (sym e)
+    (HaveTypes-union trees c.args.self.now.free_vars c.in_ok-free_vars.field-0.items h c.in_ok-free_vars.ensures.known))
     c.unite-2.ensures.united

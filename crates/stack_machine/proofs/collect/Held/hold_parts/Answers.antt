@@ -12,8 +12,13 @@ loop-i-preserved-then-has_cell c =
     record {
       within = omega arith;
       more = rw c.hold_cell.ensures (HoldsMore-trans more (more_parts c.loop-i.self _));
-      closed = rw c.hold_cell.ensures (closed_more c.loop-i.self c.args.cells.now (c.loop-i.i - 1) _ (slice_get-get_or _ _ _ here) (subst (λ n. AreBefore n c.args.cells.now) (sym more.name_count) c.requires.before) (more.cell_count ∙ c.requires.count) (subst (λ n. IsClosedFrom n c.loop-i.self c.args.cells.now) next c.loop-i.invariant.closed));
-      least = λ k m closed. rw c.hold_cell.ensures (no_more_parts k c.args.cells.now closed (c.loop-i.i - 1) _ (slice_get-get_or _ _ _ here) c.loop-i.self (c.has_cell.ensures ∙ ap Some c.if-has_cell.true) (c.loop-i.invariant.least k m closed));
+      closed = rw c.hold_cell.ensures
+          (closed_more c.loop-i.self c.args.cells.now (c.loop-i.i - 1) _ (slice_get-get_or _ _ _ here)
+          (subst (λ n. AreBefore n c.args.cells.now) (sym more.name_count) c.requires.before) (more.cell_count ∙ c.requires.count)
+          (subst (λ n. IsClosedFrom n c.loop-i.self c.args.cells.now) next c.loop-i.invariant.closed));
+      least = λ k m closed. rw c.hold_cell.ensures
+          (no_more_parts k c.args.cells.now closed (c.loop-i.i - 1) _ (slice_get-get_or _ _ _ here) c.loop-i.self
+          (c.has_cell.ensures ∙ ap Some c.if-has_cell.true) (c.loop-i.invariant.least k m closed));
     }
 
 pub loop-i-init : goal.loop-i-init
@@ -25,7 +30,8 @@ loop-i-preserved c =
     record {
       within = omega arith;
       more = c.loop-i.invariant.more;
-      closed = closed_past c.loop-i.self c.args.cells.now (c.loop-i.i - 1) (c.has_cell.ensures ∙ ap Some c.if-has_cell.false) (subst (λ n. IsClosedFrom n c.loop-i.self c.args.cells.now) next c.loop-i.invariant.closed);
+      closed = closed_past c.loop-i.self c.args.cells.now (c.loop-i.i - 1) (c.has_cell.ensures ∙ ap Some c.if-has_cell.false)
+          (subst (λ n. IsClosedFrom n c.loop-i.self c.args.cells.now) next c.loop-i.invariant.closed);
       least = c.loop-i.invariant.least;
     }
 

@@ -16,14 +16,18 @@ use Rattle.stack_machine.proofs.Dictionaries.{dictionary-get, dictionary-remove,
 use Rattle.stack_machine.proofs.machine.Machine.remove.Goals as goal
 
 pub returns-in_err-key-clause-refused : goal.returns-in_err-key-clause-refused
-returns-in_err-key-clause-refused c = rw (← c.self.view_is) (handed_on _ _ _ c.from_residual.ensures.1 (first_fails _ _ _ (c.in_err-key.ensures c.self.inside.store).refused))
+returns-in_err-key-clause-refused c = rw (← c.self.view_is)
+    (handed_on _ _ _ c.from_residual.ensures.1 (first_fails _ _ _ (c.in_err-key.ensures c.self.inside.store).refused))
 
 pub returns-in_default-clause-refused : goal.returns-in_default-clause-refused
 returns-in_default-clause-refused c =
     let f : SFits w64 c.in_ok-key.key = search rules in
     let e : lookup (is_at (int_cmp c.in_ok-key.key)) c.self.inside.dictionary.entries ≡ None = sym (simp to_z-of_z at c.in_default.ensures.value) in
     let m = c.self.inside.store in
-    rw (← c.self.view_is) (next_fails (Refused NoSuchKey) _ _ _ (c.in_ok-key.ensures m).taken (first_fails (Refused NoSuchKey) _ _ (ap (λ o. ok_or o NoSuchKey) (dictionary-get m c.self.inside.dictionary.entries c.in_ok-key.key ∙ ap (option_map (object_view m)) e))))
+    rw (← c.self.view_is)
+    (next_fails (Refused NoSuchKey) _ _ _ (c.in_ok-key.ensures m).taken
+    (first_fails (Refused NoSuchKey) _ _
+    (ap (λ o. ok_or o NoSuchKey) (dictionary-get m c.self.inside.dictionary.entries c.in_ok-key.key ∙ ap (option_map (object_view m)) e))))
 
 pub put-requires-clause-there : goal.put-requires-clause-there
 put-requires-clause-there c = (c.in_ok-key.ensures c.self.inside.store).there
@@ -31,16 +35,26 @@ put-requires-clause-there c = (c.in_ok-key.ensures c.self.inside.store).there
 pub invariant_of-self-2 : goal.invariant_of-self-2
 invariant_of-self-2 c =
     let f : SFits w64 c.in_ok-key.key = search rules in
-    let e : lookup (is_at (int_cmp c.in_ok-key.key)) c.self.inside.dictionary.entries ≡ Some c.in-Some.object = sym (simp to_z-of_z at c.in-Some.ensures.value) in
-    let known = known_found c.self.inside.store (is_at (int_cmp c.in_ok-key.key)) c.self.inside.dictionary.entries c.in-Some.object c.self.invariant.1 e in
-    (subst (AreKnown c.self.inside.store) (sym c.put.ensures) (known, known-drop c.self.inside.store 1 c.self.inside.stack c.self.invariant.0), subst (AreEntriesKnown c.self.inside.store) (sym c.in-Some.ensures.entries) (known_removed c.self.inside.store _ c.self.inside.dictionary.entries c.self.invariant.1), c.self.invariant.2)
+    let e : lookup (is_at (int_cmp c.in_ok-key.key)) c.self.inside.dictionary.entries ≡ Some c.in-Some.object =
+    sym (simp to_z-of_z at c.in-Some.ensures.value) in
+    let known = known_found c.self.inside.store (is_at (int_cmp c.in_ok-key.key)) c.self.inside.dictionary.entries c.in-Some.object c.self.invariant.1 e in (
+      subst (AreKnown c.self.inside.store) (sym c.put.ensures) (known, known-drop c.self.inside.store 1 c.self.inside.stack c.self.invariant.0),
+      subst (AreEntriesKnown c.self.inside.store) (sym c.in-Some.ensures.entries)
+          (known_removed c.self.inside.store _ c.self.inside.dictionary.entries c.self.invariant.1),
+      c.self.invariant.2,
+    )
 
 pub returns-clause-taken : goal.returns-clause-taken
 returns-clause-taken c =
     let f : SFits w64 c.in_ok-key.key = search rules in
-    let e : lookup (is_at (int_cmp c.in_ok-key.key)) c.self.inside.dictionary.entries ≡ Some c.in-Some.object = sym (simp to_z-of_z at c.in-Some.ensures.value) in
+    let e : lookup (is_at (int_cmp c.in_ok-key.key)) c.self.inside.dictionary.entries ≡ Some c.in-Some.object =
+    sym (simp to_z-of_z at c.in-Some.ensures.value) in
     let m = c.self.inside.store in
     let es = c.self.inside.dictionary.entries in
-    let u : (q : ℤ) → lookup (is_at (int_cmp q)) c.remove.new.self.entries ≡ cond (is_eq (int_cmp c.in_ok-key.key q)) None (lookup (is_at (int_cmp q)) es) = simp to_z-of_z at c.in-Some.ensures.updates.0 in
-    rw (← c.self.view_is) (next _ _ _ _ (c.in_ok-key.ensures m).taken (next _ _ _ _ (ap (λ o. ok_or o NoSuchKey) (dictionary-get m es c.in_ok-key.key ∙ ap (option_map (object_view m)) e))
-    (ap₂ (λ xs entries. Ok (in_state (record (article_state m es c.self.inside.progress) { dictionary = entries }) (objects_view m xs) m.run)) (sym c.put.ensures) (sym (dictionary-remove m es c.remove.new.self.entries c.in_ok-key.key u)))))
+    let u : (q : ℤ) → lookup (is_at (int_cmp q)) c.remove.new.self.entries ≡ cond (is_eq (int_cmp c.in_ok-key.key q)) None (lookup (is_at (int_cmp q)) es) =
+    simp to_z-of_z at c.in-Some.ensures.updates.0 in
+    rw (← c.self.view_is)
+    (next _ _ _ _ (c.in_ok-key.ensures m).taken
+    (next _ _ _ _ (ap (λ o. ok_or o NoSuchKey) (dictionary-get m es c.in_ok-key.key ∙ ap (option_map (object_view m)) e))
+    (ap₂ (λ xs entries. Ok (in_state (record (article_state m es c.self.inside.progress) { dictionary = entries }) (objects_view m xs) m.run))
+    (sym c.put.ensures) (sym (dictionary-remove m es c.remove.new.self.entries c.in_ok-key.key u)))))

@@ -19,7 +19,9 @@ returns-clause-run c = rw (← c.self.view_is) (run-Grows c.abs.ensures.grows c.
 pub returns-clause-known : goal.returns-clause-known
 returns-clause-known c = IfOk-map c.abs.result _ _ c.abs.ensures.made (λ id h. record {
   known = h.known;
-  typed = subst IsTypedTerm (sym h.is) (abstraction_typed (c.args.variable.now.name, type_at c.self.inside.proof.trees c.args.variable.now.ty.0) (term_at c.self.inside.proof.trees c.args.body.0) (subst (λ m. IsTypedTerm (term_at m.trees c.args.body.0)) (sym c.self.view_is) c.requires.body.typed));
+  typed = subst IsTypedTerm (sym h.is)
+      (abstraction_typed (c.args.variable.now.name, type_at c.self.inside.proof.trees c.args.variable.now.ty.0)
+      (term_at c.self.inside.proof.trees c.args.body.0) (subst (λ m. IsTypedTerm (term_at m.trees c.args.body.0)) (sym c.self.view_is) c.requires.body.typed));
 })
 
 pub returns-clause-made : goal.returns-clause-made
@@ -29,4 +31,7 @@ pub returns-clause-fits : goal.returns-clause-fits
 returns-clause-fits c = rw (← c.self.view_is) (OnOk-IfOk c.abs.result _ _ c.abs.ensures.within (λ id h. term_within _ h))
 
 pub returns-clause-refused : goal.returns-clause-refused
-returns-clause-refused c = rw (← c.self.view_is) (IfErr-map c.abs.result _ _ c.abs.ensures.refusal (λ fault h. term_fails fault (abstraction (c.args.variable.now.name, type_at c.self.inside.proof.trees c.args.variable.now.ty.0) (term_at c.self.inside.proof.trees c.args.body.0)) h))
+returns-clause-refused c = rw (← c.self.view_is)
+    (IfErr-map c.abs.result _ _ c.abs.ensures.refusal
+    (λ fault h. term_fails fault
+    (abstraction (c.args.variable.now.name, type_at c.self.inside.proof.trees c.args.variable.now.ty.0) (term_at c.self.inside.proof.trees c.args.body.0)) h))

@@ -19,7 +19,8 @@ next c = c.len.ensures ∙ c.self.inside.cells.ok.0
 
 pub invariant_of-self-2 : goal.invariant_of-self-2
 invariant_of-self-2 c = record {
-  cells_known = rw c.in_ok-push.ensures.items (pushed-AreCells c.self.inside.proof.trees c.self.inside.names.items (run c) c.self.inside.cells.items (new_cell c) c.self.invariant.cells_known
+  cells_known = rw c.in_ok-push.ensures.items
+      (pushed-AreCells c.self.inside.proof.trees c.self.inside.names.items (run c) c.self.inside.cells.items (new_cell c) c.self.invariant.cells_known
       (subst (λ m. IsKnown m c.args.head) (sym c.self.view_is) c.requires.head) (subst (λ m. IsListKnown m c.args.tail) (sym c.self.view_is) c.requires.tail));
   run_known = c.self.invariant.run_known;
   assumed = c.self.invariant.assumed;
@@ -28,14 +29,19 @@ invariant_of-self-2 c = record {
 
 pub returns-clause-known : goal.returns-clause-known
 returns-clause-known c = rw c.in_ok-push.ensures.items
-    (subst (λ n. IsListKnown (stored c.self.inside.proof.trees c.self.inside.names.items (run c) (c.self.inside.cells.items ++ new_cell c ∷ [])) (CellOf (record { 0 = n }))) (sym (next c)) (pushed-known c.self.inside.proof.trees c.self.inside.names.items (run c) c.self.inside.cells.items (new_cell c)))
+    (subst (λ n. IsListKnown (stored c.self.inside.proof.trees c.self.inside.names.items (run c) (c.self.inside.cells.items ++ new_cell c ∷ []))
+    (CellOf (record { 0 = n }))) (sym (next c))
+    (pushed-known c.self.inside.proof.trees c.self.inside.names.items (run c) c.self.inside.cells.items (new_cell c)))
 
 pub returns-clause-made : goal.returns-clause-made
 returns-clause-made c = rw (← c.self.view_is, c.in_ok-push.ensures.items)
-    (subst (λ n. list_view (stored c.self.inside.proof.trees c.self.inside.names.items (run c) (c.self.inside.cells.items ++ new_cell c ∷ [])) (CellOf (record { 0 = n })) ≡ cell_view (stored c.self.inside.proof.trees c.self.inside.names.items (run c) c.self.inside.cells.items) (new_cell c)) (sym (next c)) (pushed-list c.self.inside.proof.trees c.self.inside.names.items (run c) c.self.inside.cells.items (new_cell c)))
+    (subst (λ n. list_view (stored c.self.inside.proof.trees c.self.inside.names.items (run c) (c.self.inside.cells.items ++ new_cell c ∷ []))
+    (CellOf (record { 0 = n })) ≡ cell_view (stored c.self.inside.proof.trees c.self.inside.names.items (run c) c.self.inside.cells.items) (new_cell c))
+    (sym (next c)) (pushed-list c.self.inside.proof.trees c.self.inside.names.items (run c) c.self.inside.cells.items (new_cell c)))
 
 pub returns-clause-grows : goal.returns-clause-grows
-returns-clause-grows c = rw (← c.self.view_is, c.in_ok-push.ensures.items) (pushed-Grows c.self.inside.proof.trees c.self.inside.names.items (run c) c.self.inside.cells.items (new_cell c))
+returns-clause-grows c = rw (← c.self.view_is, c.in_ok-push.ensures.items)
+    (pushed-Grows c.self.inside.proof.trees c.self.inside.names.items (run c) c.self.inside.cells.items (new_cell c))
 
 pub invariant_of-self : goal.invariant_of-self
 invariant_of-self c = rw c.in_err-push.ensures.items c.self.invariant

@@ -27,11 +27,13 @@ loop-left-preserved c =
     let within : before < length c.args.pairs.now = omega (arith, c.loop-left-test.true, inv.within) in
     let there = slice_get-within c.args.pairs.now before c.index-pairs-left.result within in
     let kept = c.in_ok-id.ensures in
-    let rest = sym (list_view-Grows kept.grows c.loop-left.list inv.known) ∙ inv.made ∙ ap (λ k. constant_objects (map (λ p. p.0) (drop k c.args.pairs.now))) (sym up) in
+    let rest = sym (list_view-Grows kept.grows c.loop-left.list inv.known) ∙ inv.made
+    ∙ ap (λ k. constant_objects (map (λ p. p.0) (drop k c.args.pairs.now))) (sym up) in
     record {
       within = omega (arith, inv.within);
       known = c.in_ok-list.ensures.known;
-      made = c.in_ok-list.ensures.made ∙ ap (λ n. state.Objects.more (state.Object.constant n) (list_view c.keep_name.new.self c.loop-left.list)) kept.kept ∙ constants-more c.args.pairs.now before _ _ there rest;
+      made = c.in_ok-list.ensures.made ∙ ap (λ n. state.Objects.more (state.Object.constant n) (list_view c.keep_name.new.self c.loop-left.list)) kept.kept
+          ∙ constants-more c.args.pairs.now before _ _ there rest;
       grows = Grows-trans inv.grows (Grows-trans kept.grows c.in_ok-list.ensures.grows);
       run = c.in_ok-list.ensures.run ∙ kept.run ∙ inv.run;
     }

@@ -18,8 +18,12 @@ pub define_type_op-requires : goal.define_type_op-requires
 define_type_op-requires c = step-there c.self.invariant c.self.view_is c.requires.one
 
 pub invariant_of-self : goal.invariant_of-self
-invariant_of-self c = DefinesType-IsStore c.define_type_op.ensures (type_laws-no_step c.args.version c.self.inside.proof.made (named c.in_ok-op.op c.in_ok-abs.abs c.in_ok-rep.rep c.args.variables.now) c.args.one) c.self.invariant
+invariant_of-self c = DefinesType-IsStore c.define_type_op.ensures
+    (type_laws-no_step c.args.version c.self.inside.proof.made (named c.in_ok-op.op c.in_ok-abs.abs c.in_ok-rep.rep c.args.variables.now) c.args.one)
+    c.self.invariant
 
 pub returns : goal.returns
 returns c = rw (← c.in_ok-op.ensures, ← c.in_ok-abs.ensures, ← c.in_ok-rep.ensures, ← c.self.view_is)
-    (DefinesType-InfersTwo c.define_type_op.ensures (type_laws-no_step c.args.version c.self.inside.proof.made (named c.in_ok-op.op c.in_ok-abs.abs c.in_ok-rep.rep c.args.variables.now) c.args.one) c.self.invariant)
+    (DefinesType-InfersTwo c.define_type_op.ensures
+    (type_laws-no_step c.args.version c.self.inside.proof.made (named c.in_ok-op.op c.in_ok-abs.abs c.in_ok-rep.rep c.args.variables.now) c.args.one)
+    c.self.invariant)

@@ -25,4 +25,6 @@ pub returns-clause-fits : goal.returns-clause-fits
 returns-clause-fits c = rw (← c.self.view_is) (OnOk-IfOk c.free.result _ _ c.free.ensures.within (λ id h. term_within _ h))
 
 pub returns-clause-refused : goal.returns-clause-refused
-returns-clause-refused c = rw (← c.self.view_is) (IfErr-map c.free.result _ _ c.free.ensures.refusal (λ fault h. term_fails fault (free c.name_in-name.result.now (type_at c.self.inside.proof.trees c.args.ty.0)) h))
+returns-clause-refused c = rw (← c.self.view_is)
+    (IfErr-map c.free.result _ _ c.free.ensures.refusal
+    (λ fault h. term_fails fault (free c.name_in-name.result.now (type_at c.self.inside.proof.trees c.args.ty.0)) h))

@@ -13,7 +13,8 @@ pub invariant_of-self-2 : goal.invariant_of-self-2
 invariant_of-self-2 c = IsStore-run (IsMore-refl _) c.self.invariant (longer c) c.self.invariant.run_known c.self.invariant.assumed c.self.invariant.exported
 
 pub returns-clause-grows : goal.returns-clause-grows
-returns-clause-grows c = rw (← c.self.view_is) (Grows-run (IsMore-refl _) c.self.invariant c.self.inside.assumptions c.self.inside.exports c.self.inside.pool (longer c))
+returns-clause-grows c = rw (← c.self.view_is)
+    (Grows-run (IsMore-refl _) c.self.invariant c.self.inside.assumptions c.self.inside.exports c.self.inside.pool (longer c))
 
 pub returns-in_err-clone-clause-grows : goal.returns-in_err-clone-clause-grows
 returns-in_err-clone-clause-grows c = rw (← c.self.view_is) (Grows-refl _)

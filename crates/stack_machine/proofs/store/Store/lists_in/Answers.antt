@@ -7,11 +7,13 @@ pub returns-in_err-first : goal.returns-in_err-first
 returns-in_err-first c = unread _ _ c.from_residual.ensures.1 (pair-fails as_list as_list _ _ c.in_err-first.ensures.refused)
 
 pub returns-in_err-types : goal.returns-in_err-types
-returns-in_err-types c = unread _ _ c.from_residual-in_err-types.ensures.1 (first-fails as_list as_list _ _ _ c.in_ok-first.ensures.two _ (c.in_err-types.ensures c.args.self.now).refused)
+returns-in_err-types c = unread _ _ c.from_residual-in_err-types.ensures.1
+    (first-fails as_list as_list _ _ _ c.in_ok-first.ensures.two _ (c.in_err-types.ensures c.args.self.now).refused)
 
 pub returns-in_err-terms : goal.returns-in_err-terms
 returns-in_err-terms c = unread _ _ c.from_residual-in_err-terms.ensures.1
-    (second-fails as_list as_list _ _ _ c.in_ok-first.ensures.two _ (c.in_ok-types.ensures c.args.self.now).taken _ (c.in_err-terms.ensures c.args.self.now).refused)
+    (second-fails as_list as_list _ _ _ c.in_ok-first.ensures.two _ (c.in_ok-types.ensures c.args.self.now).taken _
+    (c.in_err-terms.ensures c.args.self.now).refused)
 
 pub returns : goal.returns
 returns c =

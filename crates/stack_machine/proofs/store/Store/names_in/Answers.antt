@@ -13,7 +13,8 @@ cell-cell-requires c = subst (IsListKnown c.args.self.now) c.in-Cell.is c.loop-r
 
 pub returns-in_err-name-clause-refused : goal.returns-in_err-name-clause-refused
 returns-in_err-name-clause-refused c = handed_on _ _ _ c.from_residual.ensures.1
-    (other_read as_name _ _ _ _ _ (object_view c.args.self.now c.cell-cell.result.head) (ap (list_view c.args.self.now) c.in-Cell.is ∙ c.cell-cell.ensures.is) (c.in_err-name.ensures c.args.self.now).refused c.loop-rest.invariant.read)
+    (other_read as_name _ _ _ _ _ (object_view c.args.self.now c.cell-cell.result.head) (ap (list_view c.args.self.now) c.in-Cell.is ∙ c.cell-cell.ensures.is)
+    (c.in_err-name.ensures c.args.self.now).refused c.loop-rest.invariant.read)
 
 pub name-requires : goal.name-requires
 name-requires c = (c.in_ok-name.ensures c.args.self.now).known c.cell-cell.ensures.head
@@ -25,7 +26,8 @@ pub loop-rest-preserved : goal.loop-rest-preserved
 loop-rest-preserved c = record {
   list = c.cell-cell.ensures.tail;
   read = rw (c.in_ok-push.ensures.items, c.in_ok-name-2.ensures)
-      (one_read as_name _ _ _ _ (object_view c.args.self.now c.cell-cell.result.head) _ (ap (list_view c.args.self.now) c.in-Cell.is ∙ c.cell-cell.ensures.is) (c.in_ok-name.ensures c.args.self.now).taken c.loop-rest.invariant.read);
+      (one_read as_name _ _ _ _ (object_view c.args.self.now c.cell-cell.result.head) _ (ap (list_view c.args.self.now) c.in-Cell.is ∙ c.cell-cell.ensures.is)
+      (c.in_ok-name.ensures c.args.self.now).taken c.loop-rest.invariant.read);
 }
 
 pub returns-clause-names : goal.returns-clause-names

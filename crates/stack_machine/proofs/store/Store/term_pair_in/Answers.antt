@@ -7,16 +7,24 @@ pub returns-in_err-first-clause-refused : goal.returns-in_err-first-clause-refus
 returns-in_err-first-clause-refused c = handed_on _ _ _ c.from_residual.ensures.1 (pair-fails as_variable as_term _ _ c.in_err-first.ensures.refused)
 
 pub returns-in_err-name-clause-refused : goal.returns-in_err-name-clause-refused
-returns-in_err-name-clause-refused c = handed_on _ _ _ c.from_residual-in_err-name.ensures.1 (first-fails as_variable as_term _ _ _ c.in_ok-first.ensures.two _ (c.in_err-name.ensures c.args.self.now).refused)
+returns-in_err-name-clause-refused c = handed_on _ _ _ c.from_residual-in_err-name.ensures.1
+    (first-fails as_variable as_term _ _ _ c.in_ok-first.ensures.two _ (c.in_err-name.ensures c.args.self.now).refused)
 
 pub returns-in_err-term-clause-refused : goal.returns-in_err-term-clause-refused
-returns-in_err-term-clause-refused c = handed_on _ _ _ c.from_residual-in_err-term.ensures.1 (second-fails as_variable as_term _ _ _ c.in_ok-first.ensures.two _ (c.in_ok-name.ensures c.args.self.now).taken _ (c.in_err-term.ensures c.args.self.now).refused)
+returns-in_err-term-clause-refused c = handed_on _ _ _ c.from_residual-in_err-term.ensures.1
+    (second-fails as_variable as_term _ _ _ c.in_ok-first.ensures.two _ (c.in_ok-name.ensures c.args.self.now).taken _
+    (c.in_err-term.ensures c.args.self.now).refused)
 
 pub variable-requires : goal.variable-requires
 variable-requires c = record { name = ((c.in_ok-name.ensures c.args.self.now).known c.in_ok-first.ensures.known.0).0 }
 
 pub returns-clause-pair : goal.returns-clause-pair
-returns-clause-pair c = rw (c.in_ok-variable.ensures.name, c.in_ok-variable.ensures.ty) (pair-taken as_variable as_term _ _ _ c.in_ok-first.ensures.two _ (c.in_ok-name.ensures c.args.self.now).taken _ (c.in_ok-term.ensures c.args.self.now).taken)
+returns-clause-pair c = rw (c.in_ok-variable.ensures.name, c.in_ok-variable.ensures.ty)
+    (pair-taken as_variable as_term _ _ _ c.in_ok-first.ensures.two _ (c.in_ok-name.ensures c.args.self.now).taken _
+    (c.in_ok-term.ensures c.args.self.now).taken)
 
 pub returns-clause-known : goal.returns-clause-known
-returns-clause-known c = (rw c.in_ok-variable.ensures.ty ((c.in_ok-name.ensures c.args.self.now).known c.in_ok-first.ensures.known.0).1, (c.in_ok-term.ensures c.args.self.now).known c.in_ok-first.ensures.known.1)
+returns-clause-known c = (
+  rw c.in_ok-variable.ensures.ty ((c.in_ok-name.ensures c.args.self.now).known c.in_ok-first.ensures.known.0).1,
+  (c.in_ok-term.ensures c.args.self.now).known c.in_ok-first.ensures.known.1,
+)

@@ -25,12 +25,14 @@ pub returns-in_err-second-clause-refused : goal.returns-in_err-second-clause-ref
 returns-in_err-second-clause-refused c =
     let m = c.args.self.now in
     let listed = two_objects-list _ _ (c.in_ok-list.ensures m).taken ∙ ap two_of (ap (list_view m) c.in-Cell.is ∙ c.cell-cell.ensures.is) in
-    handed_on _ _ _ c.from_residual-in_err-second.ensures.1 (rw listed (two_of-one (list_view m c.cell-cell.result.tail) (object_view m c.cell-cell.result.head) _ c.in_err-second.ensures.refused))
+    handed_on _ _ _ c.from_residual-in_err-second.ensures.1
+    (rw listed (two_of-one (list_view m c.cell-cell.result.tail) (object_view m c.cell-cell.result.head) _ c.in_err-second.ensures.refused))
 
 pub returns-clause-two : goal.returns-clause-two
 returns-clause-two c =
     let m = c.args.self.now in
-    two_objects-list _ _ (c.in_ok-list.ensures m).taken ∙ ap two_of (ap (list_view m) c.in-Cell.is ∙ c.cell-cell.ensures.is) ∙ ap (with_first (object_view m c.cell-cell.result.head)) c.in_ok-second.ensures.one
+    two_objects-list _ _ (c.in_ok-list.ensures m).taken ∙ ap two_of (ap (list_view m) c.in-Cell.is ∙ c.cell-cell.ensures.is)
+    ∙ ap (with_first (object_view m c.cell-cell.result.head)) c.in_ok-second.ensures.one
 
 pub returns-clause-known : goal.returns-clause-known
 returns-clause-known c = (c.cell-cell.ensures.head, c.in_ok-second.ensures.known)

@@ -13,7 +13,8 @@ constant-requires-clause-told c =
     let stands = c.requires.told.1 in
     let name = c.in-Some.name.now in
     let found = sym c.put_constant.ensures ∙ ap (option_map (λ n. n.now)) c.in-Some.is in
-    let told = TellsConstants-found trees stands.one_type c.args.variable.now c.requires.variable given c.args.pairs.now name c.requires.pairs c.requires.told.2 found in
+    let told = TellsConstants-found trees stands.one_type c.args.variable.now c.requires.variable given c.args.pairs.now name c.requires.pairs c.requires.told.2
+    found in
     rw c.types-types.ensures.types (rw c.terms.ensures (given.symbols, declared-constant given c.args.target.now trees c.args.self.env.now stands name _ told))
 
 pub returns-in_ok-push-in-Some-clause-ready : goal.returns-in_ok-push-in-Some-clause-ready
@@ -27,8 +28,11 @@ returns-in_ok-push-in-Some-clause-ready c = λ given made h constants told.
     let constant_told = TellsConstants-found trees h.stands.one_type v c.requires.variable given pairs name c.requires.pairs constants found in
     let of_terms = rw c.types-types.ensures.types at c.in_ok-tree-in-Some.ensures.made in
     let of_proof = rw c.terms.ensures at of_terms in
-    let is = of_proof given.symbols (declared-constant given c.args.target.now trees env h.stands name _ constant_told) ∙ ap Some (constant-stands given c.args.target.now trees env h.stands name _ ∙ sym (scope_with-found trees h.stands.one_type v c.requires.variable given pairs c.requires.pairs name found)) in
-    Ready-more (record { table = c.constant.ensures.keeps; decls = c.constant.ensures.decls }) given trees env c.args.args.now.items _ made c.in_ok-tree-in-Some.tree _ is c.in_ok-push-in-Some.ensures.items h
+    let is = of_proof given.symbols (declared-constant given c.args.target.now trees env h.stands name _ constant_told)
+    ∙ ap Some (constant-stands given c.args.target.now trees env h.stands name _
+    ∙ sym (scope_with-found trees h.stands.one_type v c.requires.variable given pairs c.requires.pairs name found)) in
+    Ready-more (record { table = c.constant.ensures.keeps; decls = c.constant.ensures.decls }) given trees env c.args.args.now.items _ made
+    c.in_ok-tree-in-Some.tree _ is c.in_ok-push-in-Some.ensures.items h
 
 pub returns-in-None-clause-ready : goal.returns-in-None-clause-ready
 returns-in-None-clause-ready c =

@@ -13,7 +13,9 @@ use Rattle.translate_proof.proofs.ground.Ground.add_constants.Given as goal
 abbrev pub invariant-loop-variable : goal.invariant-loop-variable
 invariant-loop-variable l = record {
   grows : Grows l.fn.target l.target;
-  adds : (given : Given) → TellsConstants given (pairs_view l.self.proof.now.trees l.pairs) → AllByRecursion (λ (v : Variable). TellsType given.declarations given.symbols v.1) (variables_of l.self.proof.now.trees l.variables)
-      → AddsUp (scope_with given l.self.proof.now.trees l.pairs).terms (Ready given l.fn.target l.self.proof.now.trees l.self.env.now l.fn.args.items) (Ready given l.target l.self.proof.now.trees l.self.env.now l.args.items)
+  adds : (given : Given) → TellsConstants given (pairs_view l.self.proof.now.trees l.pairs)
+      → AllByRecursion (λ (v : Variable). TellsType given.declarations given.symbols v.1) (variables_of l.self.proof.now.trees l.variables)
+      → AddsUp (scope_with given l.self.proof.now.trees l.pairs).terms (Ready given l.fn.target l.self.proof.now.trees l.self.env.now l.fn.args.items)
+      (Ready given l.target l.self.proof.now.trees l.self.env.now l.args.items)
       (variables_of l.self.proof.now.trees l.variables) (variables_of l.self.proof.now.trees (drop l.variable-index l.variables));
 }

@@ -15,15 +15,19 @@ use Rattle.translate_proof.proofs.ground.Ground.add_free_variables.Goals as goal
 pub add_free_variable-requires-clause-variable : goal.add_free_variable-requires-clause-variable
 add_free_variable-requires-clause-variable c =
     let split = drop-item c.args.variables.now c.loop-variable.variable-index c.variable-item.result c.variable-item.is c.loop-variable-test.true in
-    (subst (HaveTypes c.args.self.proof.now.trees) split (HaveTypes-drop c.args.self.proof.now.trees c.loop-variable.variable-index c.args.variables.now c.requires.variables)).0
+    (subst (HaveTypes c.args.self.proof.now.trees) split
+    (HaveTypes-drop c.args.self.proof.now.trees c.loop-variable.variable-index c.args.variables.now c.requires.variables)).0
 
 pub add_free_variable-requires-clause-told : goal.add_free_variable-requires-clause-told
 add_free_variable-requires-clause-told c =
     let split = drop-item c.args.variables.now c.loop-variable.variable-index c.variable-item.result c.variable-item.is c.loop-variable-test.true in
     let given = c.requires.told.0 in
     let trees = c.args.self.proof.now.trees in
-    let P = λ (v : Variable). TellsType given.declarations given.symbols v.1 in
-    (given, Represents-Grows c.loop-variable.invariant.grows given trees c.args.self.env.now c.requires.told.1, (subst (λ l. AllByRecursion P (variables_of trees l)) split (All-drop P trees c.loop-variable.variable-index c.args.variables.now c.requires.told.2)).0)
+    let P = λ (v : Variable). TellsType given.declarations given.symbols v.1 in (
+      given,
+      Represents-Grows c.loop-variable.invariant.grows given trees c.args.self.env.now c.requires.told.1,
+      (subst (λ l. AllByRecursion P (variables_of trees l)) split (All-drop P trees c.loop-variable.variable-index c.args.variables.now c.requires.told.2)).0,
+    )
 
 pub loop-variable-init : goal.loop-variable-init
 loop-variable-init c = record { grows = Grows-refl _; adds = λ given told. adds-begin given.scope.terms _ _ }
@@ -36,8 +40,10 @@ loop-variable-preserved c =
       grows = Grows-trans c.loop-variable.invariant.grows c.add_free_variable.ensures.grows;
       adds = λ given told.
           let P = λ (v : Variable). TellsType given.declarations given.symbols v.1 in
-          adds-next given.scope.terms _ (Ready given c.loop-variable.target trees c.args.self.env.now c.loop-variable.args.items) _ _ _ _ _ (ap (variables_of trees) split)
-          (λ made h. c.in_ok-add_free_variable.ensures.ready given made h ((subst (λ l. AllByRecursion P (variables_of trees l)) split (All-drop P trees c.loop-variable.variable-index c.args.variables.now told)).0))
+          adds-next given.scope.terms _ (Ready given c.loop-variable.target trees c.args.self.env.now c.loop-variable.args.items) _ _ _ _ _
+          (ap (variables_of trees) split)
+          (λ made h. c.in_ok-add_free_variable.ensures.ready given made h
+          ((subst (λ l. AllByRecursion P (variables_of trees l)) split (All-drop P trees c.loop-variable.variable-index c.args.variables.now told)).0))
           (c.loop-variable.invariant.adds given told);
     }
 
@@ -46,5 +52,7 @@ returns-in_err-add_free_variable-clause-grows c = Grows-trans c.loop-variable.in
 
 pub returns-clause-ready : goal.returns-clause-ready
 returns-clause-ready c = λ given made h told.
-    adds-end given.scope.terms _ (Ready given c.loop-variable.target c.args.self.proof.now.trees c.args.self.env.now c.loop-variable.args.items) _ _ (ap (variables_of c.args.self.proof.now.trees) (drop_all c.loop-variable.variable-index c.args.variables.now (omega (arith, c.loop-variable-test.false))))
+    adds-end given.scope.terms _ (Ready given c.loop-variable.target c.args.self.proof.now.trees c.args.self.env.now c.loop-variable.args.items) _ _
+    (ap (variables_of c.args.self.proof.now.trees)
+    (drop_all c.loop-variable.variable-index c.args.variables.now (omega (arith, c.loop-variable-test.false))))
     (c.loop-variable.invariant.adds given told) made h

@@ -24,6 +24,9 @@ returns-clause-grows c = Grows-trans c.term.ensures.grows (Grows-table _ _ c.abs
 
 pub returns-clause-ready : goal.returns-clause-ready
 returns-clause-ready c = λ given made h told.
-    Ready-more (Grows-trans c.term.ensures.grows (Grows-table _ _ c.abstraction.ensures.keeps)) given c.args.self.proof.now.trees c.args.self.env.now c.args.args.now.items _ made c.in_ok-tree.tree _
-    (c.in_ok-tree.ensures.made ∙ ap₂ (λ a b. Some (Lam (term_of a) b)) (sym (tree_at-Stays c.in_ok-body.ensures.grows.table.stays c.args.domain.0 c.requires.domain)) (Holds-tree_at _ c.in_ok-body.body.0 _ (c.in_ok-body.ensures.made given h.stands told)))
+    Ready-more (Grows-trans c.term.ensures.grows (Grows-table _ _ c.abstraction.ensures.keeps)) given c.args.self.proof.now.trees c.args.self.env.now
+    c.args.args.now.items _ made c.in_ok-tree.tree _
+    (c.in_ok-tree.ensures.made ∙ ap₂ (λ a b. Some (Lam (term_of a) b))
+    (sym (tree_at-Stays c.in_ok-body.ensures.grows.table.stays c.args.domain.0 c.requires.domain))
+    (Holds-tree_at _ c.in_ok-body.body.0 _ (c.in_ok-body.ensures.made given h.stands told)))
     c.in_ok-push.ensures.items h

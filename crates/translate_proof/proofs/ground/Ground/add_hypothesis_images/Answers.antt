@@ -17,7 +17,9 @@ use Rattle.translate_proof.proofs.ground.Ground.add_hypothesis_images.Goals as g
 pub own_hypothesis-requires-clause-hyp : goal.own_hypothesis-requires-clause-hyp
 own_hypothesis-requires-clause-hyp c =
     let split = drop_more c.args.hyps.now c.loop-hyp.hyp-index (record { 0 = 0 }) c.loop-hyp-test.true in
-    rw c.terms.ensures ((subst (AreKnown c.args.self.proof.now.trees) split (AreKnown-drop c.args.self.proof.now.trees c.loop-hyp.hyp-index c.args.hyps.now c.requires.hyps)).0)
+    rw c.terms.ensures
+    ((subst (AreKnown c.args.self.proof.now.trees) split
+    (AreKnown-drop c.args.self.proof.now.trees c.loop-hyp.hyp-index c.args.hyps.now c.requires.hyps)).0)
 
 pub own_hypothesis-requires-clause-there : goal.own_hypothesis-requires-clause-there
 own_hypothesis-requires-clause-there c =
@@ -27,7 +29,12 @@ own_hypothesis-requires-clause-there c =
     rw c.terms.ensures ((subst (λ l. AllByRecursion P (terms_at trees l)) split (terms-drop P trees c.loop-hyp.hyp-index c.args.hyps.now c.requires.there)).0)
 
 pub loop-hyp-init : goal.loop-hyp-init
-loop-hyp-init c = record { grows = Grows-refl _; adds = λ given. adds-begin (images given.symbols (type_pairs c.args.self.proof.now.trees c.args.put.now) (term_pairs c.args.self.proof.now.trees c.args.put.now) given.scope).proofs _ _ }
+loop-hyp-init c = record {
+  grows = Grows-refl _;
+  adds =
+      λ given. adds-begin (images given.symbols (type_pairs c.args.self.proof.now.trees c.args.put.now) (term_pairs c.args.self.proof.now.trees c.args.put.now)
+      given.scope).proofs _ _;
+}
 
 pub loop-hyp-preserved : goal.loop-hyp-preserved
 loop-hyp-preserved c =
@@ -38,8 +45,11 @@ loop-hyp-preserved c =
     record {
       grows = Grows-trans c.loop-hyp.invariant.grows c.add_hypothesis.ensures.grows;
       adds = λ given.
-          adds-next (images given.symbols (type_pairs trees c.args.put.now) (term_pairs trees c.args.put.now) given.scope).proofs _ (Ready given c.loop-hyp.target trees c.args.self.env.now c.loop-hyp.args.items) _ _ _ _ _ (ap (terms_at trees) split)
-          (λ made h. subst (λ t. Ready given c.add_hypothesis.new.target trees c.args.self.env.now c.add_hypothesis.new.args.items (made ++ given.scope.proofs t ∷ [])) is (c.in_ok-add_hypothesis.ensures.ready given trees made h known)) (c.loop-hyp.invariant.adds given);
+          adds-next (images given.symbols (type_pairs trees c.args.put.now) (term_pairs trees c.args.put.now) given.scope).proofs _
+          (Ready given c.loop-hyp.target trees c.args.self.env.now c.loop-hyp.args.items) _ _ _ _ _ (ap (terms_at trees) split)
+          (λ made h. subst
+          (λ t. Ready given c.add_hypothesis.new.target trees c.args.self.env.now c.add_hypothesis.new.args.items (made ++ given.scope.proofs t ∷ [])) is
+          (c.in_ok-add_hypothesis.ensures.ready given trees made h known)) (c.loop-hyp.invariant.adds given);
     }
 
 pub returns-in_err-add_hypothesis-clause-grows : goal.returns-in_err-add_hypothesis-clause-grows
@@ -48,5 +58,6 @@ returns-in_err-add_hypothesis-clause-grows c = Grows-trans c.loop-hyp.invariant.
 pub returns-clause-ready : goal.returns-clause-ready
 returns-clause-ready c = λ given made h.
     let trees = c.args.self.proof.now.trees in
-    adds-end (images given.symbols (type_pairs trees c.args.put.now) (term_pairs trees c.args.put.now) given.scope).proofs _ (Ready given c.loop-hyp.target trees c.args.self.env.now c.loop-hyp.args.items) _ _
+    adds-end (images given.symbols (type_pairs trees c.args.put.now) (term_pairs trees c.args.put.now) given.scope).proofs _
+    (Ready given c.loop-hyp.target trees c.args.self.env.now c.loop-hyp.args.items) _ _
     (ap (terms_at trees) (drop_all c.loop-hyp.hyp-index c.args.hyps.now (omega (arith, c.loop-hyp-test.false)))) (c.loop-hyp.invariant.adds given) made h

@@ -10,6 +10,7 @@ use Rattle.translate_proof.proofs.ground.Ground.add_hypothesis_images.Given as g
 abbrev pub invariant-loop-hyp : goal.invariant-loop-hyp
 invariant-loop-hyp l = record {
   grows : Grows l.fn.target l.target;
-  adds : (given : Given) → AddsUp (images given.symbols (type_pairs l.self.proof.now.trees l.put) (term_pairs l.self.proof.now.trees l.put) given.scope).proofs (Ready given l.fn.target l.self.proof.now.trees l.self.env.now l.fn.args.items) (Ready given l.target l.self.proof.now.trees l.self.env.now l.args.items)
+  adds : (given : Given) → AddsUp (images given.symbols (type_pairs l.self.proof.now.trees l.put) (term_pairs l.self.proof.now.trees l.put) given.scope).proofs
+      (Ready given l.fn.target l.self.proof.now.trees l.self.env.now l.fn.args.items) (Ready given l.target l.self.proof.now.trees l.self.env.now l.args.items)
       (terms_at l.self.proof.now.trees l.hyps) (terms_at l.self.proof.now.trees (drop l.hyp-index l.hyps));
 }

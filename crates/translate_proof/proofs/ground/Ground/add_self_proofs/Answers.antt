@@ -22,15 +22,19 @@ pub add_self_proof-requires-clause-equation : goal.add_self_proof-requires-claus
 add_self_proof-requires-clause-equation c =
     let trees = c.args.self.proof.now.trees in
     let split = drop_more c.args.hyps.now c.loop-hyp.hyp-index (record { 0 = 0 }) c.loop-hyp-test.true in
-    (subst (λ l. AllByRecursion IsEquationFormula (terms_at trees l)) split (terms-drop IsEquationFormula trees c.loop-hyp.hyp-index c.args.hyps.now c.requires.equations)).0
+    (subst (λ l. AllByRecursion IsEquationFormula (terms_at trees l)) split
+    (terms-drop IsEquationFormula trees c.loop-hyp.hyp-index c.args.hyps.now c.requires.equations)).0
 
 pub add_self_proof-requires-clause-told : goal.add_self_proof-requires-clause-told
 add_self_proof-requires-clause-told c =
     let trees = c.args.self.proof.now.trees in
     let given = c.requires.told.0 in
     let P = TellsTerm given.declarations given.symbols in
-    let split = drop_more c.args.hyps.now c.loop-hyp.hyp-index (record { 0 = 0 }) c.loop-hyp-test.true in
-    (given, Represents-Grows c.loop-hyp.invariant.grows given trees c.args.self.env.now c.requires.told.1, (subst (λ l. AllByRecursion P (terms_at trees l)) split (terms-drop P trees c.loop-hyp.hyp-index c.args.hyps.now c.requires.told.2)).0)
+    let split = drop_more c.args.hyps.now c.loop-hyp.hyp-index (record { 0 = 0 }) c.loop-hyp-test.true in (
+      given,
+      Represents-Grows c.loop-hyp.invariant.grows given trees c.args.self.env.now c.requires.told.1,
+      (subst (λ l. AllByRecursion P (terms_at trees l)) split (terms-drop P trees c.loop-hyp.hyp-index c.args.hyps.now c.requires.told.2)).0,
+    )
 
 pub loop-hyp-init : goal.loop-hyp-init
 loop-hyp-init c = record { grows = Grows-refl _; adds = λ given told. adds-begin (self_proof given.symbols given.scope) _ _ }
@@ -43,8 +47,10 @@ loop-hyp-preserved c =
       grows = Grows-trans c.loop-hyp.invariant.grows c.add_self_proof.ensures.grows;
       adds = λ given told.
           let P = TellsTerm given.declarations given.symbols in
-          adds-next (self_proof given.symbols given.scope) _ (Ready given c.loop-hyp.target trees c.args.self.env.now c.loop-hyp.args.items) _ _ _ _ _ (ap (terms_at trees) split)
-          (λ made h. c.in_ok-add_self_proof.ensures.ready given made h ((subst (λ l. AllByRecursion P (terms_at trees l)) split (terms-drop P trees c.loop-hyp.hyp-index c.args.hyps.now told)).0))
+          adds-next (self_proof given.symbols given.scope) _ (Ready given c.loop-hyp.target trees c.args.self.env.now c.loop-hyp.args.items) _ _ _ _ _
+          (ap (terms_at trees) split)
+          (λ made h. c.in_ok-add_self_proof.ensures.ready given made h
+          ((subst (λ l. AllByRecursion P (terms_at trees l)) split (terms-drop P trees c.loop-hyp.hyp-index c.args.hyps.now told)).0))
           (c.loop-hyp.invariant.adds given told);
     }
 

@@ -12,6 +12,7 @@ abbrev pub invariant-loop-hyp : goal.invariant-loop-hyp
 invariant-loop-hyp l = record {
   grows : Grows l.fn.target l.target;
   adds : (given : Given) → AllByRecursion (TellsTerm given.declarations given.symbols) (terms_at l.self.proof.now.trees l.hyps)
-      → AddsUp (self_proof given.symbols given.scope) (Ready given l.fn.target l.self.proof.now.trees l.self.env.now l.fn.args.items) (Ready given l.target l.self.proof.now.trees l.self.env.now l.args.items)
+      → AddsUp (self_proof given.symbols given.scope) (Ready given l.fn.target l.self.proof.now.trees l.self.env.now l.fn.args.items)
+      (Ready given l.target l.self.proof.now.trees l.self.env.now l.args.items)
       (terms_at l.self.proof.now.trees l.hyps) (terms_at l.self.proof.now.trees (drop l.hyp-index l.hyps));
 }

@@ -16,7 +16,8 @@ use Rattle.translate_proof.proofs.ground.Ground.add_term_images.Goals as goal
 pub add_term_image-requires-clause-variable : goal.add_term_image-requires-clause-variable
 add_term_image-requires-clause-variable c =
     let split = drop-item c.args.variables.now c.loop-variable.variable-index c.variable-item.result c.variable-item.is c.loop-variable-test.true in
-    (subst (HaveTypes c.args.self.proof.now.trees) split (HaveTypes-drop c.args.self.proof.now.trees c.loop-variable.variable-index c.args.variables.now c.requires.variables)).0
+    (subst (HaveTypes c.args.self.proof.now.trees) split
+    (HaveTypes-drop c.args.self.proof.now.trees c.loop-variable.variable-index c.args.variables.now c.requires.variables)).0
 
 pub add_term_image-requires-clause-there : goal.add_term_image-requires-clause-there
 add_term_image-requires-clause-there c =
@@ -30,11 +31,18 @@ add_term_image-requires-clause-told c =
     let split = drop-item c.args.variables.now c.loop-variable.variable-index c.variable-item.result c.variable-item.is c.loop-variable-test.true in
     let given = c.requires.told.0 in
     let trees = c.args.self.proof.now.trees in
-    let P = λ (v : Variable). IsTold given (variable_image trees c.args.put.now v) in
-    (given, Represents-Grows c.loop-variable.invariant.grows given trees c.args.self.env.now c.requires.told.1, (subst (λ l. AllByRecursion P (variables_of trees l)) split (All-drop P trees c.loop-variable.variable-index c.args.variables.now c.requires.told.2)).0)
+    let P = λ (v : Variable). IsTold given (variable_image trees c.args.put.now v) in (
+      given,
+      Represents-Grows c.loop-variable.invariant.grows given trees c.args.self.env.now c.requires.told.1,
+      (subst (λ l. AllByRecursion P (variables_of trees l)) split (All-drop P trees c.loop-variable.variable-index c.args.variables.now c.requires.told.2)).0,
+    )
 
 pub loop-variable-init : goal.loop-variable-init
-loop-variable-init c = record { grows = Grows-refl _; adds = λ given told. adds-begin (images given.symbols (type_pairs c.args.self.proof.now.trees c.args.put.now) (term_pairs c.args.self.proof.now.trees c.args.put.now) given.scope).terms _ _ }
+loop-variable-init c = record {
+  grows = Grows-refl _;
+  adds = λ given told. adds-begin
+      (images given.symbols (type_pairs c.args.self.proof.now.trees c.args.put.now) (term_pairs c.args.self.proof.now.trees c.args.put.now) given.scope).terms _ _;
+}
 
 pub loop-variable-preserved : goal.loop-variable-preserved
 loop-variable-preserved c =
@@ -44,8 +52,10 @@ loop-variable-preserved c =
       grows = Grows-trans c.loop-variable.invariant.grows c.add_term_image.ensures.grows;
       adds = λ given told.
           let P = λ (v : Variable). IsTold given (variable_image trees c.args.put.now v) in
-          adds-next (images given.symbols (type_pairs trees c.args.put.now) (term_pairs trees c.args.put.now) given.scope).terms _ (Ready given c.loop-variable.target trees c.args.self.env.now c.loop-variable.args.items) _ _ _ _ _ (ap (variables_of trees) split)
-          (λ made h. c.in_ok-add_term_image.ensures.ready given made h ((subst (λ l. AllByRecursion P (variables_of trees l)) split (All-drop P trees c.loop-variable.variable-index c.args.variables.now told)).0))
+          adds-next (images given.symbols (type_pairs trees c.args.put.now) (term_pairs trees c.args.put.now) given.scope).terms _
+          (Ready given c.loop-variable.target trees c.args.self.env.now c.loop-variable.args.items) _ _ _ _ _ (ap (variables_of trees) split)
+          (λ made h. c.in_ok-add_term_image.ensures.ready given made h
+          ((subst (λ l. AllByRecursion P (variables_of trees l)) split (All-drop P trees c.loop-variable.variable-index c.args.variables.now told)).0))
           (c.loop-variable.invariant.adds given told);
     }
 
@@ -55,5 +65,7 @@ returns-in_err-add_term_image-clause-grows c = Grows-trans c.loop-variable.invar
 pub returns-clause-ready : goal.returns-clause-ready
 returns-clause-ready c = λ given made h told.
     let trees = c.args.self.proof.now.trees in
-    adds-end (images given.symbols (type_pairs trees c.args.put.now) (term_pairs trees c.args.put.now) given.scope).terms _ (Ready given c.loop-variable.target trees c.args.self.env.now c.loop-variable.args.items) _ _
-    (ap (variables_of trees) (drop_all c.loop-variable.variable-index c.args.variables.now (omega (arith, c.loop-variable-test.false)))) (c.loop-variable.invariant.adds given told) made h
+    adds-end (images given.symbols (type_pairs trees c.args.put.now) (term_pairs trees c.args.put.now) given.scope).terms _
+    (Ready given c.loop-variable.target trees c.args.self.env.now c.loop-variable.args.items) _ _
+    (ap (variables_of trees) (drop_all c.loop-variable.variable-index c.args.variables.now (omega (arith, c.loop-variable-test.false))))
+    (c.loop-variable.invariant.adds given told) made h

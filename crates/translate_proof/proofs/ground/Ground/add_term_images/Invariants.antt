@@ -12,7 +12,10 @@ use Rattle.translate_proof.proofs.ground.Ground.add_term_images.Given as goal
 abbrev pub invariant-loop-variable : goal.invariant-loop-variable
 invariant-loop-variable l = record {
   grows : Grows l.fn.target l.target;
-  adds : (given : Given) → AllByRecursion (λ (v : Variable). IsTold given (variable_image l.self.proof.now.trees l.put v)) (variables_of l.self.proof.now.trees l.variables)
-      → AddsUp (images given.symbols (type_pairs l.self.proof.now.trees l.put) (term_pairs l.self.proof.now.trees l.put) given.scope).terms (Ready given l.fn.target l.self.proof.now.trees l.self.env.now l.fn.args.items) (Ready given l.target l.self.proof.now.trees l.self.env.now l.args.items)
+  adds : (given : Given) → AllByRecursion (λ (v : Variable). IsTold given (variable_image l.self.proof.now.trees l.put v))
+      (variables_of l.self.proof.now.trees l.variables)
+      → AddsUp (images given.symbols (type_pairs l.self.proof.now.trees l.put) (term_pairs l.self.proof.now.trees l.put) given.scope).terms
+      (Ready given l.fn.target l.self.proof.now.trees l.self.env.now l.fn.args.items)
+      (Ready given l.target l.self.proof.now.trees l.self.env.now l.args.items)
       (variables_of l.self.proof.now.trees l.variables) (variables_of l.self.proof.now.trees (drop l.variable-index l.variables));
 }

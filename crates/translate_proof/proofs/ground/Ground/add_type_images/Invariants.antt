@@ -14,5 +14,7 @@ abbrev pub invariant-loop-name : goal.invariant-loop-name
 invariant-loop-name l = record {
   grows : Grows l.fn.target l.target;
   adds : (given : Given) → AllByRecursion (λ (n : Name). TellsType given.declarations given.symbols (image (type_pairs l.self.proof.now.trees l.put) n)) l.names
-      → AddsUp (images given.symbols (type_pairs l.self.proof.now.trees l.put) (term_pairs l.self.proof.now.trees l.put) given.scope).types (Ready given l.fn.target l.self.proof.now.trees l.self.env.now l.fn.args.items) (Ready given l.target l.self.proof.now.trees l.self.env.now l.args.items) l.names (drop l.name-index l.names);
+      → AddsUp (images given.symbols (type_pairs l.self.proof.now.trees l.put) (term_pairs l.self.proof.now.trees l.put) given.scope).types
+      (Ready given l.fn.target l.self.proof.now.trees l.self.env.now l.fn.args.items)
+      (Ready given l.target l.self.proof.now.trees l.self.env.now l.args.items) l.names (drop l.name-index l.names);
 }

@@ -24,7 +24,9 @@ add_term-requires-clause-told c =
     let trees = c.args.self.proof.now.trees in
     let is = rw c.terms.ensures at c.equated-own.ensures in
     let given = c.requires.told.0 in
-    let first = c.in_ok-add_type.ensures.ready given _ (Ready-start given c.args.target.now trees c.args.self.env.now _ c.new-args.ensures.items c.requires.told.1) (formula_type-told trees _ c.equated-own.result is given c.requires.told.2) in
+    let first = c.in_ok-add_type.ensures.ready given _
+    (Ready-start given c.args.target.now trees c.args.self.env.now _ c.new-args.ensures.items c.requires.told.1)
+    (formula_type-told trees _ c.equated-own.result is given c.requires.told.2) in
     (given, first.stands, formula_right-told trees _ c.equated-own.result is given c.requires.told.2)
 
 pub returns-in_err-add_term-clause-grows : goal.returns-in_err-add_term-clause-grows
@@ -35,8 +37,11 @@ call-requires c =
     let trees = c.args.self.proof.now.trees in
     let is = rw c.terms.ensures at c.equated-own.ensures in
     let given = c.requires.told.0 in
-    let first = c.in_ok-add_type.ensures.ready given _ (Ready-start given c.args.target.now trees c.args.self.env.now _ c.new-args.ensures.items c.requires.told.1) (formula_type-told trees _ c.equated-own.result is given c.requires.told.2) in
-    subst (AreKnown _) (sym c.deref.ensures.value) (c.in_ok-add_term.ensures.ready given _ first (formula_right-told trees _ c.equated-own.result is given c.requires.told.2)).known
+    let first = c.in_ok-add_type.ensures.ready given _
+    (Ready-start given c.args.target.now trees c.args.self.env.now _ c.new-args.ensures.items c.requires.told.1)
+    (formula_type-told trees _ c.equated-own.result is given c.requires.told.2) in
+    subst (AreKnown _) (sym c.deref.ensures.value)
+    (c.in_ok-add_term.ensures.ready given _ first (formula_right-told trees _ c.equated-own.result is given c.requires.told.2)).known
 
 pub returns-clause-made : goal.returns-clause-made
 returns-clause-made c =
@@ -44,8 +49,11 @@ returns-clause-made c =
     let is = rw c.terms.ensures at c.equated-own.ensures in
     IfOk-weaker c.call.result _ _
     (λ r h given stands told.
-    let first = c.in_ok-add_type.ensures.ready given _ (Ready-start given c.args.target.now trees c.args.self.env.now _ c.new-args.ensures.items stands) (formula_type-told trees _ c.equated-own.result is given told) in
-    h ∙ ap (λ l. Some (applied (Sym refl_symbol) l)) (ap (trees_at _) c.deref.ensures.value ∙ (c.in_ok-add_term.ensures.ready given _ first (formula_right-told trees _ c.equated-own.result is given told)).are)
+    let first = c.in_ok-add_type.ensures.ready given _ (Ready-start given c.args.target.now trees c.args.self.env.now _ c.new-args.ensures.items stands)
+    (formula_type-told trees _ c.equated-own.result is given told) in
+    h ∙ ap (λ l. Some (applied (Sym refl_symbol) l))
+    (ap (trees_at _) c.deref.ensures.value
+    ∙ (c.in_ok-add_term.ensures.ready given _ first (formula_right-told trees _ c.equated-own.result is given told)).are)
     ∙ ap Some (sym (self_proof-is trees _ c.equated-own.result is given)))
     c.call.ensures.made
 

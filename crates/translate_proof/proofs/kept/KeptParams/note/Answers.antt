@@ -12,6 +12,7 @@ returns-in_err-params c = record { kept = c.reach.ensures.kept c.args.proof.now 
 pub returns : goal.returns
 returns c = record {
   kept = record {
-    each = All-set (IsKept c.args.proof.now) _ _ (Some (record { id = c.args.id; params = c.in_ok-params.params })) c.in_ok-params.ensures (c.reach.ensures.kept c.args.proof.now c.requires.kept).each;
+    each = All-set (IsKept c.args.proof.now) _ _ (Some (record { id = c.args.id; params = c.in_ok-params.params })) c.in_ok-params.ensures
+        (c.reach.ensures.kept c.args.proof.now c.requires.kept).each;
   };
 }

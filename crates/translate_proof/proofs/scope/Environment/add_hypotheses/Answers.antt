@@ -21,9 +21,11 @@ loop-id-preserved c =
       adds = λ given trees x known put.
           let own = (subst (AreKnown trees) split (AreKnown-drop trees c.loop-id.id-index c.args.hyps.now known)).0 in
           let put_here = IsPut-Grows c.loop-id.invariant.grows trees c.args.proved x put in
-          adds-next (proof_with trees c.args.proved x given.scope.proofs) _ (Ready given c.loop-id.target trees c.args.self.now c.loop-id.args.items) _ _ _ _ _ (ap (terms_at trees) split)
+          adds-next (proof_with trees c.args.proved x given.scope.proofs) _ (Ready given c.loop-id.target trees c.args.self.now c.loop-id.args.items) _ _ _ _ _
+          (ap (terms_at trees) split)
           (λ made h.
-          Ready-more c.proof_with.ensures.grows given trees c.args.self.now c.loop-id.args.items _ made c.in_ok-tree.tree _ (c.in_ok-tree.ensures.made given trees x h.stands own put_here) c.in_ok-push.ensures.items h)
+          Ready-more c.proof_with.ensures.grows given trees c.args.self.now c.loop-id.args.items _ made c.in_ok-tree.tree _
+          (c.in_ok-tree.ensures.made given trees x h.stands own put_here) c.in_ok-push.ensures.items h)
           (c.loop-id.invariant.adds given trees x known put);
     }
 
@@ -36,4 +38,5 @@ returns-in_err-push-clause-grows c = Grows-trans c.loop-id.invariant.grows c.pro
 pub returns-clause-ready : goal.returns-clause-ready
 returns-clause-ready c = λ given trees x made h known put.
     adds-end (proof_with trees c.args.proved x given.scope.proofs) _ (Ready given c.loop-id.target trees c.args.self.now c.loop-id.args.items) _ _
-    (ap (terms_at trees) (drop_all c.loop-id.id-index c.args.hyps.now (omega (arith, c.loop-id-test.false)))) (c.loop-id.invariant.adds given trees x known put) made h
+    (ap (terms_at trees) (drop_all c.loop-id.id-index c.args.hyps.now (omega (arith, c.loop-id-test.false)))) (c.loop-id.invariant.adds given trees x known put)
+    made h

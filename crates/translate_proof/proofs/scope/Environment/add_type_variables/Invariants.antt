@@ -8,5 +8,6 @@ use Rattle.translate_proof.proofs.scope.Environment.add_type_variables.Given as 
 abbrev pub invariant-loop-name : goal.invariant-loop-name
 invariant-loop-name l = record {
   grows : Grows l.fn.target l.target;
-  adds : (given : Given) (trees : Trees) → AddsUp given.scope.types (Ready given l.fn.target trees l.self l.fn.args.items) (Ready given l.target trees l.self l.args.items) l.names (drop l.name-index l.names);
+  adds : (given : Given) (trees : Trees) → AddsUp given.scope.types (Ready given l.fn.target trees l.self l.fn.args.items)
+      (Ready given l.target trees l.self l.args.items) l.names (drop l.name-index l.names);
 }

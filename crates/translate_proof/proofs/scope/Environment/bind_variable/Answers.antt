@@ -11,7 +11,8 @@ returns-in_err-set_term-clause-grows c = Grows-table _ _ c.node.ensures.keeps
 
 pub returns-clause-bound : goal.returns-clause-bound
 returns-clause-bound c = λ given trees stands known.
-    Represents-set_term given _ trees c.args.self.now c.set_term.new.self c.args.variable.now c.in_ok-tree.tree _ known c.in_ok-tree.ensures.made c.in_ok-set_term.ensures.terms c.in_ok-set_term.ensures.alone
+    Represents-set_term given _ trees c.args.self.now c.set_term.new.self c.args.variable.now c.in_ok-tree.tree _ known c.in_ok-tree.ensures.made
+    c.in_ok-set_term.ensures.terms c.in_ok-set_term.ensures.alone
     (Represents-Grows (Grows-table _ _ c.in_ok-tree.ensures.keeps) given trees c.args.self.now stands)
 
 pub returns-clause-grows : goal.returns-clause-grows

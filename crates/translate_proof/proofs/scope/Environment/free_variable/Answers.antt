@@ -11,16 +11,19 @@ pub filler-requires-clause-held : goal.filler-requires-clause-held
 filler-requires-clause-held c = IsHeld-Grows _ _ c.in_ok-filled-in-None.ensures.grows c.requires.told.1.held
 
 pub filler-requires-clause-ty : goal.filler-requires-clause-ty
-filler-requires-clause-ty c = Holds-within _ c.in_ok-filled-in-None.filled.0 _ (c.in_ok-filled-in-None.ensures.made c.requires.told.0 c.requires.told.1 c.requires.told.2)
+filler-requires-clause-ty c = Holds-within _ c.in_ok-filled-in-None.filled.0 _
+    (c.in_ok-filled-in-None.ensures.made c.requires.told.0 c.requires.told.1 c.requires.told.2)
 
 pub returns-in-Some-clause-made : goal.returns-in-Some-clause-made
 returns-in-Some-clause-made c = λ given s told.
-    variable-found c.args.proof.now.trees.types s.one_type _ c.args.variable.now c.requires.variable _ c.in-Some.tree (filled_terms given.symbols given.scope.types) given.scope.terms s.terms_told (sym c.find_term.ensures ∙ c.in-Some.is)
+    variable-found c.args.proof.now.trees.types s.one_type _ c.args.variable.now c.requires.variable _ c.in-Some.tree
+    (filled_terms given.symbols given.scope.types) given.scope.terms s.terms_told (sym c.find_term.ensures ∙ c.in-Some.is)
 
 pub returns-in_ok-filled-in-None-clause-made : goal.returns-in_ok-filled-in-None-clause-made
 returns-in_ok-filled-in-None-clause-made c =
     IfOk-weaker c.filler.result _ _
     (λ r h given s told.
     h ∙ ap (λ a. Some (filler a)) (Holds-tree_at _ c.in_ok-filled-in-None.filled.0 _ (c.in_ok-filled-in-None.ensures.made given s told))
-    ∙ ap Some (variable-absent c.args.proof.now.trees.types s.one_type _ c.args.variable.now c.requires.variable _ (filled_terms given.symbols given.scope.types) given.scope.terms s.terms_told (sym c.find_term.ensures ∙ c.in-None.is)))
+    ∙ ap Some (variable-absent c.args.proof.now.trees.types s.one_type _ c.args.variable.now c.requires.variable _
+    (filled_terms given.symbols given.scope.types) given.scope.terms s.terms_told (sym c.find_term.ensures ∙ c.in-None.is)))
     c.filler.ensures.made

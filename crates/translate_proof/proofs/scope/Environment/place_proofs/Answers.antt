@@ -17,16 +17,23 @@ loop-id-preserved c =
       grows = Grows-trans c.loop-id.invariant.grows (Grows-table _ _ keeps);
       alone = ProofsAlone-trans c.loop-id.invariant.alone c.in_ok-set_proof.ensures.alone;
       places = λ trees other one have. rw c.in_ok-set_proof.ensures.proofs (
-          places-next term_eq (λ ts es scope. TellProofs trees ts es other scope) _ c.loop-id.target.table _ _ c.loop-id.self.proofs _ _ _ _ _ _ c.loop-id.place _ (ap (terms_at trees) split)
+          places-next term_eq (λ ts es scope. TellProofs trees ts es other scope) _ c.loop-id.target.table _ _ c.loop-id.self.proofs _ _ _ _ _ _ c.loop-id.place
+          _ (ap (terms_at trees) split)
           c.saturating_sub-place.ensures
           (λ scope h.
           let own = (subst (AreKnown trees) split (AreKnown-drop trees c.loop-id.id-index c.args.hyps.now have)).0 in
-          TellProofs-set trees one _ _ c.in_ok-tree.tree _ c.loop-id.self.proofs other scope own c.in_ok-tree.ensures.made (TellProofs-Keeps keeps trees c.loop-id.self.proofs other scope h))
+          TellProofs-set trees one _ _ c.in_ok-tree.tree _ c.loop-id.self.proofs other scope own c.in_ok-tree.ensures.made
+          (TellProofs-Keeps keeps trees c.loop-id.self.proofs other scope h))
           (c.loop-id.invariant.places trees other one have));
     }
 
 pub loop-id-init : goal.loop-id-init
-loop-id-init c = record { grows = Grows-refl _; alone = ProofsAlone-refl _; places = λ trees other one have. places-begin term_eq (λ ts es scope. TellProofs trees ts es other scope) _ _ _ _ }
+loop-id-init c = record {
+  grows = Grows-refl _;
+  alone = ProofsAlone-refl _;
+  places =
+      λ trees other one have. places-begin term_eq (λ ts es scope. TellProofs trees ts es other scope) _ _ _ _;
+}
 
 pub returns-in_err-tree-clause-grows : goal.returns-in_err-tree-clause-grows
 returns-in_err-tree-clause-grows c = Grows-trans c.loop-id.invariant.grows (Grows-table _ _ c.node.ensures.keeps)
@@ -36,4 +43,6 @@ returns-in_err-set_proof-clause-grows c = Grows-trans c.loop-id.invariant.grows 
 
 pub returns-clause-proofs : goal.returns-clause-proofs
 returns-clause-proofs c = λ trees other scope one have h.
-    places-end term_eq (λ ts es f. TellProofs trees ts es other f) _ _ _ _ _ _ _ _ (ap (terms_at trees) (drop_all c.loop-id.id-index c.args.hyps.now (omega (arith, c.loop-id-test.false)))) (c.loop-id.invariant.places trees other one have) scope h
+    places-end term_eq (λ ts es f. TellProofs trees ts es other f) _ _ _ _ _ _ _ _
+    (ap (terms_at trees) (drop_all c.loop-id.id-index c.args.hyps.now (omega (arith, c.loop-id-test.false))))
+    (c.loop-id.invariant.places trees other one have) scope h

@@ -13,5 +13,6 @@ invariant-loop-id l = record {
   grows : Grows l.fn.target l.target;
   alone : ProofsAlone l.fn.self l.self;
   places : (trees : Trees) (other : Term → Tree) → IsDistinct trees.terms → AreKnown trees l.hyps
-      → Places term_eq (λ ts es scope. TellProofs trees ts es other scope) l.fn.target.table l.target.table l.fn.self.proofs l.self.proofs (terms_at trees l.hyps) (terms_at trees (drop l.id-index l.hyps)) l.depth l.place;
+      → Places term_eq (λ ts es scope. TellProofs trees ts es other scope) l.fn.target.table l.target.table l.fn.self.proofs l.self.proofs
+      (terms_at trees l.hyps) (terms_at trees (drop l.id-index l.hyps)) l.depth l.place;
 }

@@ -18,16 +18,23 @@ loop-variable-preserved c =
       grows = Grows-trans c.loop-variable.invariant.grows (Grows-table _ _ keeps);
       alone = TermsAlone-trans c.loop-variable.invariant.alone c.in_ok-set_term.ensures.alone;
       places = λ trees other one have. rw c.in_ok-set_term.ensures.terms (
-          places-next variable_eq (λ ts es scope. TellTerms trees.types ts es other scope) _ c.loop-variable.target.table _ _ c.loop-variable.self.terms _ _ _ _ _ _ c.loop-variable.place _ (ap (variables_of trees) split)
+          places-next variable_eq (λ ts es scope. TellTerms trees.types ts es other scope) _ c.loop-variable.target.table _ _ c.loop-variable.self.terms _ _ _ _
+          _ _ c.loop-variable.place _ (ap (variables_of trees) split)
           c.saturating_sub-place.ensures
           (λ scope h.
           let own = (subst (HaveTypes trees) split (HaveTypes-drop trees c.loop-variable.variable-index c.args.variables.now have)).0 in
-          TellTerms-set trees.types one _ c.variable-item.result c.in_ok-tree.tree _ c.loop-variable.self.terms other scope own c.in_ok-tree.ensures.made (TellTerms-Keeps keeps trees.types c.loop-variable.self.terms other scope h))
+          TellTerms-set trees.types one _ c.variable-item.result c.in_ok-tree.tree _ c.loop-variable.self.terms other scope own c.in_ok-tree.ensures.made
+          (TellTerms-Keeps keeps trees.types c.loop-variable.self.terms other scope h))
           (c.loop-variable.invariant.places trees other one have));
     }
 
 pub loop-variable-init : goal.loop-variable-init
-loop-variable-init c = record { grows = Grows-refl _; alone = TermsAlone-refl _; places = λ trees other one have. places-begin variable_eq (λ ts es scope. TellTerms trees.types ts es other scope) _ _ _ _ }
+loop-variable-init c = record {
+  grows = Grows-refl _;
+  alone = TermsAlone-refl _;
+  places =
+      λ trees other one have. places-begin variable_eq (λ ts es scope. TellTerms trees.types ts es other scope) _ _ _ _;
+}
 
 pub returns-in_err-tree-clause-grows : goal.returns-in_err-tree-clause-grows
 returns-in_err-tree-clause-grows c = Grows-trans c.loop-variable.invariant.grows (Grows-table _ _ c.node.ensures.keeps)
@@ -37,4 +44,6 @@ returns-in_err-set_term-clause-grows c = Grows-trans c.loop-variable.invariant.g
 
 pub returns-clause-terms : goal.returns-clause-terms
 returns-clause-terms c = λ trees other scope one have h.
-    places-end variable_eq (λ ts es f. TellTerms trees.types ts es other f) _ _ _ _ _ _ _ _ (ap (variables_of trees) (drop_all c.loop-variable.variable-index c.args.variables.now (omega (arith, c.loop-variable-test.false)))) (c.loop-variable.invariant.places trees other one have) scope h
+    places-end variable_eq (λ ts es f. TellTerms trees.types ts es other f) _ _ _ _ _ _ _ _
+    (ap (variables_of trees) (drop_all c.loop-variable.variable-index c.args.variables.now (omega (arith, c.loop-variable-test.false))))
+    (c.loop-variable.invariant.places trees other one have) scope h

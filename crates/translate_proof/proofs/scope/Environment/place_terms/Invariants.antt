@@ -15,6 +15,7 @@ invariant-loop-variable l = record {
   grows : Grows l.fn.target l.target;
   alone : TermsAlone l.fn.self l.self;
   places : (trees : Trees) (other : Variable → Tree) → type.IsDistinct trees.types → HaveTypes trees l.variables
-      → Places variable_eq (λ ts es scope. TellTerms trees.types ts es other scope) l.fn.target.table l.target.table l.fn.self.terms l.self.terms (variables_of trees l.variables)
+      → Places variable_eq (λ ts es scope. TellTerms trees.types ts es other scope) l.fn.target.table l.target.table l.fn.self.terms l.self.terms
+      (variables_of trees l.variables)
       (variables_of trees (drop l.variable-index l.variables)) l.depth l.place;
 }

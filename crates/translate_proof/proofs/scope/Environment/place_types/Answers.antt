@@ -16,8 +16,11 @@ loop-name-preserved c =
       grows = Grows-trans c.loop-name.invariant.grows (Grows-table _ _ keeps);
       alone = TypesAlone-trans c.loop-name.invariant.alone c.in_ok-set_type.ensures.alone;
       places = rw c.in_ok-set_type.ensures.types (
-          places-next name_eq TellTypes _ c.loop-name.target.table _ _ c.loop-name.self.types _ _ _ _ _ _ c.loop-name.place _ (drop-item c.args.names.now c.loop-name.name-index c.name-item.result c.name-item.is c.loop-name-test.true)
-          c.saturating_sub-place.ensures (λ scope h. TellTypes-set _ _ c.in_ok-tree.tree _ c.loop-name.self.types scope c.in_ok-tree.ensures.made (TellTypes-Keeps keeps c.loop-name.self.types scope h)) c.loop-name.invariant.places);
+          places-next name_eq TellTypes _ c.loop-name.target.table _ _ c.loop-name.self.types _ _ _ _ _ _ c.loop-name.place _
+          (drop-item c.args.names.now c.loop-name.name-index c.name-item.result c.name-item.is c.loop-name-test.true)
+          c.saturating_sub-place.ensures
+          (λ scope h. TellTypes-set _ _ c.in_ok-tree.tree _ c.loop-name.self.types scope c.in_ok-tree.ensures.made
+          (TellTypes-Keeps keeps c.loop-name.self.types scope h)) c.loop-name.invariant.places);
     }
 
 pub loop-name-init : goal.loop-name-init
@@ -31,4 +34,5 @@ returns-in_err-set_type-clause-grows c = Grows-trans c.loop-name.invariant.grows
 
 pub returns-clause-types : goal.returns-clause-types
 returns-clause-types c = λ scope h.
-    places-end name_eq TellTypes _ _ _ _ _ _ _ _ (drop_all c.loop-name.name-index c.args.names.now (omega (arith, c.loop-name-test.false))) c.loop-name.invariant.places scope h
+    places-end name_eq TellTypes _ _ _ _ _ _ _ _ (drop_all c.loop-name.name-index c.args.names.now (omega (arith, c.loop-name-test.false)))
+    c.loop-name.invariant.places scope h

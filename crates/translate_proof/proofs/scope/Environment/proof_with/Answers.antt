@@ -19,5 +19,6 @@ returns-clause-made c =
     (λ r h given trees x stands known put.
     let there = subst (λ o. IsPut trees c.args.target.now.table o x) c.in-Some.is put in
     subst (λ o. Holds c.hypothesis-2.new.target.table r.0 (proof_with trees o x given.scope.proofs (term_at trees c.args.id.0))) (sym c.in-Some.is)
-    (h given trees stands known ∙ ap Some (proof_with-other trees stands.one_term c.in-Some.own x given.scope.proofs c.args.id known there.0 (sym c.eq.ensures ∙ c.if-eq.false))))
+    (h given trees stands known ∙ ap Some
+    (proof_with-other trees stands.one_term c.in-Some.own x given.scope.proofs c.args.id known there.0 (sym c.eq.ensures ∙ c.if-eq.false))))
     c.hypothesis-2.ensures.made

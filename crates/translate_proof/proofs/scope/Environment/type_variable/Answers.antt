@@ -8,4 +8,5 @@ returns-in-Some-clause-made c = λ scope t. type-found _ _ c.args.name.now c.in-
 
 pub returns-in-None-clause-made : goal.returns-in-None-clause-made
 returns-in-None-clause-made c =
-    IfOk-weaker c.node.result _ _ (λ r h scope t. h ∙ ap Some (type-absent _ _ c.args.name.now scope t (sym c.find_type.ensures ∙ c.in-None.is))) c.node.ensures.made
+    IfOk-weaker c.node.result _ _ (λ r h scope t. h ∙ ap Some (type-absent _ _ c.args.name.now scope t (sym c.find_type.ensures ∙ c.in-None.is)))
+    c.node.ensures.made

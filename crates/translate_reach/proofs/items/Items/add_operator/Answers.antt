@@ -8,5 +8,6 @@ pub returns : goal.returns
 returns c p list x a h =
     let old = c.args.self.now in
     let at : c.len.result ≡ length old.needs.items = omega (arith, c.len.ensures, old.needs.ok.0) in
-    operator-AreListed p list x old (record { index = c.add_operator.new.self; steps = old.steps; needs = c.push.new.self }) h c.args.name.now c.args.arity c.args.need a refl c.in_ok-push.ensures.items
+    operator-AreListed p list x old (record { index = c.add_operator.new.self; steps = old.steps; needs = c.push.new.self }) h c.args.name.now c.args.arity
+    c.args.need a refl c.in_ok-push.ensures.items
     (λ q. c.in_ok-add_operator.ensures q ∙ ap (λ k. cond (key_eq (operator_key c.args.name.now c.args.arity) q) (Some k) (found old.index q)) at)

@@ -26,7 +26,8 @@ take_symbol-requires c =
     let i = c.loop-one.one-index in
     let m = c.one-item.result in
     let from = drop_more ms i m (omega (arith, c.loop-one-test.true)) ∙ ap (λ y. y ∷ drop (i + 1) ms) (sym c.one-item.is) in
-    symbol-within p m (drop (i + 1) ms) c.loop-one.items c.loop-one.symbol (kinds-IsSymbol m c.in-InputConst.is) (subst (λ l. AreTaken p l c.loop-one.items c.loop-one.symbol) from c.loop-one.invariant)
+    symbol-within p m (drop (i + 1) ms) c.loop-one.items c.loop-one.symbol (kinds-IsSymbol m c.in-InputConst.is)
+    (subst (λ l. AreTaken p l c.loop-one.items c.loop-one.symbol) from c.loop-one.invariant)
 
 pub overflow_add-symbol : goal.overflow_add-symbol
 overflow_add-symbol c =
@@ -35,7 +36,8 @@ overflow_add-symbol c =
     let i = c.loop-one.one-index in
     let m = c.one-item.result in
     let from = drop_more ms i m (omega (arith, c.loop-one-test.true)) ∙ ap (λ y. y ∷ drop (i + 1) ms) (sym c.one-item.is) in
-    let within = symbol-within p m (drop (i + 1) ms) c.loop-one.items c.loop-one.symbol (kinds-IsSymbol m c.in-InputConst.is) (subst (λ l. AreTaken p l c.loop-one.items c.loop-one.symbol) from c.loop-one.invariant) in
+    let within = symbol-within p m (drop (i + 1) ms) c.loop-one.items c.loop-one.symbol (kinds-IsSymbol m c.in-InputConst.is)
+    (subst (λ l. AreTaken p l c.loop-one.items c.loop-one.symbol) from c.loop-one.invariant) in
     let count = sym (ap length c.symbols-symbols.ensures.are) ∙ length-map c.symbols-symbols.result.now (symbol_at p.trees) in
     let all = c.count-count.ensures in
     omega (arith, within, count, all, c.count-count.type_inv)
@@ -55,10 +57,13 @@ loop-one-preserved c =
           (subst (λ y. AreTaken p (y ∷ drop (i + 1) ms) c.loop-one.items c.loop-one.symbol) w.in-Step.is h) w.in_ok-take_step-in-Step.ensures)
       | in-InputConst+in_ok-take_symbol-in-InputConst w ↦
           rw (w.items-is, w.symbol-is)
-          (symbol-taken p c.is_proof.ensures c.requires.order m (drop (i + 1) ms) c.loop-one.items w.take_symbol.new.self c.loop-one.symbol (kinds-IsSymbol m w.in-InputConst.is) h w.in_ok-take_symbol-in-InputConst.ensures)
+          (symbol-taken p c.is_proof.ensures c.requires.order m (drop (i + 1) ms) c.loop-one.items w.take_symbol.new.self c.loop-one.symbol
+          (kinds-IsSymbol m w.in-InputConst.is) h w.in_ok-take_symbol-in-InputConst.ensures)
     ]
 
 pub returns : goal.returns
 returns c =
     let p = c.args.proof.now in
-    all-taken p c.loop-one.items c.loop-one.symbol (subst (λ l. AreTaken p l c.loop-one.items c.loop-one.symbol) (drop_all c.loop-one.one-index c.made-one-items.result.now c.loop-one-test.false) c.loop-one.invariant)
+    all-taken p c.loop-one.items c.loop-one.symbol
+    (subst (λ l. AreTaken p l c.loop-one.items c.loop-one.symbol) (drop_all c.loop-one.one-index c.made-one-items.result.now c.loop-one-test.false)
+    c.loop-one.invariant)

@@ -14,7 +14,8 @@ returns-then-index c list ix walk =
     let w = c.args.self.now in
     let known = walk.tasks.0 in
     let count = walk.types in
-    passed-Turned c.args.terms.now list w w (task.Type c.args.id) walk (sym (get_or_read w.types.items c.args.id.0 _ (omega (arith, known, count)) c.index.ensures false) ∙ c.if-index.true)
+    passed-Turned c.args.terms.now list w w (task.Type c.args.id) walk
+    (sym (get_or_read w.types.items c.args.id.0 _ (omega (arith, known, count)) c.index.ensures false) ∙ c.if-index.true)
 
 pub returns-in-Var : goal.returns-in-Var
 returns-in-Var c list ix walk =

@@ -17,7 +17,8 @@ returns-clause-walk c = on_ok_weaker c.push.result
     let w = c.want_steps.new.self in
     let v : Walk = record { marks = w.marks; types = w.types; terms = w.terms; tasks = c.push.new.self } in
     let more = task.Type c.args.ty ∷ [] in
-    gains-IsWalk p.trees (made_items p.made) w v [] more c.want_steps.ensures.walk (no-marks p.trees (made_items p.made) w v more (c.requires.known.1, tt {0}) refl refl refl put))
+    gains-IsWalk p.trees (made_items p.made) w v [] more c.want_steps.ensures.walk
+    (no-marks p.trees (made_items p.made) w v more (c.requires.known.1, tt {0}) refl refl refl put))
     c.push.ensures.pushed
 
 pub returns-clause-wants : goal.returns-clause-wants
@@ -31,5 +32,6 @@ returns-clause-wants c = on_ok_weaker c.push.result
     let own = step_keys p (c.args.premise ∷ []) in
     let types = type_keys (tree_at p.trees.types c.args.ty.0) in
     subst (λ ks. WantsOf p ks c.args.self.now v) (ap (λ l. own ++ l) (append-nil types))
-    (Wants-trans p.trees (made_items p.made) own (types ++ []) c.args.self.now w v c.want_steps.ensures.wants (gains-Wants p.trees (made_items p.made) w v [] more c.want_steps.ensures.walk gains)))
+    (Wants-trans p.trees (made_items p.made) own (types ++ []) c.args.self.now w v c.want_steps.ensures.wants
+    (gains-Wants p.trees (made_items p.made) w v [] more c.want_steps.ensures.walk gains)))
     c.push.ensures.pushed

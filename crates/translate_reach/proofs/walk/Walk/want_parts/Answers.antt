@@ -14,5 +14,6 @@ returns-in-Term-clause-walk c = on_ok_weaker c.push.result
     let w = c.args.self.now in
     let v : Walk = record { marks = w.marks; types = w.types; terms = w.terms; tasks = c.push.new.self } in
     let more = task.Term c.in-Term.id ∷ [] in
-    gains-IsWalk p.trees (made_items p.made) w v [] more c.requires.walk (no-marks p.trees (made_items p.made) w v more (rw c.in-Term.is at c.requires.known, tt {0}) refl refl refl put))
+    gains-IsWalk p.trees (made_items p.made) w v [] more c.requires.walk
+    (no-marks p.trees (made_items p.made) w v more (rw c.in-Term.is at c.requires.known, tt {0}) refl refl refl put))
     c.push.ensures.pushed

@@ -30,7 +30,10 @@ returns-clause-wants c = on_ok_weaker c.want_given.result
     let p = c.args.proof.now in
     let premises = c.premises-premises.result.now in
     let given = given_keys (parameters_view p.trees c.params.result.now) in
-    let keys : step_keys p premises ++ given ≡ step_keys p (step_at p.made c.args.id).premises ++ given_keys (step_at p.made c.args.id).parameters = λ i. step_keys p (c.premises-premises.ensures i) ++ given_keys (c.params.ensures.is i) in
-    subst (λ ks. WantsOf p ks c.args.self.now c.want_given.new.self) (keys ∙ sym (proof-all (numbers_of (made_items p.made)) p.made c.args.id (sym c.is_idle.ensures ∙ c.if-is_idle.false)))
-    (Wants-trans p.trees (made_items p.made) (step_keys p premises) given c.args.self.now c.want_steps-2.new.self c.want_given.new.self c.want_steps-2.ensures.wants wants))
+    let keys : step_keys p premises ++ given ≡ step_keys p (step_at p.made c.args.id).premises ++ given_keys (step_at p.made c.args.id).parameters =
+    λ i. step_keys p (c.premises-premises.ensures i) ++ given_keys (c.params.ensures.is i) in
+    subst (λ ks. WantsOf p ks c.args.self.now c.want_given.new.self)
+    (keys ∙ sym (proof-all (numbers_of (made_items p.made)) p.made c.args.id (sym c.is_idle.ensures ∙ c.if-is_idle.false)))
+    (Wants-trans p.trees (made_items p.made) (step_keys p premises) given c.args.self.now c.want_steps-2.new.self c.want_given.new.self
+    c.want_steps-2.ensures.wants wants))
     c.want_given.ensures.wants

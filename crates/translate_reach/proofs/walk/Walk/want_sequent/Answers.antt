@@ -16,8 +16,10 @@ returns-clause-walk c = on_ok_weaker c.push_terms.result
     let s = c.args.sequent.now in
     let v : Walk = record { marks = w.marks; types = w.types; terms = w.terms; tasks = c.push_terms.new.tasks } in
     let more = map task.Term s.hyps ++ task.Term s.concl ∷ [] in
-    let tasks = put ∙ ap (λ l. with_terms l c.push.new.self) c.ids.ensures.numbers ∙ ap (λ l. map task.Term s.hyps ++ l) c.in_ok-push.ensures.pushed ∙ sym (append_assoc (map task.Term s.hyps) (task.Term s.concl ∷ []) w.tasks) in
-    gains-IsWalk p.trees (made_items p.made) w v [] more c.requires.walk (no-marks p.trees (made_items p.made) w v more (terms-known p.trees s.hyps s.concl c.requires.known.0 c.requires.known.1) refl refl refl tasks))
+    let tasks = put ∙ ap (λ l. with_terms l c.push.new.self) c.ids.ensures.numbers ∙ ap (λ l. map task.Term s.hyps ++ l) c.in_ok-push.ensures.pushed
+    ∙ sym (append_assoc (map task.Term s.hyps) (task.Term s.concl ∷ []) w.tasks) in
+    gains-IsWalk p.trees (made_items p.made) w v [] more c.requires.walk
+    (no-marks p.trees (made_items p.made) w v more (terms-known p.trees s.hyps s.concl c.requires.known.0 c.requires.known.1) refl refl refl tasks))
     c.push_terms.ensures
 
 pub returns-clause-wants : goal.returns-clause-wants
@@ -28,7 +30,9 @@ returns-clause-wants c = on_ok_weaker c.push_terms.result
     let s = c.args.sequent.now in
     let v : Walk = record { marks = w.marks; types = w.types; terms = w.terms; tasks = c.push_terms.new.tasks } in
     let more = map task.Term s.hyps ++ task.Term s.concl ∷ [] in
-    let tasks = put ∙ ap (λ l. with_terms l c.push.new.self) c.ids.ensures.numbers ∙ ap (λ l. map task.Term s.hyps ++ l) c.in_ok-push.ensures.pushed ∙ sym (append_assoc (map task.Term s.hyps) (task.Term s.concl ∷ []) w.tasks) in
+    let tasks = put ∙ ap (λ l. with_terms l c.push.new.self) c.ids.ensures.numbers ∙ ap (λ l. map task.Term s.hyps ++ l) c.in_ok-push.ensures.pushed
+    ∙ sym (append_assoc (map task.Term s.hyps) (task.Term s.concl ∷ []) w.tasks) in
     subst (λ ks. WantsOf p ks w v) (terms-keys p.trees s.hyps s.concl)
-    (gains-Wants p.trees (made_items p.made) w v [] more c.requires.walk (no-marks p.trees (made_items p.made) w v more (terms-known p.trees s.hyps s.concl c.requires.known.0 c.requires.known.1) refl refl refl tasks)))
+    (gains-Wants p.trees (made_items p.made) w v [] more c.requires.walk
+    (no-marks p.trees (made_items p.made) w v more (terms-known p.trees s.hyps s.concl c.requires.known.0 c.requires.known.1) refl refl refl tasks)))
     c.push_terms.ensures

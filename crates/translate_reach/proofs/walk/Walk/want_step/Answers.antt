@@ -19,7 +19,8 @@ returns-then-has_proof-clause-wants c = on_ok_weaker c.want_premises.result
     let row : has_row (step_at p.made id).kind ≡ _ = sym (c.has_proof.ensures ∙ ap has_row c.kind.ensures) ∙ c.if-has_proof.true in
     let keys = ap (λ s. sequent_keys s ++ proof_keys p id) same ∙ sym (needs-proved (numbers_of (made_items p.made)) p.made id row) in
     subst (λ ks. WantsOf p ks c.args.self.now c.want_premises.new.self) keys
-    (Wants-trans p.trees (made_items p.made) said (proof_keys p id) c.args.self.now c.want_sequent.new.self c.want_premises.new.self c.in_ok-want_sequent.ensures.wants wants))
+    (Wants-trans p.trees (made_items p.made) said (proof_keys p id) c.args.self.now c.want_sequent.new.self c.want_premises.new.self
+    c.in_ok-want_sequent.ensures.wants wants))
     c.want_premises.ensures.wants
 
 pub returns-else-has_proof-clause-wants : goal.returns-else-has_proof-clause-wants
@@ -28,4 +29,5 @@ returns-else-has_proof-clause-wants c =
     let id = c.args.id in
     let same = c.sequent.ensures.is ∙ sym (step-sequent p.made id) in
     let row : has_row (step_at p.made id).kind ≡ _ = sym (c.has_proof.ensures ∙ ap has_row c.kind.ensures) ∙ c.if-has_proof.false in
-    subst (λ ks. WantsOf p ks c.args.self.now c.want_sequent.new.self) (ap sequent_keys same ∙ sym (needs-unproved (numbers_of (made_items p.made)) p.made id row)) c.in_ok-want_sequent.ensures.wants
+    subst (λ ks. WantsOf p ks c.args.self.now c.want_sequent.new.self)
+    (ap sequent_keys same ∙ sym (needs-unproved (numbers_of (made_items p.made)) p.made id row)) c.in_ok-want_sequent.ensures.wants

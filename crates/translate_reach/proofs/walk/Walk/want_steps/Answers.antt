@@ -42,9 +42,11 @@ loop-id-preserved c =
     let number = number-kept p items c.requires.items id c.index.result.now k c.index.ensures in
     let key = number_key (number_in (numbers_of (made_items p.made)) id) ∷ [] in
     let gains = step-Gains p c.requires.order w v old.walk id k (c.mark.ensures ∙ ap (λ n. marked w.marks.items (Some n)) number) refl refl refl in
-    let wants = Wants-trans p.trees (made_items p.made) (step_keys p (take i ids)) (key ++ []) c.args.self.now w v old.wants (gains-Wants p.trees (made_items p.made) w v key [] old.walk gains) in
+    let wants = Wants-trans p.trees (made_items p.made) (step_keys p (take i ids)) (key ++ []) c.args.self.now w v old.wants
+    (gains-Wants p.trees (made_items p.made) w v key [] old.walk gains) in
     record {
       walk = gains-IsWalk p.trees (made_items p.made) w v key [] old.walk gains;
       tasks = old.tasks;
-      wants = subst (λ ks. WantsOf p ks c.args.self.now v) (step_keys-last p (take i ids) id ∙ ap (step_keys p) (sym (take_more ids i 0 (omega (arith, c.loop-id-test.true))))) wants;
+      wants = subst (λ ks. WantsOf p ks c.args.self.now v)
+          (step_keys-last p (take i ids) id ∙ ap (step_keys p) (sym (take_more ids i 0 (omega (arith, c.loop-id-test.true))))) wants;
     }

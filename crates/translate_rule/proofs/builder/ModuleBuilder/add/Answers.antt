@@ -13,7 +13,9 @@ add_symbol-requires-clause-next c =
     (q.0, q.1, q.2, q.3, kind-noted c.args.one.now q.2 c.in_default.not-Step q.4, q.5)
 
 pub returns-in-Step-clause-added : goal.returns-in-Step-clause-added
-returns-in-Step-clause-added c = on_ok_weaker c.add_step.result (λ h earlier later y whole kind built. h earlier later y whole (kind-step c.args.one.now y c.in-Step.is kind) built) c.add_step.ensures.added
+returns-in-Step-clause-added c = on_ok_weaker c.add_step.result
+    (λ h earlier later y whole kind built. h earlier later y whole (kind-step c.args.one.now y c.in-Step.is kind) built) c.add_step.ensures.added
 
 pub returns-in_default-clause-added : goal.returns-in_default-clause-added
-returns-in_default-clause-added c = on_ok_weaker c.add_symbol.result (λ h earlier later y whole kind built. h earlier later y whole (kind-noted c.args.one.now y c.in_default.not-Step kind) built) c.add_symbol.ensures.added
+returns-in_default-clause-added c = on_ok_weaker c.add_symbol.result
+    (λ h earlier later y whole kind built. h earlier later y whole (kind-noted c.args.one.now y c.in_default.not-Step kind) built) c.add_symbol.ensures.added

@@ -44,8 +44,10 @@ add_item-requires-3-clause-next c =
     let two = c.add_item-2.new.self in (
       up_to_abstraction r q.0 d,
       _,
-      abstraction-counted r q.0 d c.requires.run.sound q.1 whole c.requires.known old q.5 one two c.in_ok-add_item.ensures.counted c.in_ok-add_item.ensures.numbers c.in_ok-add_item-2.ensures.counted,
-      next-representation r q.0 d c.requires.run.sound q.1 whole c.requires.known old q.5 two (c.in_ok-add_item-2.ensures.numbers ∙ c.in_ok-add_item.ensures.numbers),
+      abstraction-counted r q.0 d c.requires.run.sound q.1 whole c.requires.known old q.5 one two c.in_ok-add_item.ensures.counted
+          c.in_ok-add_item.ensures.numbers c.in_ok-add_item-2.ensures.counted,
+      next-representation r q.0 d c.requires.run.sound q.1 whole c.requires.known old q.5 two
+          (c.in_ok-add_item-2.ensures.numbers ∙ c.in_ok-add_item.ensures.numbers),
     )
 
 pub returns-clause-added : goal.returns-clause-added
@@ -53,6 +55,8 @@ returns-clause-added c = on_ok_weaker c.add_item-3.result
     (λ last earlier later y whole is built.
     let r = c.args.run in
     subst (λ z. AreCounted (accepted r) (items_made (accepted r) (earlier ++ z ∷ [])) c.add_item-3.new.self) (sym is)
-    (definition-counted r earlier c.args.definition c.requires.run.sound later (whole ∙ ap (λ z. earlier ++ z ∷ later) is) c.requires.known c.args.self.now built c.add_item.new.self c.add_item-2.new.self c.add_item-3.new.self
-    c.in_ok-add_item.ensures.counted c.in_ok-add_item.ensures.numbers c.in_ok-add_item-2.ensures.counted (c.in_ok-add_item-2.ensures.numbers ∙ c.in_ok-add_item.ensures.numbers) last))
+    (definition-counted r earlier c.args.definition c.requires.run.sound later (whole ∙ ap (λ z. earlier ++ z ∷ later) is) c.requires.known c.args.self.now
+    built c.add_item.new.self c.add_item-2.new.self c.add_item-3.new.self
+    c.in_ok-add_item.ensures.counted c.in_ok-add_item.ensures.numbers c.in_ok-add_item-2.ensures.counted
+    (c.in_ok-add_item-2.ensures.numbers ∙ c.in_ok-add_item.ensures.numbers) last))
     c.add_item-3.ensures.counted

@@ -26,8 +26,10 @@ declaration-requires-clause-told c =
     let q = c.requires.next in
     let run = accepted c.args.run in (
       kept_symbols run,
-      subst (λ ns. TellsContent (declarations_of c.args.self.now.target) (kept_symbols run) (item_content c.args.run.proof.now ns c.args.item)) (sym c.deref.ensures.value)
-          (next-told run c.requires.sound c.requires.named q.0 q.1 c.args.self.now.target q.2 c.args.run.proof.now c.args.self.now.numbers.items c.args.item q.3),
+      subst (λ ns. TellsContent (declarations_of c.args.self.now.target) (kept_symbols run) (item_content c.args.run.proof.now ns c.args.item))
+          (sym c.deref.ensures.value)
+          (next-told run c.requires.sound c.requires.named q.0 q.1 c.args.self.now.target q.2 c.args.run.proof.now c.args.self.now.numbers.items c.args.item
+          q.3),
     )
 
 pub push-requires-clause-held : goal.push-requires-clause-held
@@ -37,7 +39,8 @@ pub push-requires-clause-follows : goal.push-requires-clause-follows
 push-requires-clause-follows c =
     let q = c.requires.next in
     let run = accepted c.args.run in
-    next-may-follow run c.requires.sound c.requires.named q.0 q.1 c.args.self.now.target q.2 c.args.run.proof.now c.args.self.now.numbers.items c.args.item q.3 _ _ (declarations_of-Grows c.args.self.now.target _ c.declaration.ensures.grows q.2.held)
+    next-may-follow run c.requires.sound c.requires.named q.0 q.1 c.args.self.now.target q.2 c.args.run.proof.now c.args.self.now.numbers.items c.args.item q.3
+    _ _ (declarations_of-Grows c.args.self.now.target _ c.declaration.ensures.grows q.2.held)
     (made-with run c.args.self.now.target c.args.run.proof.now _ c.args.self.now.numbers.items c.args.item _ c.deref.ensures.value c.in_ok-decl.ensures.made)
 
 pub returns-clause-declared : goal.returns-clause-declared
@@ -47,7 +50,9 @@ returns-clause-declared c =
     (λ e items grown so_far kept. record {
       held = c.push.ensures.held;
       declared =
-          next-declared run c.requires.sound c.requires.named items grown c.args.self.now.target so_far c.args.run.proof.now c.args.self.now.numbers.items c.args.item kept _ _ _ (declarations_of-Grows c.args.self.now.target _ c.declaration.ensures.grows so_far.held)
-          (made-with run c.args.self.now.target c.args.run.proof.now _ c.args.self.now.numbers.items c.args.item _ c.deref.ensures.value c.in_ok-decl.ensures.made) e;
+          next-declared run c.requires.sound c.requires.named items grown c.args.self.now.target so_far c.args.run.proof.now c.args.self.now.numbers.items
+          c.args.item kept _ _ _ (declarations_of-Grows c.args.self.now.target _ c.declaration.ensures.grows so_far.held)
+          (made-with run c.args.self.now.target c.args.run.proof.now _ c.args.self.now.numbers.items c.args.item _ c.deref.ensures.value
+          c.in_ok-decl.ensures.made) e;
     })
     c.push.ensures.declared

@@ -7,7 +7,8 @@ pub returns-in-Some : goal.returns-in-Some
 returns-in-Some g c =
     let same = g.K.PartialEq.eq c.args.key.now in
     c.value_at.ensures ∙ ap (λ l. slice_get l c.in-Some.place) c.deref.ensures.value
-    ∙ sym (lookup-Some same c.self.inside.keys c.self.inside.values.items c.in-Some.place c.self.invariant (sym c.in-Some.ensures)) ∙ ap (lookup same) c.self.view_is
+    ∙ sym (lookup-Some same c.self.inside.keys c.self.inside.values.items c.in-Some.place c.self.invariant (sym c.in-Some.ensures))
+    ∙ ap (lookup same) c.self.view_is
 
 pub returns-in-None : goal.returns-in-None
 returns-in-None g c =

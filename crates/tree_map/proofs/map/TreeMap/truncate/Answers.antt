@@ -5,4 +5,5 @@ use Rattle.tree_map.proofs.map.TreeMap.truncate.Goals as goal
 
 pub returns : goal.returns
 returns g c =
-    (λ i. zip (c.truncate.ensures i) (c.truncate-2.ensures.items i)) ∙ sym (take-zip c.args.len c.self.inside.keys c.self.inside.values.items) ∙ ap (take c.args.len) c.self.view_is
+    (λ i. zip (c.truncate.ensures i) (c.truncate-2.ensures.items i)) ∙ sym (take-zip c.args.len c.self.inside.keys c.self.inside.values.items)
+    ∙ ap (take c.args.len) c.self.view_is

@@ -14,7 +14,8 @@ returns-in-Some-clause-noted g c =
     let es = c.self.inside.many.entries in
     subst (λ l. IsNoted l key c.in-Some.value) c.self.view_is
     (IsNoted-left es c.self.inside.few.items key c.in-Some.value
-    (lookup-noted (eq_by_cmp g.K.Ord.cmp) (λ x y h. g.met.K.Key.exact x y (g.met.K.Ord.matches_eq x y ∙ h)) (eq_by_cmp_equiv g.met.K.Ord.total).refl key es c.in-Some.value
+    (lookup-noted (eq_by_cmp g.K.Ord.cmp) (λ x y h. g.met.K.Key.exact x y (g.met.K.Ord.matches_eq x y ∙ h)) (eq_by_cmp_equiv g.met.K.Ord.total).refl key es
+    c.in-Some.value
     (sym (c.in-Some.ensures ∙ c.get.ensures.value))))
 
 -- what one of a few pairs has is noted
@@ -38,6 +39,8 @@ returns-in-None-seek-clause-absent g c v n =
     let eq = g.K.PartialEq.eq in
     let refl_cmp = (eq_by_cmp_equiv g.met.K.Ord.total).refl in
     ⊎_elim
-    (lookup-absent (eq_by_cmp g.K.Ord.cmp) (λ x y h. g.met.K.Key.exact x y (g.met.K.Ord.matches_eq x y ∙ h)) refl_cmp key es (sym (c.in-None.ensures ∙ c.get.ensures.value)) v)
-    (find-absent eq g.met.K.Key.exact (λ x. g.met.K.Ord.matches_eq x x ∙ refl_cmp x) key fs (c.in-None-seek.ensures ∙ ap (find (λ e. eq key e.0)) c.deref.ensures.value) v)
+    (lookup-absent (eq_by_cmp g.K.Ord.cmp) (λ x y h. g.met.K.Key.exact x y (g.met.K.Ord.matches_eq x y ∙ h)) refl_cmp key es
+    (sym (c.in-None.ensures ∙ c.get.ensures.value)) v)
+    (find-absent eq g.met.K.Key.exact (λ x. g.met.K.Ord.matches_eq x x ∙ refl_cmp x) key fs
+    (c.in-None-seek.ensures ∙ ap (find (λ e. eq key e.0)) c.deref.ensures.value) v)
     (IsNoted-append es fs key v (subst (λ l. IsNoted l key v) (sym c.self.view_is) n))

@@ -14,8 +14,10 @@ pub invariant_of-self : goal.invariant_of-self
 invariant_of-self g c =
     let cmp = g.T.Ord.cmp in
     let keys = c.self.inside.keys.items in
-    let none : place (g.T.PartialEq.eq c.args.key) keys ≡ None = subst (λ l. place (g.T.PartialEq.eq c.args.key) l ≡ None) (sym c.self.view_is) (sym c.in-None.ensures) in
-    let new : place (eq_by_cmp cmp c.args.key) keys ≡ None = sym (place-same (g.T.PartialEq.eq c.args.key) (eq_by_cmp cmp c.args.key) (g.met.T.Ord.matches_eq c.args.key) keys) ∙ none in
+    let none : place (g.T.PartialEq.eq c.args.key) keys ≡ None =
+    subst (λ l. place (g.T.PartialEq.eq c.args.key) l ≡ None) (sym c.self.view_is) (sym c.in-None.ensures) in
+    let new : place (eq_by_cmp cmp c.args.key) keys ≡ None =
+    sym (place-same (g.T.PartialEq.eq c.args.key) (eq_by_cmp cmp c.args.key) (g.met.T.Ord.matches_eq c.args.key) keys) ∙ none in
     let found = get cmp c.self.inside.places in
     let now = get cmp c.add.new.places in
     entered_places (eq_by_cmp cmp) keys c.add.new.keys.items c.args.key (ArePlaced (eq_by_cmp cmp) now) c.add.result
@@ -39,20 +41,23 @@ returns-in-Some-clause-added g c = added-old g.T.PartialEq.eq c.args.key c.args.
 pub returns-in-None-clause-keys : goal.returns-in-None-clause-keys
 returns-in-None-clause-keys g c =
     let eq = g.T.PartialEq.eq in
-    let none : place (eq c.args.key) c.self.inside.keys.items ≡ None = subst (λ l. place (eq c.args.key) l ≡ None) (sym c.self.view_is) (sym c.in-None.ensures) in
+    let none : place (eq c.args.key) c.self.inside.keys.items ≡ None =
+    subst (λ l. place (eq c.args.key) l ≡ None) (sym c.self.view_is) (sym c.in-None.ensures) in
     subst (λ l. OnOk c.add.result (c.add.new.keys.items ≡ insert_key eq l c.args.key)) c.self.view_is
     (entered_keys eq c.self.inside.keys.items c.add.new.keys.items c.args.key c.add.result none c.add.ensures.keys)
 
 pub returns-in-None-clause-index : goal.returns-in-None-clause-index
 returns-in-None-clause-index g c =
     let eq = g.T.PartialEq.eq in
-    let none : place (eq c.args.key) c.self.inside.keys.items ≡ None = subst (λ l. place (eq c.args.key) l ≡ None) (sym c.self.view_is) (sym c.in-None.ensures) in
+    let none : place (eq c.args.key) c.self.inside.keys.items ≡ None =
+    subst (λ l. place (eq c.args.key) l ≡ None) (sym c.self.view_is) (sym c.in-None.ensures) in
     subst (λ l. IfOk c.add.result (λ r. r.0 ≡ position_or_len (eq c.args.key) l)) c.self.view_is
     (entered_index eq c.self.inside.keys.items c.add.new.keys.items c.args.key c.add.result none c.add.ensures.place)
 
 pub returns-in-None-clause-added : goal.returns-in-None-clause-added
 returns-in-None-clause-added g c =
     let eq = g.T.PartialEq.eq in
-    let none : place (eq c.args.key) c.self.inside.keys.items ≡ None = subst (λ l. place (eq c.args.key) l ≡ None) (sym c.self.view_is) (sym c.in-None.ensures) in
+    let none : place (eq c.args.key) c.self.inside.keys.items ≡ None =
+    subst (λ l. place (eq c.args.key) l ≡ None) (sym c.self.view_is) (sym c.in-None.ensures) in
     subst (λ l. IfOk c.add.result (λ r. r.1 ≡ not (list_any (eq c.args.key) l))) c.self.view_is
     (entered_added eq c.self.inside.keys.items c.add.new.keys.items c.args.key c.add.result none c.add.ensures.place)
