@@ -174,7 +174,7 @@ def unfitting():
             if not re.search(rf"(?<![\w-]){re.escape(name)}(?![\w-])", text):
                 yield f"docs/DEFINITIONS.md: {name} isn't in {', '.join(files)}"
     yield from unproved()
-    usage = re.search(r'codes "(usage: .*)\\n"', (SPECS / "Texts.antt").read_text(encoding="utf-8"))[1]
+    usage = re.search(r'codes\s+"(usage: .*)\\n"', (SPECS / "Texts.antt").read_text(encoding="utf-8"))[1]
     if f"\n{usage}\n" not in (TOP / "docs" / "COMMANDS.md").read_text(encoding="utf-8"):
         yield "docs/COMMANDS.md hasn't the usage line of crates/bridge_spec/specs/Texts.antt"
     for file, form, number in numbers():
