@@ -1,6 +1,6 @@
 //! The type of names.
 
-ghost use Rattle.std.specs.Prelude.{◌≡◌, ◌↔◌, ◌<◌, ◌≤◌, ◌∷◌, [], length, slice_get, IsTrue, IfOk, MatchOption, Some, None, Ok, Err};
+ghost use Rattle.std.specs.Prelude.{◌≡◌, ◌↔◌, ◌<◌, ◌≤◌, ◌∷◌, [], length, map, slice_get, IsTrue, IfOk, IfErr, MatchOption, Some, None, Ok, Err};
 ghost use Rattle.std.proofs.Common.{refl, rules};
 ghost use Rattle.std.specs.Cmp.{partial_order_from_own_ties, partial_order_from_total, unsigned_Decides};
 ghost use Rattle.std.specs.Cmp.Lexicographic.{lists_ties, lists_total, nat_list_cmp_total, slice_cmp, texts_ties};
@@ -20,6 +20,7 @@ use std::alloc::{AllocError, AllocFailed, Global};
 use std::cmp::Ordering;
 use std::hash::{Hash, Hasher};
 use std::marker::Model;
+use std::rc::Rc;
 use thiserror::Error;
 
 /// Want of memory.
@@ -55,10 +56,10 @@ pub enum NameFault {
 }
 
 /// A name: a nonempty list of components, each of any bytes. The last one is the name proper, those
-/// before it its namespace.
+/// before it its namespace. Copies share the components.
 #[derive(Drop)]
 pub struct Name {
-    components: Vec<Vec<u8>>,
+    components: Rc<Vec<Vec<u8>>>,
 }
 
 impl Model for Name {
@@ -67,9 +68,9 @@ impl Model for Name {
 
     ghost Value = { List (List ℕ) };
 
-    ghost view = { λ name. map (λ component. component.items) name.components.items };
+    ghost view = { λ name. map (λ component. component.items) name.components.value.items };
 
-    ghost invariant = { λ name. IsName (map (λ component. component.items) name.components.items) };
+    ghost invariant = { λ name. IsName (map (λ component. component.items) name.components.value.items) };
 }
 
 impl Name {
@@ -93,7 +94,7 @@ impl Name {
                 return Err(NameFault::Memory);
             }
             match after {
-                [b'"'] => return Ok(Name { components }),
+                [b'"'] => return whole(alloc, components),
                 [b'.', next @ ..] => rest = next,
                 _ => return Err(NameFault::BadLine),
             }
@@ -111,7 +112,27 @@ impl Name {
         if components.push(component).is_err() {
             return Err(Memory);
         }
-        Ok(Name { components })
+        Name::of(alloc, components)
+    }
+
+    // The name with these components.
+    fn of(alloc: Global, components: Vec<Vec<u8>>) -> Result<Name, Memory>
+        requires { IsName (map (λ component. component.items) components.items) }
+        ensures { IfOk result (λ name. name ≡ map (λ component. component.items) components.items) }
+    {
+        match Rc::new(alloc, components) {
+            Ok(components) => Ok(Name { components }),
+            Err(_) => Err(Memory),
+        }
+    }
+
+    // The components, for reading.
+    fn components(&self) -> &[Vec<u8>]
+        ensures are { map (λ component. component.items) result.now ≡ self.now }
+        ensures name { IsName self.now }
+        ensures nonempty { 0 < length result.now }
+    {
+        self.components.as_ref()
     }
 
     /// The text of the name within the identifier of a symbol, byte by byte: ASCII letters and digits as they are, any
@@ -120,7 +141,8 @@ impl Name {
         ensures text { result ≡ mangled self.now }
         ensures name { IsName self.now }
     {
-        Mangled::of(&self.components[0], &self.components[1..])
+        let components = self.components();
+        Mangled::of(&components[0], &components[1..])
     }
 
     /// The name that has this mangled text: `None` exactly where no name has it, as where a hexadecimal digit is in
@@ -129,7 +151,7 @@ impl Name {
         ensures inverse { IfOk result (λ found. MatchOption found (HasNoName text.now) (λ name. mangled name ≡ text.now)) }
     {
         match components_of(alloc, text)? {
-            Some(components) => Ok(Some(Name { components })),
+            Some(components) => Ok(Some(Name::of(alloc, components)?)),
             None => Ok(None),
         }
     }
@@ -139,7 +161,7 @@ impl Name {
         ensures count { result ≡ length self.now }
         ensures nonempty { 0 < result }
     {
-        self.components.len()
+        self.components().len()
     }
 
     /// The component at this place, the outermost namespace being at 0.
@@ -147,14 +169,15 @@ impl Name {
         requires { index < length self.now }
         ensures { slice_get self.now index ≡ Some result.now }
     {
-        &self.components[index]
+        &self.components()[index]
     }
 
     /// Whether the name has this text as its one component.
     pub fn is_single(&self, text: &[u8]) -> bool
         ensures { IsTrue result ↔ (self.now ≡ text.now ∷ []) }
     {
-        self.components.len() == 1 && self.components[0].as_slice() == text
+        let components = self.components();
+        components.len() == 1 && components[0].as_slice() == text
     }
 
     /// Whether two names have the same components.
@@ -162,6 +185,18 @@ impl Name {
         ensures { IsTrue result ↔ (self.now ≡ other.now) }
     {
         self == other
+    }
+}
+
+// The name with these components, where memory alone can be wanting.
+fn whole(alloc: Global, components: Vec<Vec<u8>>) -> Result<Name, NameFault>
+    requires { IsName (map (λ component. component.items) components.items) }
+    ensures name { IfOk result (λ name. name ≡ map (λ component. component.items) components.items) }
+    ensures memory { IfErr result (λ fault. fault ≡ NameFault.Memory) }
+{
+    match Name::of(alloc, components) {
+        Ok(name) => Ok(name),
+        Err(Memory) => Err(NameFault::Memory),
     }
 }
 
@@ -190,15 +225,11 @@ fn read_component(alloc: Global, text: &[u8]) -> Result<(Vec<u8>, &[u8]), Memory
 impl Clone for Name {
     ghost is_clone = { λ name copy. copy ≡ name };
 
+    // It takes no memory, and fails only where a name has as many copies as can be counted.
     fn clone(&self) -> Result<Name, AllocError> {
-        let mut components = Vec::with_capacity(
-            *self.components.allocator(),
-            self.components.len(),
-        )?;
-        for component in &self.components {
-            components.push(Vec::from_slice(*component.allocator(), component)?)?;
-        }
-        Ok(Name { components })
+        Ok(Name {
+            components: self.components.clone()?,
+        })
     }
 }
 
@@ -208,7 +239,7 @@ impl PartialEq for Name {
     ghost laws = { Prim.search (comparing, rules) };
 
     fn eq(&self, other: &Name) -> bool {
-        self.components == other.components
+        self.components() == other.components()
     }
 }
 
@@ -227,7 +258,7 @@ impl Ord for Name {
     ghost matches_eq = { lists_ties (slice_cmp nat_cmp) texts_ties };
 
     fn cmp(&self, other: &Name) -> Ordering {
-        self.components.cmp(&other.components)
+        self.components().cmp(other.components())
     }
 }
 
@@ -247,6 +278,6 @@ impl Hash for Name {
     ghost respects_eq = { (items_Alike (items_Alike (same_Alike fed.u8 unsigned_Decides))).fed };
 
     fn hash<H: Hasher>(&self, state: &mut H) {
-        self.components.hash(state);
+        self.components().hash(state);
     }
 }

@@ -4,5 +4,5 @@ use Rattle.std.specs.Cmp.Derive.Mapped.{pointwise-map}
 use Rattle.hol_name.proofs.name.NamePartialEq.eq.Goals as goal
 
 pub returns : goal.returns
-returns c = rw (← c.self.view_is, ← c.other.view_is)
-    (c.eq.ensures ∙ sym (pointwise-map (λ component. component.items) bytes_eq c.self.inside.components.items c.other.inside.components.items))
+returns c = rw (← c.components.ensures.are, ← c.components-2.ensures.are)
+    (c.eq.ensures ∙ sym (pointwise-map (λ component. component.items) bytes_eq c.components.result.now c.components-2.result.now))
