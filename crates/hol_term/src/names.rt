@@ -51,8 +51,8 @@ impl Names {
         Ok(())
     }
 
-    // Takes a name, if it is new.
-    fn add(&mut self, name: &Name) -> Result<(), Memory>
+    /// Takes a name, if it is new.
+    pub fn add(&mut self, name: &Name) -> Result<(), Memory>
         ensures added { OnOk result (self.new ≡ union name_eq self.old (name.now ∷ [])) }
     {
         if self.names.contains(name) {

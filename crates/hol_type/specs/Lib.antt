@@ -7,3 +7,4 @@ pub mod Entries
 pub mod Numbered
 pub mod Walks
 pub mod Matchings
+pub mod Keys

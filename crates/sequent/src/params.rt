@@ -37,7 +37,8 @@ impl Model for Variables {
 }
 
 impl Params {
-    pub(crate) fn new(alloc: Global) -> Self
+    /// No parameters. It takes no memory.
+    pub fn new(alloc: Global) -> Self
         ensures type_vars { result.type_vars ≡ [] }
         ensures free_vars { result.free_vars ≡ [] }
     {
@@ -88,8 +89,8 @@ impl Variables {
         Ok(())
     }
 
-    // Takes a variable, if it is new.
-    fn add(&mut self, variable: Variable) -> Result<(), Memory>
+    /// Takes a variable, if it is new.
+    pub fn add(&mut self, variable: Variable) -> Result<(), Memory>
         ensures added { OnOk result (self.new ≡ union same_variable self.old (variable ∷ [])) }
     {
         self.variables.insert_full(variable)?;
