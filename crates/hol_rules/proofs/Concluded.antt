@@ -14,6 +14,7 @@ use Rattle.sequent.specs.declared.Sequent.{Sequent}
 use Rattle.sequent.specs.Sequents.{sequent_at, IsKnown}
 use Rattle.hol_rules.specs.declared.made.Parameters.{Parameters}
 use Rattle.hol_rules.specs.declared.made.Step.{Step as OneStep}
+use Rattle.hol_rules.specs.Inferences.{Inferred}
 use Rattle.hol_rules.specs.Kept.{Kept, Grows, step_count}
 use Rattle.hol_rules.specs.Views.{new_step, AreParametersKnown, IsStepKnown}
 use Rattle.hol_spec.specs.Symbols.{Symbol}
@@ -94,22 +95,23 @@ pub refused-step : {old mid : Kept} → Grows old mid → (x : Step) (r : Result
 refused-step g x (Ok v) fault h f = absurd h
 refused-step g x (Err e) fault h f = refuses-step g x e (subst (λ w. Fails w (sequent_in_limits x.sequent)) (sym h) f)
 
--- a step of numbers whose premises are copied, after what changed nothing
-pub copied-known : (old mid : Kept) → mid ≡ old → (x : OneStep) → AreParametersKnown old.trees x.parameters → IsKnown old.trees x.sequent
+-- a step of numbers, after what changed nothing
+pub step-known : (old mid : Kept) → mid ≡ old → (x : OneStep) → AreParametersKnown old.trees x.parameters → IsKnown old.trees x.sequent
     → IsStepKnown mid.trees x
-copied-known old mid same x p s = subst (λ (k : Kept). IsStepKnown k.trees x) (sym same) (record { parameters = p; sequent = s })
+step-known old mid same x p s = subst (λ (k : Kept). IsStepKnown k.trees x) (sym same) (record { parameters = p; sequent = s })
 
-module _ (old mid : Kept) (same : mid ≡ old) (kind : StepKind) (copy premises : List ℕ) (copied : copy ≡ premises) (p : Parameters) (s : Sequent) where
-  pub copied-follows : IsStep old.made (new_step old.trees kind premises p s) → IsStep mid.made (new_step mid.trees kind copy p s)
-  copied-follows f = subst (λ (k : Kept). IsStep k.made (new_step k.trees kind copy p s)) (sym same)
-      (subst (λ ns. IsStep old.made (new_step old.trees kind ns p s)) (sym copied) f)
+module _ (old mid : Kept) (same : mid ≡ old) (kind : StepKind) (premises : List ℕ) (i : Inferred) (by : i ≡ record { kind = kind; premises = premises })
+    (p : Parameters) (s : Sequent) where
+  pub inferred-follows : IsStep old.made (new_step old.trees kind premises p s) → IsStep mid.made (new_step mid.trees i.kind i.premises p s)
+  inferred-follows f = subst (λ (k : Kept). IsStep k.made (new_step k.trees i.kind i.premises p s)) (sym same)
+      (subst (λ (j : Inferred). IsStep old.made (new_step old.trees j.kind j.premises p s)) (sym by) f)
 
-  pub copied-concludes : (new : Kept) (id : ℕ) → sequent_in_limits (sequent_at old.trees s) ≡ Ok tt → id ≡ step_count mid → new
-      ≡ record mid { made = mid.made ++ Made.step (new_step mid.trees kind copy p s) ∷ [] }
+  pub inferred-concludes : (new : Kept) (id : ℕ) → sequent_in_limits (sequent_at old.trees s) ≡ Ok tt → id ≡ step_count mid → new
+      ≡ record mid { made = mid.made ++ Made.step (new_step mid.trees i.kind i.premises p s) ∷ [] }
       → Concludes old (Ok (new_step old.trees kind premises p s)) new (Ok id)
-  copied-concludes new id e n is =
+  inferred-concludes new id e n is =
       concludes-step old new (new_step old.trees kind premises p s) id e (n ∙ ap step_count same)
-      (is ∙ ap₂ (λ (k : Kept) ns. record k { made = k.made ++ Made.step (new_step k.trees kind ns p s) ∷ [] }) same copied)
+      (is ∙ ap₂ (λ (k : Kept) (j : Inferred). record k { made = k.made ++ Made.step (new_step k.trees j.kind j.premises p s) ∷ [] }) same by)
 
 -- the same of a definition
 module _ (symbols : List Symbol) where

@@ -66,7 +66,7 @@ module _ {a b : Trees} (k : Keeps a b) where
   parameters_view-Keeps (parameters.TypeOp op abs rep names version) h = refl
 
   pub step_view-Keeps : (x : Step) → IsStepKnown a x → step_view a x ≡ step_view b x
-  step_view-Keeps x h = ap₂ (λ p s. record { kind = x.kind; premises = x.premises.items; parameters = p; sequent = s })
+  step_view-Keeps x h = ap₂ (λ p s. record { kind = x.inference.kind; premises = x.inference.premises; parameters = p; sequent = s })
       (parameters_view-Keeps x.parameters h.parameters) (sequent_at-Keeps x.sequent h.sequent)
 
   steps_view-Keeps : (xs : List Step) → AllByRecursion (IsStepKnown a) xs → steps_view a xs ≡ steps_view b xs

@@ -72,30 +72,33 @@ pub stated_is : (trees : Trees) (ids : List TermId) (concl : TermId) → concl.0
 stated_is trees ids concl known hyps h = record
     { known = (h.known, known); is = ap (λ hs. record { hypotheses = hs; conclusion = term_at trees concl.0 }) h.are }
 
-module _ (k : Kept) (ids : List TermId) (concl : TermId) (given s : Sequent)
-    (all : list_all (is_of_type bool) (term_at k.trees concl.0 ∷ terms_at k.trees ids) ≡ true) where
+module _ (k : Kept) (ids : List TermId) (concl : TermId) (all : list_all (is_of_type bool) (term_at k.trees concl.0 ∷ terms_at k.trees ids) ≡ true) where
   abbrev hs : List Term
   hs = terms_at k.trees ids
 
   abbrev c : Term
   c = term_at k.trees concl.0
 
-  module _ (g : IsStated k.trees given (stated hs c)) (h : IsStated k.trees s (stated hs c)) where
+  -- what was stated is given, and is what is concluded
+  module _ (given s : Sequent) (same : given ≡ s) (h : IsStated k.trees s (stated hs c)) where
+    pub given_stated : IsStated k.trees given (stated hs c)
+    given_stated = subst (λ x. IsStated k.trees x (stated hs c)) (sym same) h
+
     apart_truths : (HasType c bool) × AllByRecursion (λ t. HasType t bool) hs
     apart_truths = let p = both (is_of_type bool c) (list_all (is_of_type bool) hs) all in (of_type bool c p.0, are_truths hs p.1)
 
     pub axiom-ends : Ends k (axiom_step hs c) k (new_step k.trees by_rule.Axiom [] (parameters.Sequent given) s)
     axiom-ends = ends_by (Grows-refl k) (axiom-makes hs c apart_truths.1 apart_truths.0 k.made all) _
-        (λ i. record { kind = by_rule.Axiom; premises = []; parameters = rule.Parameters.sequent (g.is i); sequent = h.is i })
+        (λ i. record { kind = by_rule.Axiom; premises = []; parameters = rule.Parameters.sequent (given_stated.is i); sequent = h.is i })
 
     pub restate-ends : (j : ℕ) → j < length (steps_of k.made) → within (sequent_at k.made j) (stated hs c) ≡ true
         → Ends k (restate_step k.made j hs c) k (new_step k.trees by_rule.Restate (j ∷ []) (parameters.Sequent given) s)
     restate-ends j l w = ends_by (Grows-refl k) (restate-makes hs c apart_truths.1 apart_truths.0 k.made j l all w) _
-        (λ i. record { kind = by_rule.Restate; premises = j ∷ []; parameters = rule.Parameters.sequent (g.is i); sequent = h.is i })
+        (λ i. record { kind = by_rule.Restate; premises = j ∷ []; parameters = rule.Parameters.sequent (given_stated.is i); sequent = h.is i })
 
-    pub restate-fails : (j : ℕ) (fault : Fault) → Fails fault (follows (sequent_at k.made j) (stated hs c)) → Fails fault (restate_step k.made j hs c)
-    restate-fails j fault f = subst (Fails fault) (sym (met (list_all (is_of_type bool) (c ∷ hs)) NotBool _ all))
-        (fails-both (follows (sequent_at k.made j) (stated hs c)) _ fault f)
+  pub restate-fails : (j : ℕ) (fault : Fault) → Fails fault (follows (sequent_at k.made j) (stated hs c)) → Fails fault (restate_step k.made j hs c)
+  restate-fails j fault f = subst (Fails fault) (sym (met (list_all (is_of_type bool) (c ∷ hs)) NotBool _ all))
+      (fails-both (follows (sequent_at k.made j) (stated hs c)) _ fault f)
 
 -- what a comparison of numbers says of the sequents
 pub stated_within : (trees : Trees) → IsDistinct trees.terms → (a b : Sequent) (s t : ASequent) → numbers.IsKnown trees a → numbers.sequent_at trees a ≡ s

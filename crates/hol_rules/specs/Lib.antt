@@ -1,3 +1,4 @@
+pub mod Inferences
 pub mod Kept
 pub mod Views
 pub mod Conclusions

@@ -20,8 +20,8 @@ use Rattle.hol_rules.specs.Views.{parameters_view, AreParametersKnown}
 
 -- the step is that of a law, by this rule, of a sequent of numbers
 pub record IsLawStep (version : Version) (kind : StepKind) (names : TypeNames) (id : ℕ) (sequent : Sequent) (x : Step) : Type 0 where
-  pub by_rule : x.kind ≡ kind
-  pub premise : x.premises.items ≡ id ∷ []
+  pub by_rule : x.inference.kind ≡ kind
+  pub premise : x.inference.premises ≡ id ∷ []
   pub given : (trees : Trees) → parameters_view trees x.parameters ≡ Parameters.type_operator names version
   pub known : (trees : Trees) → AreParametersKnown trees x.parameters
   pub says : x.sequent ≡ sequent

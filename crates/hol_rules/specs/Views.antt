@@ -40,7 +40,12 @@ parameters_view trees (parameters.List pairs) = rule.Parameters.constants (pairs
 parameters_view trees (parameters.TypeOp op abs rep names version) = rule.Parameters.type_operator (named op abs rep names.items) version
 
 abbrev pub step_view : Trees → Step → proof.Step
-step_view trees x = record { kind = x.kind; premises = x.premises.items; parameters = parameters_view trees x.parameters; sequent = sequent_at trees x.sequent }
+step_view trees x = record {
+  kind = x.inference.kind;
+  premises = x.inference.premises;
+  parameters = parameters_view trees x.parameters;
+  sequent = sequent_at trees x.sequent;
+}
 
 -- the step by a rule, of a sequent of numbers
 abbrev pub new_step : Trees → StepKind → List ℕ → Parameters → Sequent → proof.Step

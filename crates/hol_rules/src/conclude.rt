@@ -1,25 +1,22 @@
 //! How a rule ends: its sequent is judged by the limits, and its step is kept.
-ghost use Rattle.std.specs.Prelude.{◌≡◌, ◌<◌, ◌++◌, ◌∷◌, [], Ok, length, vec_len, vec_capacity, IfOk, IfErr, OnOk, OnErr};
+ghost use Rattle.std.specs.Prelude.{◌≡◌, ◌<◌, ◌≤◌, ◌++◌, ◌∷◌, [], Ok, length, vec_len, vec_capacity, IfOk, IfErr, OnOk, OnErr};
 ghost use Rattle.article_spec.specs.Conditions.{sequent_in_limits};
 ghost use Rattle.article_spec.specs.Results.{Fails};
 ghost use Rattle.hol_spec.specs.Proofs.{IsStep};
 ghost use Rattle.hol_spec.specs.Proofs as proof;
-ghost use Rattle.hol_variables.specs.Noted.{AreNoted};
 ghost use Rattle.sequent.specs.Sequents.{sequent_at, IsKnown};
 ghost use Rattle.hol_rules.specs.declared.made.Made.TheVariants as one;
 ghost use Rattle.hol_rules.specs.Conclusions.{Concludes};
 ghost use Rattle.hol_rules.specs.Kept.{step_count};
 ghost use Rattle.hol_rules.specs.Views.{step_view, new_step, AreParametersKnown, IsStepKnown};
 
+use crate::inference::Inference;
 use crate::limits::check_limits;
 use crate::made::{Made, Parameters, Step, StepId};
 use crate::proof::Proof;
 use common::{Fault, Memory};
 use hol_spec::StepKind;
-use hol_term::TermTable;
-use hol_variables::ParamMemo;
 use sequent::Sequent;
-use std::alloc::Global;
 
 impl Proof {
     // The step by this rule, if its sequent is within the limits.
@@ -30,15 +27,16 @@ impl Proof {
         parameters: Parameters,
         sequent: Sequent,
     ) -> Result<StepId, Fault>
+        requires few { length premises.now ≤ 2 }
         requires parameters { AreParametersKnown self.old.trees parameters }
         requires sequent { IsKnown self.old.trees sequent }
         requires follows { IsStep self.old.made (new_step self.old.trees kind premises.now parameters sequent) }
         ensures { Concludes self.old (Ok (new_step self.old.trees kind premises.now parameters sequent)) self.new result }
     {
-        let premises = self.judged(premises, &sequent)?;
+        self.judged(&sequent)?;
+        let inference = Inference::new(kind, premises);
         let step = Step {
-            kind,
-            premises,
+            inference,
             parameters,
             sequent,
         };
@@ -46,19 +44,14 @@ impl Proof {
         Ok(id)
     }
 
-    // The numbers of the premises, copied, if the sequent is within the limits.
-    pub(crate) fn judged(
-        &mut self,
-        premises: &[StepId],
-        sequent: &Sequent,
-    ) -> Result<Vec<StepId>, Fault>
+    // Refuses a sequent that passes a limit.
+    pub(crate) fn judged(&mut self, sequent: &Sequent) -> Result<(), Fault>
         requires { IsKnown self.old.trees sequent.now }
-        ensures copied { IfOk result (λ copy. copy.items ≡ premises.now) }
         ensures within { OnOk result (sequent_in_limits (sequent_at self.old.trees sequent.now) ≡ Ok tt) }
         ensures refused { IfErr result (λ fault. Fails fault (sequent_in_limits (sequent_at self.old.trees sequent.now))) }
         ensures unchanged { self.new ≡ self.old }
     {
-        judged_premises(self.alloc, &self.terms, &mut self.params, premises, sequent)
+        check_limits(&self.terms, &mut self.params, sequent)
     }
 
     // The step becomes the last.
@@ -71,26 +64,6 @@ impl Proof {
     {
         keep_step(&mut self.steps, &mut self.made, step)
     }
-}
-
-// The numbers of the premises, copied, if the sequent is within the limits.
-fn judged_premises(
-    alloc: Global,
-    terms: &TermTable,
-    params: &mut ParamMemo,
-    premises: &[StepId],
-    sequent: &Sequent,
-) -> Result<Vec<StepId>, Fault>
-    requires known { IsKnown terms.now sequent.now }
-    requires noted { AreNoted terms.now params.old }
-    ensures copied { IfOk result (λ copy. copy.items ≡ premises.now) }
-    ensures within { OnOk result (sequent_in_limits (sequent_at terms.now sequent.now) ≡ Ok tt) }
-    ensures refused { IfErr result (λ fault. Fails fault (sequent_in_limits (sequent_at terms.now sequent.now))) }
-    ensures noted { AreNoted terms.now params.new }
-{
-    check_limits(terms, params, sequent)?;
-    let copy = Vec::from_slice(alloc, premises)?;
-    Ok(copy)
 }
 
 // The step becomes the last, and is noted as made. The answer is its number.

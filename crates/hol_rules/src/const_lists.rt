@@ -22,6 +22,7 @@ ghost use Rattle.hol_rules.specs.declared.made.Made.TheVariants as one;
 
 use crate::definitions::constant_of;
 use crate::functions::own_variable;
+use crate::inference::Inference;
 use crate::made::{Made, Parameters, Step, StepId};
 use crate::proof::Proof;
 use common::{Fault, Memory};
@@ -140,11 +141,11 @@ impl Proof {
             (list_step self.old.trees pairs.now one sequent) }
         ensures { Defines self.old (constants_at self.old.trees pairs.now premise.now) (Ok (list_step self.old.trees pairs.now one sequent)) self.new result }
     {
-        let premises = self.judged(&[one], &sequent)?;
+        self.judged(&sequent)?;
         let own = self.own_pairs(pairs)?;
+        let inference = Inference::new(StepKind::DefineConstList, &[one]);
         let step = Step {
-            kind: StepKind::DefineConstList,
-            premises,
+            inference,
             parameters: Parameters::List(own),
             sequent,
         };

@@ -19,6 +19,7 @@ ghost use Rattle.hol_rules.specs.Premises.{IsNumberOf};
 ghost use Rattle.article_spec.specs.RuleSteps.{define_const_step};
 ghost use Rattle.hol_rules.specs.Views.{step_view, IsStepKnown};
 
+use crate::inference::Inference;
 use crate::made::{Made, Parameters, Step, StepId};
 use crate::proof::Proof;
 use common::{Fault, Memory};
@@ -82,11 +83,11 @@ impl Proof {
         ensures { Defines self.old (constant_for name.now (term_at self.old.trees t.0) ∷ [])
             (Ok (constant_step self.old.trees name.now t sequent)) self.new result }
     {
-        let premises = self.judged(&[], &sequent)?;
+        self.judged(&sequent)?;
         let own = name.clone()?;
+        let inference = Inference::new(StepKind::DefineConst, &[]);
         let step = Step {
-            kind: StepKind::DefineConst,
-            premises,
+            inference,
             parameters: Parameters::Const(own, t),
             sequent,
         };

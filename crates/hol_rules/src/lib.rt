@@ -46,6 +46,7 @@ mod const_lists;
 mod definitions;
 mod functions;
 mod hypotheses;
+mod inference;
 mod laws;
 mod limits;
 mod made;

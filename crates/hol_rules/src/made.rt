@@ -2,9 +2,10 @@
 ghost use Rattle.std.specs.Prelude.{◌≡◌, IfOk};
 ghost use Rattle.hol_term.specs.PutIndexes.{IsIndexOf};
 
+use crate::inference::Inference;
 use common::Memory;
 use hol_name::Name;
-use hol_spec::{StepKind, Version};
+use hol_spec::Version;
 use hol_term::{PutIndex, TermId, Variable};
 use hol_type::TypeId;
 use sequent::Sequent;
@@ -135,8 +136,10 @@ pub enum Made {
 /// A step.
 #[derive(Drop)]
 pub(crate) struct Step {
-    pub(crate) kind: StepKind,
-    pub(crate) premises: Vec<StepId>,
+    pub(crate) inference: Inference,
     pub(crate) parameters: Parameters,
     pub(crate) sequent: Sequent,
 }
+
+// A long proof has hundreds of thousands of steps.
+const _: () = prove!(size_of::<Step>() <= 112);

@@ -94,6 +94,9 @@ impl Proof {
         requires { AreKnown self.now.trees ids.now }
         ensures { IfOk result (λ hyps. AreNumbersOf self.now.trees hyps (distinct term_eq (terms_at self.now.trees ids.now))) }
     {
+        if ids.is_empty() {
+            return Ok(Hyps::new(self.alloc));
+        }
         Hyps::of(self.alloc, ids)
     }
 

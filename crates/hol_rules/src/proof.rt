@@ -3,6 +3,9 @@ ghost use Rattle.std.specs.Prelude.{◌≡◌, ◌<◌, [], length, IfOk};
 ghost use Rattle.std.specs.List.{AllByRecursion};
 ghost use Rattle.hol_spec.specs.Derivations.{Derives};
 ghost use Rattle.hol_spec.specs.Proofs.{assumptions_of, definitions_of, sequent_at, sequents_of, steps_of, symbols_of, IsProof};
+ghost use Rattle.hol_spec.specs.Sequents.{free_variables_of, type_variables_of};
+ghost use Rattle.hol_type.specs.Tables as type;
+ghost use Rattle.hol_term.specs.Subterms.{HaveTypes, variables_of};
 ghost use Rattle.hol_defs.specs.Symbols.{symbols_at, AreKnownSymbols};
 ghost use Rattle.sequent.specs.Sequents as numbers;
 ghost use Rattle.hol_rules.specs.Kept.{step_count};
@@ -14,7 +17,7 @@ use hol_defs::Symbols;
 use hol_spec::StepKind;
 use hol_term::TermTable;
 use hol_variables::ParamMemo;
-use sequent::Sequent;
+use sequent::{Params, Sequent};
 use std::alloc::Global;
 use std::marker::Model;
 
@@ -101,7 +104,7 @@ impl Proof {
         requires { id < step_count self.now }
         ensures { result ≡ (step_at self.now.made id).kind }
     {
-        self.step(id).kind
+        self.step(id).inference.kind()
     }
 
     /// The numbers of the steps that were a step's premises.
@@ -109,7 +112,7 @@ impl Proof {
         requires { id < step_count self.now }
         ensures { result.now ≡ (step_at self.now.made id).premises }
     {
-        &self.step(id).premises
+        self.step(id).inference.premises()
     }
 
     /// What a step's rule was given beside its premises.
@@ -119,6 +122,18 @@ impl Proof {
         ensures known { AreParametersKnown self.now.trees result.now }
     {
         &self.step(id).parameters
+    }
+
+    /// The parameters of a step's sequent, each in order of first occurrence in the hypotheses in order, and then in the
+    /// conclusion. They are read off what is noted of its terms, and found by a walk where that isn't kept.
+    pub fn params_of(&self, id: StepId) -> Result<Params, Memory>
+        requires { id < step_count self.now }
+        ensures type_vars { IfOk result (λ params. params.type_vars ≡ type_variables_of (sequent_at self.now.made id)) }
+        ensures free_vars { IfOk result (λ params. variables_of self.now.trees params.free_vars ≡ free_variables_of (sequent_at self.now.made id)) }
+        ensures known { IfOk result (λ params. HaveTypes self.now.trees params.free_vars) }
+        ensures one_each { IfOk result (λ params. type.IsDistinct self.now.trees.types) }
+    {
+        self.params.params(&self.terms, self.sequent(id))
     }
 
     // A step.

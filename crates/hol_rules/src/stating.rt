@@ -30,8 +30,8 @@ impl Proof {
         ensures { Concludes self.old (axiom_step (terms_at self.old.trees hyps.now) (term_at self.old.trees concl.0)) self.new result }
     {
         self.judge_truth(hyps, concl)?;
-        let given = self.stated(hyps, concl)?;
         let sequent = self.stated(hyps, concl)?;
+        let given = again(&sequent)?;
         self.conclude(StepKind::Axiom, &[], Parameters::Sequent(given), sequent)
     }
 
@@ -43,8 +43,8 @@ impl Proof {
         ensures { Concludes self.old (restate_step self.old.made one (terms_at self.old.trees hyps.now) (term_at self.old.trees concl.0)) self.new result }
     {
         self.judge_truth(hyps, concl)?;
-        let given = self.stated(hyps, concl)?;
         let sequent = self.restated(one, hyps, concl)?;
+        let given = again(&sequent)?;
         self.conclude(
             StepKind::Restate,
             &[one],
@@ -102,4 +102,15 @@ impl Proof {
         let hyps = self.hyps_of(hyps)?;
         Ok(Sequent { hyps, concl })
     }
+}
+
+// The same sequent, which shares its hypotheses.
+fn again(sequent: &Sequent) -> Result<Sequent, Memory>
+    ensures { IfOk result (λ same. same ≡ sequent.now) }
+{
+    let hyps = sequent.hyps.clone()?;
+    Ok(Sequent {
+        hyps,
+        concl: sequent.concl,
+    })
 }

@@ -20,6 +20,7 @@ ghost use Rattle.hol_rules.specs.TypeSteps.{with_laws, with_operator, AreLawStep
 ghost use Rattle.article_spec.specs.RuleSteps.{made_of_type, type_laws};
 ghost use Rattle.hol_rules.specs.Views.{parameters_view, AreParametersKnown};
 
+use crate::inference::Inference;
 use crate::laws::{NewNames, first_law, new_part, second_law};
 use crate::made::{Made, Parameters, Step, StepId};
 use crate::proof::Proof;
@@ -371,11 +372,10 @@ fn law_step(
 ) -> Result<Step, Memory>
     ensures { IfOk result (λ step. IsLawStep version kind (named_by names.entry) one sequent step) }
 {
-    let premises = Vec::from_slice(alloc, &[one])?;
+    let inference = Inference::new(kind, &[one]);
     let parameters = law_parameters(alloc, names, version)?;
     Ok(Step {
-        kind,
-        premises,
+        inference,
         parameters,
         sequent,
     })

@@ -5,3 +5,4 @@ mod Owned
 mod Measured
 mod Found
 mod Walked
+mod Taken

@@ -9,7 +9,7 @@ use Rattle.hol_spec.specs.NameEquality.{name_eq}
 use Rattle.hol_spec.specs.Lists.{distinct, union}
 use Rattle.hol_spec.specs.Types.{HolType}
 use Rattle.hol_type.specs.Tables as type
-use Rattle.hol_spec.specs.Sequents.{type_variables_of, free_variables_of, parameter_count}
+use Rattle.hol_spec.specs.Sequents.{Sequent as ASequent, terms_of, type_variables_of, free_variables_of, parameter_count}
 use Rattle.hol_spec.specs.Terms.{Term, Variable as AVariable, variable_eq, type_variable_places, free_places}
 use Rattle.hol_term.specs.declared.TermId.{TermId}
 use Rattle.hol_term.specs.declared.Variable.{Variable}
@@ -20,7 +20,7 @@ use Rattle.sequent.specs.Sequents.{sequent_at}
 use Rattle.hol_variables.specs.declared.counting.Found.{Found}
 use Rattle.hol_variables.specs.declared.lists.ListId.{ListId}
 use Rattle.hol_variables.specs.Lists.{Tells}
-use Rattle.hol_variables.specs.Noted.{Gathers}
+use Rattle.hol_variables.specs.Noted.{AreOfSequent, AreOfTerm, Gathers}
 use Rattle.hol_variables.specs.Variables.{AreNames, AreVariables, name_at, variable_at, variable_count}
 use Rattle.hol_variables.proofs.Gathered.{places-last}
 use Rattle.hol_variables.proofs.Names.{AreNames-none, AreNames-union, AreVariables-none, AreVariables-union}
@@ -82,43 +82,58 @@ module _ (trees : Trees) (all : List TermId) where
         (g.variables (flat_map free_places (terms_at trees h.done)) h.variables);
   }
 
--- the conclusion's variables and the hypotheses', and the hypotheses
-pub found_count : (trees : Trees) (s : Sequent) (rest ids : List TermId) (old new : Found) (names variables : List ℕ) → rest ≡ []
-    → IsFinding trees s.hyps rest old → Gathers trees s.concl old new
-    → names ≡ new.names → variables ≡ new.variables → ids ≡ s.hyps
-    → min (length names + length variables + length ids) (2 ^ 64 - 1) ≡ min (parameter_count (sequent_at trees s)) (2 ^ 64 - 1)
-found_count trees s rest ids old new names variables none h g en ev eh =
+-- the conclusion's variables and the hypotheses' are the sequent's
+pub finding_ends : (trees : Trees) (s : Sequent) (rest : List TermId) (old new : Found) → rest ≡ [] → IsFinding trees s.hyps rest old
+    → Gathers trees s.concl old new → AreOfSequent trees (sequent_at trees s) new.names new.variables
+finding_ends trees s rest old new none h g =
     let all : s.hyps ≡ h.done = h.whole ∙ ap (λ l. h.done ++ l) none ∙ append-nil h.done in
     let ts = terms_at trees h.done in
     let t = term_at trees s.concl.0 in
     let terms : ts ++ t ∷ [] ≡ terms_at trees s.hyps ++ t ∷ [] = ap (λ l. terms_at trees l ++ t ∷ []) (sym all) in
-    let a = (g.names (flat_map type_variable_places ts) h.names).are in
-    let b = (g.variables (flat_map free_places ts) h.variables).are in
-    let n = ap length en ∙ sym (length-map new.names (name_at trees.types))
-    ∙ ap length (a ∙ ap (distinct name_eq) (places-last type_variable_places ts t ∙ ap (flat_map type_variable_places) terms)) in
-    let v = ap length ev ∙ sym (length-map new.variables (variable_at trees))
-    ∙ ap length (b ∙ ap (distinct variable_eq) (places-last free_places ts t ∙ ap (flat_map free_places) terms)) in
+    record {
+      type_variables = subst (λ ps. AreNames trees.types ps new.names) (places-last type_variable_places ts t ∙ ap (flat_map type_variable_places) terms)
+          (g.names (flat_map type_variable_places ts) h.names);
+      free_variables = subst (λ ps. AreVariables trees ps new.variables) (places-last free_places ts t ∙ ap (flat_map free_places) terms)
+          (g.variables (flat_map free_places ts) h.variables);
+    }
+
+-- the same lists are so, too
+pub AreOfSequent-same : (trees : Trees) (s : ASequent) (own free names variables : List ℕ) → names ≡ own → variables ≡ free
+    → AreOfSequent trees s own free → AreOfSequent trees s names variables
+AreOfSequent-same trees s own free names variables e f h = record {
+  type_variables = subst (AreNames trees.types (flat_map type_variable_places (terms_of s))) (sym e) h.type_variables;
+  free_variables = subst (AreVariables trees (flat_map free_places (terms_of s))) (sym f) h.free_variables;
+}
+
+-- of a sequent without hypotheses they are the conclusion's
+pub AreOfSequent-alone : (trees : Trees) (s : Sequent) (names variables : List ℕ) → s.hyps ≡ [] → AreOfTerm trees s.concl.0 names variables
+    → AreOfSequent trees (sequent_at trees s) names variables
+AreOfSequent-alone trees s names variables e h =
+    subst (λ hyps. AreOfSequent trees (sequent_at trees (record { hyps = hyps; concl = s.concl })) names variables) (sym e) (record {
+      type_variables = subst (λ ps. AreNames trees.types ps names) (sym (append-nil (type_variable_places (term_at trees s.concl.0)))) h.type_variables;
+      free_variables = subst (λ ps. AreVariables trees ps variables) (sym (append-nil (free_places (term_at trees s.concl.0)))) h.free_variables;
+    })
+
+-- as many as there are of them, and the hypotheses
+pub found_count : (trees : Trees) (s : Sequent) (ids : List TermId) (own free names variables : List ℕ) → AreOfSequent trees (sequent_at trees s) own free
+    → names ≡ own → variables ≡ free → ids ≡ s.hyps
+    → min (length names + length variables + length ids) (2 ^ 64 - 1) ≡ min (parameter_count (sequent_at trees s)) (2 ^ 64 - 1)
+found_count trees s ids own free names variables h en ev eh =
+    let n = ap length en ∙ sym (length-map own (name_at trees.types)) ∙ ap length h.type_variables.are in
+    let v = ap length ev ∙ sym (length-map free (variable_at trees)) ∙ ap length h.free_variables.are in
     let k = ap length eh ∙ sym (length-map s.hyps (λ (id : TermId). term_at trees id.0)) in
     λ i. min (n i + v i + k i) (2 ^ 64 - 1)
 
--- what is taken of a list
-pub names_gathered : (types : List HolType) → type.IsDistinct types
-    → (places : List Name) (lists : List (List ℕ)) (o : Option ListId) (id : ListId) (found new numbers list : List ℕ) → Tells (AreNames types places) lists o
-    → o ≡ Some id → slice_get lists id.0 ≡ Some list → numbers ≡ list → new ≡ union nat_eq found numbers
-    → (before : List Name) → AreNames types before found → AreNames types (before ++ places) new
-names_gathered types d places lists o id found new numbers list t e at n u before h =
-    let own = subst (Tells (AreNames types places) lists) e t in
-    let same = n ∙ same_Some _ _ (sym at ∙ own.is) in
-    subst (AreNames types (before ++ places)) (sym (u ∙ ap (union nat_eq found) same)) (AreNames-union types d before places found own.list h own.such)
-
-pub variables_gathered : (trees : Trees) → IsDistinct trees.terms
-    → (places : List AVariable) (lists : List (List ℕ)) (o : Option ListId) (id : ListId) (found new numbers list : List ℕ)
-    → Tells (AreVariables trees places) lists o → o ≡ Some id → slice_get lists id.0 ≡ Some list → numbers ≡ list → new ≡ union nat_eq found numbers
-    → (before : List AVariable) → AreVariables trees before found → AreVariables trees (before ++ places) new
-variables_gathered trees d places lists o id found new numbers list t e at n u before h =
-    let own = subst (Tells (AreVariables trees places) lists) e t in
-    let same = n ∙ same_Some _ _ (sym at ∙ own.is) in
-    subst (AreVariables trees (before ++ places)) (sym (u ∙ ap (union nat_eq found) same)) (AreVariables-union trees d before places found own.list h own.such)
+-- what is taken of a term
+pub Gathers-lists : (trees : Trees) (id : TermId) (names variables : List ℕ) (old new : Found) → type.IsDistinct trees.types → IsDistinct trees.terms
+    → AreOfTerm trees id.0 names variables → new.names ≡ union nat_eq old.names names → new.variables ≡ union nat_eq old.variables variables
+    → Gathers trees id old new
+Gathers-lists trees id names variables old new dt d h en ev = record {
+  names = λ before n. subst (AreNames trees.types (before ++ type_variable_places (term_at trees id.0))) (sym en)
+      (AreNames-union trees.types dt before (type_variable_places (term_at trees id.0)) old.names names n h.type_variables);
+  variables = λ before v. subst (AreVariables trees (before ++ free_places (term_at trees id.0))) (sym ev)
+      (AreVariables-union trees d before (free_places (term_at trees id.0)) old.variables variables v h.free_variables);
+}
 
 -- a list that is kept has the variables that its term has
 pub variables_listed : (trees : Trees) (places : List AVariable) (lists : List (List ℕ)) (o : Option ListId) (id : ListId) (numbers list : List ℕ)
@@ -134,11 +149,11 @@ names_listed types places lists o id numbers list t e at n =
     subst (AreNames types places) (sym (n ∙ same_Some _ _ (sym at ∙ own.is))) own.such
 
 -- the lists of a term's variables have as many numbers as it has variables
-pub listed_count : (trees : Trees) (t : Term) (names variables : List ℕ) (n : ℕ) → AreNames trees.types (type_variable_places t) names
-    → AreVariables trees (free_places t) variables → n ≡ min (length names + length variables) (2 ^ 64 - 1) → n ≡ min (variable_count t) (2 ^ 64 - 1)
-listed_count trees t names variables n a b e =
-    let k = sym (length-map names (name_at trees.types)) ∙ ap length a.are in
-    let v = sym (length-map variables (variable_at trees)) ∙ ap length b.are in
+pub listed_count : (trees : Trees) (id : ℕ) (names variables : List ℕ) (n : ℕ) → AreOfTerm trees id names variables
+    → n ≡ min (length names + length variables) (2 ^ 64 - 1) → n ≡ min (variable_count (term_at trees id)) (2 ^ 64 - 1)
+listed_count trees id names variables n h e =
+    let k = sym (length-map names (name_at trees.types)) ∙ ap length h.type_variables.are in
+    let v = sym (length-map variables (variable_at trees)) ∙ ap length h.free_variables.are in
     e ∙ λ i. min (k i + v i) (2 ^ 64 - 1)
 
 -- a sequent without hypotheses has the parameters of its conclusion

@@ -1,5 +1,5 @@
 -- Unions of lists, and the numbers of lists that are kept.
-use Rattle.std.proofs.Common.{◌≡◌, ℕ, ◌<◌, refl, sym, ap, ◌∙◌, List, [], ◌∷◌, ◌++◌, length, true, cond, ◌||◌, Option, Some, None}
+use Rattle.std.proofs.Common.{◌≡◌, ℕ, ◌<◌, refl, sym, ap, ◌∙◌, List, [], ◌∷◌, ◌++◌, length, subst, true, cond, ◌||◌, Option, Some, None}
 use Rattle.std.specs.Prelude.{slice_get, unwrap_or, nat_eq}
 use Rattle.std.specs.List.{list_all, IsDistinct}
 use Rattle.std.proofs.lemmas.Bool.Decides.{Decides-eqb, Decides-like, same_from_decides}
@@ -7,7 +7,7 @@ use Rattle.std.proofs.lemmas.Option.{slice_get_within, slice_get-get_or, unwrap_
 use Rattle.std.proofs.Math.Path.{ap₂}
 use Rattle.std.proofs.lemmas.Bool.{and_parts, and_from, or_right}
 use Rattle.hol_spec.specs.Lists.{is_in, union}
-use Rattle.hol_laws.specs.ListLaws.{distinct-itself}
+use Rattle.hol_laws.specs.ListLaws.{distinct-itself, union-IsDistinct}
 use Rattle.hol_laws.specs.PlaceLaws.{slice_get-append}
 use Rattle.hol_variables.specs.declared.lists.ListId.{ListId}
 use Rattle.hol_variables.specs.Lists.{list_in, KeepsLists, Tells, IsThere, HasUnion}
@@ -26,6 +26,15 @@ union-all_in (y ∷ ys) xs e =
 -- the union with nothing is a list without repeats itself
 pub union-none : (xs : List ℕ) → IsDistinct nat_eq xs → union nat_eq [] xs ≡ xs
 union-none xs h = distinct-itself nat_eq (λ m n e. nat_eq-sym n m ∙ e) xs h
+
+-- of no numbers none stands twice, nor where one more is taken, if it is new
+pub none_twice : (own : List ℕ) → own ≡ [] → IsDistinct nat_eq own
+unfolding IsDistinct
+none_twice own e = subst (IsDistinct nat_eq) (sym e) tt
+
+pub none_twice-add : (old new : List ℕ) (n : ℕ) → IsDistinct nat_eq old → new ≡ union nat_eq old (n ∷ []) → IsDistinct nat_eq new
+none_twice-add old new n h e =
+    subst (IsDistinct nat_eq) (sym e) (union-IsDistinct nat_eq (λ k m f. nat_eq-sym m k ∙ f) (n ∷ []) old h)
 
 -- a list with one number more has what it had
 all_in-more : (ys xs : List ℕ) (x : ℕ) → list_all (λ n. is_in nat_eq n xs) ys ≡ true → list_all (λ n. is_in nat_eq n (x ∷ xs)) ys ≡ true

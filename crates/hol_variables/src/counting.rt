@@ -7,7 +7,7 @@ ghost use Rattle.hol_spec.specs.Terms.{free_places, variable_eq};
 ghost use Rattle.hol_term.specs.Tables.{Trees, term_at, IsDistinct};
 ghost use Rattle.hol_type.specs.Tables as type;
 ghost use Rattle.sequent.specs.Sequents.{sequent_at, IsKnown};
-ghost use Rattle.hol_variables.specs.Noted.{AreNoted, Gathers};
+ghost use Rattle.hol_variables.specs.Noted.{AreNoted, AreOfSequent, AreOfTerm, Gathers};
 ghost use Rattle.hol_variables.specs.Variables.{variable_count, variable_view, variable_at, IsVariableAt};
 
 use crate::ParamMemo;
@@ -20,12 +20,12 @@ use std::alloc::Global;
 /// The variables that were found.
 #[derive(Drop)]
 pub(crate) struct Found {
-    names: Numbers,
-    variables: Numbers,
+    pub(crate) names: Numbers,
+    pub(crate) variables: Numbers,
 }
 
 impl Found {
-    fn new(alloc: Global) -> Self
+    pub(crate) fn new(alloc: Global) -> Self
         ensures names { result.names ≡ [] }
         ensures variables { result.variables ≡ [] }
     {
@@ -37,14 +37,13 @@ impl Found {
 }
 
 impl ParamMemo {
-    // The number of a sequent's parameters, where all is noted: `None` where the lists of a term are not kept.
+    // The number of a sequent's parameters: `None` where a term isn't noted, or its lists are not kept.
     pub(crate) fn counted(
         &self,
         terms: &TermTable,
         sequent: &Sequent,
     ) -> Result<Option<usize>, Memory>
         requires noted { AreNoted terms.now self.now }
-        requires all_terms { length self.now.terms.items ≡ length terms.now.terms }
         requires known { IsKnown terms.now sequent.now }
         ensures { IfOk result (λ count. IfSome count (λ n. n ≡ min (parameter_count (sequent_at terms.now sequent.now)) (2 ^ 64 - 1))) }
     {
@@ -52,12 +51,7 @@ impl ParamMemo {
             return Ok(self.listed(terms, sequent.concl));
         }
         let mut found = Found::new(self.alloc);
-        for id in sequent.hyps.ids() {
-            if !self.gather(terms, *id, &mut found)? {
-                return Ok(None);
-            }
-        }
-        if !self.gather(terms, sequent.concl, &mut found)? {
+        if !self.find(terms, sequent, &mut found)? {
             return Ok(None);
         }
         let names = found.names.numbers().len();
@@ -65,39 +59,69 @@ impl ParamMemo {
         Ok(Some(variables.saturating_add(sequent.hyps.ids().len())))
     }
 
-    // The number of a term's type variables and free variables, where all is noted: `None` where their lists are not kept.
+    // The number of a term's type variables and free variables: `None` where it isn't noted, or its lists are not kept.
     fn listed(&self, terms: &TermTable, id: TermId) -> Option<usize>
         requires noted { AreNoted terms.now self.now }
-        requires all_terms { length self.now.terms.items ≡ length terms.now.terms }
-        requires known { id.0 < length terms.now.terms }
         ensures { IfSome result (λ n. n ≡ min (variable_count (term_at terms.now id.0)) (2 ^ 64 - 1)) }
     {
+        let Some((names, variables)) = self.lists(terms, id) else {
+            return None;
+        };
+        Some(names.len().saturating_add(variables.len()))
+    }
+
+    // The numbers of a term's type variables and of its free variables: `None` where it isn't noted, or its lists are not kept.
+    pub(crate) fn lists(&self, terms: &TermTable, id: TermId) -> Option<(&[usize], &[usize])>
+        requires noted { AreNoted terms.now self.now }
+        ensures { IfSome result (λ lists. AreOfTerm terms.now id.0 lists.0.now lists.1.now) }
+    {
+        if id.0 >= self.terms.len() {
+            return None;
+        }
         let own = self.terms[id.0];
         let (Some(names), Some(variables)) = (own.names, own.variables) else {
             return None;
         };
-        let names = self.names.list(names).numbers();
-        let variables = self.variables.list(variables).numbers();
-        Some(names.len().saturating_add(variables.len()))
+        Some((
+            self.names.list(names).numbers(),
+            self.variables.list(variables).numbers(),
+        ))
     }
 
-    // Takes what is new of a term's variables, if their lists are kept.
+    // Takes the variables of a sequent's terms, if all are noted and their lists are kept.
+    pub(crate) fn find(
+        &self,
+        terms: &TermTable,
+        sequent: &Sequent,
+        found: &mut Found,
+    ) -> Result<bool, Memory>
+        requires noted { AreNoted terms.now self.now }
+        requires known { IsKnown terms.now sequent.now }
+        requires no_names { found.old.names ≡ [] }
+        requires no_variables { found.old.variables ≡ [] }
+        ensures { IfOk result (λ all. all ≡ true → AreOfSequent terms.now (sequent_at terms.now sequent.now) found.new.names found.new.variables) }
+    {
+        for id in sequent.hyps.ids() {
+            if !self.gather(terms, *id, found)? {
+                return Ok(false);
+            }
+        }
+        self.gather(terms, sequent.concl, found)
+    }
+
+    // Takes what is new of a term's variables, if it is noted and its lists are kept.
     fn gather(&self, terms: &TermTable, id: TermId, found: &mut Found) -> Result<bool, Memory>
         requires noted { AreNoted terms.now self.now }
-        requires all_terms { length self.now.terms.items ≡ length terms.now.terms }
         requires known { id.0 < length terms.now.terms }
         ensures { IfOk result (λ all. all ≡ true → Gathers terms.now id found.old found.new) }
     {
         let _head = terms.view(id);
         let _count = terms.types().count();
-        let own = self.terms[id.0];
-        let (Some(names), Some(variables)) = (own.names, own.variables) else {
+        let Some((names, variables)) = self.lists(terms, id) else {
             return Ok(false);
         };
-        found.names.unite(self.names.list(names).numbers())?;
-        found
-            .variables
-            .unite(self.variables.list(variables).numbers())?;
+        found.names.unite(names)?;
+        found.variables.unite(variables)?;
         Ok(true)
     }
 

@@ -21,14 +21,17 @@
 //! | `lists` | lists of numbers, each under a number, and their unions |
 //! | `catching_up` | what is noted of each type and term |
 //! | `counting` | the count of a sequent's parameters, by what is noted |
-//! | `walking` | the same two answers by a walk, for what has too many variables |
+//! | `reading` | the parameters of a sequent, by what is noted |
+//! | `walking` | a count and an answer by a walk, for what has too many variables |
 #![tactic(auto)]
 
 ghost use Rattle.std.specs.Prelude.{◌≡◌, ◌<◌, ◌-◌, ◌^◌, [], length, min, IfOk};
 ghost use Rattle.hol_spec.specs.Lists.{is_in};
-ghost use Rattle.hol_spec.specs.Sequents.{parameter_count};
+ghost use Rattle.hol_spec.specs.Sequents.{free_variables_of, parameter_count, type_variables_of};
 ghost use Rattle.hol_spec.specs.Terms.{free_places, variable_eq};
+ghost use Rattle.hol_term.specs.Subterms.{HaveTypes, variables_of};
 ghost use Rattle.hol_term.specs.Tables.{Trees, term_at};
+ghost use Rattle.hol_type.specs.Tables as type;
 ghost use Rattle.sequent.specs.Sequents.{sequent_at, IsKnown};
 ghost use Rattle.hol_variables.specs.Noted.{AreNoted};
 ghost use Rattle.hol_variables.specs.Variables.{variable_view};
@@ -37,13 +40,14 @@ mod catching_up;
 mod counting;
 mod lists;
 mod numbers;
+mod reading;
 mod walking;
 
 use crate::lists::{ListId, Lists};
 use crate::walking::{is_walked, walked};
 use common::Memory;
 use hol_term::{TermId, TermTable, Variable};
-use sequent::Sequent;
+use sequent::{Params, Sequent};
 use std::alloc::Global;
 
 /// What is noted of the types and the terms of a table: the variables of each, by number.
@@ -89,6 +93,24 @@ impl ParamMemo {
             Some(count) => Ok(count),
             None => walked(self.alloc, terms, sequent),
         }
+    }
+
+    /// The type variables and the free variables of a sequent, each in order of first occurrence in the hypotheses in order, and then in the
+    /// conclusion. They are read off what is noted, and found by a walk where a term isn't noted yet or has a list that isn't kept.
+    pub fn params(&self, terms: &TermTable, sequent: &Sequent) -> Result<Params, Memory>
+        requires known { IsKnown terms.now sequent.now }
+        requires noted { AreNoted terms.now self.now }
+        ensures type_vars { IfOk result (λ params. params.type_vars ≡ type_variables_of (sequent_at terms.now sequent.now)) }
+        ensures free_vars { IfOk result (λ params. variables_of terms.now params.free_vars ≡ free_variables_of (sequent_at terms.now sequent.now)) }
+        ensures known { IfOk result (λ params. HaveTypes terms.now params.free_vars) }
+        ensures one_each { IfOk result (λ params. type.IsDistinct terms.now.types) }
+    {
+        let mut params = Params::new(self.alloc);
+        if self.read(terms, sequent, &mut params)? {
+            return Ok(params);
+        }
+        drop(params);
+        sequent.params(self.alloc, terms)
     }
 
     /// Whether the variable is free in the term.

@@ -4,22 +4,25 @@ ghost use Rattle.std.specs.List.{list_all, IsDistinct};
 ghost use Rattle.hol_spec.specs.Lists.{is_in, union};
 
 use common::Memory;
-use indexmap::IndexSet;
 use std::alloc::Global;
 use std::marker::Model;
+use tree_map::TreeSet;
 
 /// Numbers, each once. Contracts see the list of them, in the order in which they came.
 #[derive(Drop)]
 pub(crate) struct Numbers {
-    numbers: IndexSet<usize>,
+    numbers: TreeSet<usize>,
 }
 
 impl Model for Numbers {
-    ghost use Rattle.std.specs.Prelude.{List, ℕ};
+    ghost use Rattle.std.specs.Prelude.{List, ℕ, nat_eq};
+    ghost use Rattle.std.specs.List.{IsDistinct};
 
     ghost Value = { List ℕ };
 
-    ghost view = { λ n. n.numbers.keys };
+    ghost view = { λ n. n.numbers };
+
+    ghost invariant = { λ n. IsDistinct nat_eq n.numbers };
 }
 
 impl Numbers {
@@ -28,7 +31,7 @@ impl Numbers {
         ensures empty { result ≡ [] }
     {
         Numbers {
-            numbers: IndexSet::new(alloc),
+            numbers: TreeSet::new(alloc),
         }
     }
 

@@ -1,34 +1,36 @@
-use Rattle.hol_rules.proofs.Truths.{restate-ends, restate-fails}
+use Rattle.hol_rules.proofs.Truths.{given_stated, restate-ends, restate-fails}
 use Rattle.hol_rules.proofs.Concluded.{Grows-refl, fails-both, refused, stopped}
 use Rattle.hol_rules.proofs.Ends.{ended}
 use Rattle.hol_rules.proofs.proof.Proof.restate.Goals as goal
 
 pub conclude-requires-clause-follows : goal.conclude-requires-clause-follows
 conclude-requires-clause-follows c =
-    (restate-ends c.args.self.now c.args.hyps.now c.args.concl c.in_ok-given.given c.in_ok-sequent.sequent c.in_ok-judge_truth.ensures.truths
-    c.in_ok-given.ensures.stated c.in_ok-sequent.ensures.stated c.args.one c.requires.one c.in_ok-sequent.ensures.within).follows
+    (restate-ends c.args.self.now c.args.hyps.now c.args.concl c.in_ok-judge_truth.ensures.truths c.in_ok-given.given c.in_ok-sequent.sequent
+    c.in_ok-given.ensures c.in_ok-sequent.ensures.stated c.args.one c.requires.one c.in_ok-sequent.ensures.within).follows
 
 pub returns : goal.returns
 returns c =
-    ended (restate-ends c.args.self.now c.args.hyps.now c.args.concl c.in_ok-given.given c.in_ok-sequent.sequent c.in_ok-judge_truth.ensures.truths
-    c.in_ok-given.ensures.stated c.in_ok-sequent.ensures.stated c.args.one c.requires.one c.in_ok-sequent.ensures.within)
+    ended (restate-ends c.args.self.now c.args.hyps.now c.args.concl c.in_ok-judge_truth.ensures.truths c.in_ok-given.given c.in_ok-sequent.sequent
+    c.in_ok-given.ensures c.in_ok-sequent.ensures.stated c.args.one c.requires.one c.in_ok-sequent.ensures.within)
     c.conclude.new.self c.conclude.result c.conclude.ensures
 
 pub returns-in_err-judge_truth : goal.returns-in_err-judge_truth
 returns-in_err-judge_truth c = refused (Grows-refl c.args.self.now) _ c.from_residual.result c.in_err-judge_truth.field-0.0 c.from_residual.ensures.1
     (fails-both _ _ _ c.in_err-judge_truth.ensures.refused)
 
-pub returns-in_err-given : goal.returns-in_err-given
-returns-in_err-given c = stopped (Grows-refl c.args.self.now) _ c.from_residual-in_err-given.result c.from_residual-in_err-given.ensures.1
-
 pub returns-in_err-sequent : goal.returns-in_err-sequent
 returns-in_err-sequent c =
     refused (Grows-refl c.args.self.now) _ c.from_residual-in_err-sequent.result c.in_err-sequent.field-0.0 c.from_residual-in_err-sequent.ensures.1
-    (restate-fails c.args.self.now c.args.hyps.now c.args.concl c.in_ok-given.given c.in_ok-given.given c.in_ok-judge_truth.ensures.truths
-    c.in_ok-given.ensures.stated c.in_ok-given.ensures.stated c.args.one c.in_err-sequent.field-0.0 c.in_err-sequent.ensures.refused)
+    (restate-fails c.args.self.now c.args.hyps.now c.args.concl c.in_ok-judge_truth.ensures.truths c.args.one c.in_err-sequent.field-0.0
+    c.in_err-sequent.ensures.refused)
+
+pub returns-in_err-given : goal.returns-in_err-given
+returns-in_err-given c = stopped (Grows-refl c.args.self.now) _ c.from_residual-in_err-given.result c.from_residual-in_err-given.ensures.1
 
 pub conclude-requires-clause-parameters : goal.conclude-requires-clause-parameters
-conclude-requires-clause-parameters c = c.in_ok-given.ensures.stated.known
+conclude-requires-clause-parameters c =
+    (given_stated c.args.self.now c.args.hyps.now c.args.concl c.in_ok-judge_truth.ensures.truths c.in_ok-given.given c.in_ok-sequent.sequent
+    c.in_ok-given.ensures c.in_ok-sequent.ensures.stated).known
 
 pub conclude-requires-clause-sequent : goal.conclude-requires-clause-sequent
 conclude-requires-clause-sequent c = c.in_ok-sequent.ensures.stated.known
