@@ -1,5 +1,3 @@
-mod NotedLaws
-mod KeyLaws
 mod ListSteps
 mod VisitLaws
 mod EndsLaws

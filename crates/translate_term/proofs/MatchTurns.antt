@@ -5,14 +5,15 @@ use Rattle.lp_spec.specs.Substitution.{sub}
 use Rattle.lp_term.specs.declared.LpId.{LpId}
 use Rattle.lp_term.specs.Tables.{tree_at, Holds}
 use Rattle.lp_term.specs.TableLaws.{Holds-tree_at}
+use Rattle.translate_term.specs.declared.generic.Binder.{Binder}
 use Rattle.translate_term.specs.declared.generic.Meeting.{Meeting}
 use Rattle.translate_term.specs.Tasks.{IsNoted, IsDone}
-use Rattle.translate_term.specs.Patterns.{Fits, Mentions, IsLeft, IsMatching, work}
+use Rattle.translate_term.specs.Patterns.{Fits, Mentions, IsLeft, IsMatching, binder, work}
 
 -- a matching at its beginning
-pub matching_begins : (want : ℕ → Tree) (trees : List Tree) (pattern instance : LpId) (found : List (ℕ × LpId)) → pattern.0 < length trees
+pub matching_begins : (want : ℕ → Tree) (trees : List Tree) (pattern instance : LpId) (found : List (Binder × LpId)) → pattern.0 < length trees
     → instance.0 < length trees
-    → tree_at trees instance.0 ≡ sub want (tree_at trees pattern.0) → ((k : ℕ) (id : LpId) → IsNoted found k id → ⊥)
+    → tree_at trees instance.0 ≡ sub want (tree_at trees pattern.0) → ((k : Binder) (id : LpId) → IsNoted found k id → ⊥)
     → IsMatching want (tree_at trees pattern.0) trees (record { pattern = pattern; instance = instance } ∷ []) found
 matching_begins want trees pattern instance found p i f empty = record {
   fit = (p, i, f, tt {0});
@@ -30,12 +31,6 @@ Fits-parts want trees pattern instance f x g y h k fits =
     same-parts (tree_at trees g.0) (tree_at trees y.0) (sub want (tree_at trees f.0)) (sub want (tree_at trees x.0))
     (sym (Holds-tree_at trees instance.0 _ k) ∙ fits ∙ ap (sub want) (Holds-tree_at trees pattern.0 _ h))
 
--- and a variable meets what is wanted for it
-pub Fits-variable : (want : ℕ → Tree) (trees : List Tree) (pattern instance : LpId) (number : ℕ) → Holds trees pattern.0 (Var number)
-    → Fits want trees pattern instance
-    → tree_at trees instance.0 ≡ want number
-Fits-variable want trees pattern instance number h fits = fits ∙ ap (sub want) (Holds-tree_at trees pattern.0 _ h)
-
 -- what is no application
 abbrev pub is_application : Tree → Bool
 is_application SortType = false
@@ -46,7 +41,7 @@ is_application (App f x) = true
 is_application (Lam a b) = false
 is_application (Pi a b) = false
 
-module _ (want : ℕ → Tree) (root : Tree) (trees : List Tree) (task : Meeting) (tasks : List Meeting) (found : List (ℕ × LpId)) where
+module _ (want : ℕ → Tree) (root : Tree) (trees : List Tree) (task : Meeting) (tasks : List Meeting) (found : List (Binder × LpId)) where
   -- a tree in which never variable stands
   pub matching_nothing : ((k : ℕ) → Mentions k (tree_at trees task.pattern.0) → ⊥) → IsMatching want root trees (task ∷ tasks) found
       → IsMatching want root trees tasks found
@@ -57,25 +52,27 @@ module _ (want : ℕ → Tree) (root : Tree) (trees : List Tree) (task : Meeting
   }
 
   -- a variable
-  pub matching_variable : (number : ℕ) (after : List (ℕ × LpId)) → Holds trees task.pattern.0 (Var number)
-      → ((k : ℕ) (id : LpId) → IsNoted after k id → IsNoted found k id ⊎ ((k ≡ number) × (id ≡ task.instance)))
-      → IsNoted after number task.instance → ((k : ℕ) (id : LpId) → IsNoted found k id → (k ≡ number) ⊎ IsNoted after k id)
+  pub matching_variable : (number : ℕ) (after : List (Binder × LpId)) → Holds trees task.pattern.0 (Var number)
+      → ((k : Binder) (id : LpId) → IsNoted after k id → IsNoted found k id ⊎ ((k ≡ binder number) × (id ≡ task.instance)))
+      → IsNoted after (binder number) task.instance
+      → ((k : Binder) (id : LpId) → IsNoted found k id → (k ≡ binder number) ⊎ IsNoted after k id)
       → IsMatching want root trees (task ∷ tasks) found → IsMatching want root trees tasks after
   matching_variable number after h only new kept m = record {
     fit = m.fit.3;
     noted = λ k id n. ⊎_elim (λ a. m.noted k id a) (λ b. noted k id b.0 b.1) (only k id n);
-    all = λ k s. ⊎_elim (λ d. inl (⊎_elim (λ e. this k e) (λ n. (d.0, n)) (kept k d.0 d.1)))
-        (λ l. ⊎_elim (λ q. inl (this k (sym (subst (λ t. Mentions k t) (Holds-tree_at trees task.pattern.0 (Var number) h) q)))) (λ r. inr r) l) (m.all k s);
+    all = λ k s. ⊎_elim (λ d. inl (⊎_elim (λ e. this (binder k) e) (λ n. (d.0, n)) (kept (binder k) d.0 d.1)))
+        (λ l. ⊎_elim (λ q. inl (this (binder k) (ap binder (sym (subst (λ t. Mentions k t) (Holds-tree_at trees task.pattern.0 (Var number) h) q)))))
+        (λ r. inr r) l) (m.all k s);
   }
     where
-      this : (k : ℕ) → k ≡ number → IsDone after k
+      this : (k : Binder) → k ≡ binder number → IsDone after k
       this k e = (task.instance, subst (λ j. IsNoted after j task.instance) (sym e) new)
 
       is : tree_at trees task.instance.0 ≡ want number
       is = m.fit.2 ∙ ap (sub want) (Holds-tree_at trees task.pattern.0 (Var number) h)
 
-      noted : (k : ℕ) (id : LpId) → k ≡ number → id ≡ task.instance → (id.0 < length trees) × (tree_at trees id.0 ≡ want k)
-      noted k id e f = subst (λ (i : LpId). (i.0 < length trees) × (tree_at trees i.0 ≡ want k)) (sym f) (m.fit.1, is ∙ ap want (sym e))
+      noted : (k : Binder) (id : LpId) → k ≡ binder number → id ≡ task.instance → (id.0 < length trees) × (tree_at trees id.0 ≡ want k.0)
+      noted k id e f = subst (λ (i : LpId). (i.0 < length trees) × (tree_at trees i.0 ≡ want k.0)) (sym f) (m.fit.1, is ∙ ap (λ (b : Binder). want b.0) (sym e))
 
   -- an application
   module _ (f x : LpId) (h : Holds trees task.pattern.0 (App (tree_at trees f.0) (tree_at trees x.0))) where

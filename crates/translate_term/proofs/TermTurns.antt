@@ -1,5 +1,5 @@
 -- What a turn does to a walk over terms.
-use Rattle.std.proofs.Common.{◌≡◌, ℕ, suc, ◌+◌, ◌-◌, ◌<◌, ◌≤◌, Bool, true, false, cond, refl, sym, ap, ◌∙◌, subst, arith, List, [], ◌∷◌, length, ⊎_elim, inl, inr}
+use Rattle.std.proofs.Common.{◌≡◌, ◌⊎◌, ℕ, suc, ◌+◌, ◌-◌, ◌<◌, ◌≤◌, Bool, true, false, cond, refl, sym, ap, ◌∙◌, subst, arith, List, [], ◌∷◌, length, Some, ⊎_elim, inl, inr}
 use Rattle.std.specs.Prelude.{nat_lt}
 use Rattle.std.proofs.Math.Path.{fun_ext, ap₂}
 use Rattle.hol_spec.specs.Names.{Name}
@@ -25,10 +25,10 @@ use Rattle.lp_spec.specs.Substitution.{sub}
 use Rattle.translate_term.specs.declared.memo.Place.{Place}
 use Rattle.translate_term.specs.declared.tasks.Task.{Task}
 use Rattle.translate_term.specs.declared.tasks.Task.TheVariants.{Visit, Join}
-use Rattle.translate_term.specs.Tasks.{IsNoted, IsDone, AreAll, visits, work, PartsAre}
+use Rattle.translate_term.specs.Tasks.{IsNoted, IsDone, AreAll, OrIs, visits, work, PartsAre}
 use Rattle.translate_term.specs.Told.{TellsType, TellsTerm}
-use Rattle.translate_term.specs.Walks.{Grows, Given, IsGiven, IsTypeMemo, IsTypeStart, IsMadeAt, IsTermKnown, IsTermMemo, IsTermStart, IsTermWalk, IsApplication, IsAbstraction, HasParts, type_wanted, term_wanted, place_size}
-use Rattle.translate_term.proofs.EndsLaws.{Ends-done, Ends-noted, Ends-set_out, noted-sound}
+use Rattle.translate_term.specs.Walks.{Grows, Given, IsGiven, IsTypeMemo, IsTypeStart, IsLeafAt, IsLeafMade, IsMadeAt, IsTermKnown, IsTermMemo, IsTermStart, IsTermWalk, IsApplication, IsAbstraction, HasParts, is_leaf, type_wanted, term_wanted, place_size}
+use Rattle.translate_term.proofs.EndsLaws.{Ends-done, Ends-more, Ends-noted, Ends-set_out, noted-sound}
 use Rattle.translate_term.specs.GrowLaws.{IsGiven-Grows, AreGiven-Grows, IsTermMemo-Keeps}
 use Rattle.std.proofs.lemmas.Option.{same_Some}
 
@@ -52,6 +52,13 @@ constant-lift given d n t =
 pub free-lift : (given : Given) (d : ℕ) (n : Name) (t : HolType) → lift d (term_wanted given 0 (free n t)) ≡ term_wanted given d (free n t)
 free-lift given d n t = ap (lift d) (lift_zero ((told given.symbols given.types given.terms).terms (n, t)))
 
+pub leaf-lift : (given : Given) (d : ℕ) (t : Term) → is_leaf t ≡ true → lift d (term_wanted given 0 t) ≡ term_wanted given d t
+leaf-lift given d (free n t) h = free-lift given d n t
+leaf-lift given d (constant n t) h = constant-lift given d n t
+leaf-lift given d (bound k) h = absurd cc
+leaf-lift given d (app f x) h = absurd cc
+leaf-lift given d (lam t b) h = absurd cc
+
 -- a number is its binder's
 pub bound-wanted : (given : Given) (d k : ℕ) → term_wanted given d (bound k) ≡ Var k
 bound-wanted given d k = go (nat_lt k d) refl
@@ -70,6 +77,34 @@ lam-wanted given d t b =
     ap₂ (λ a c. Lam (term_of a) c) (sym (type-lift given.symbols (told_types given.types) d t))
     (ap (λ w. term_tree given.symbols w b) (deep-suc d (told given.symbols given.types given.terms))
     ∙ ap (λ j. term_wanted given j b) (let e : suc d ≡ d + 1 = omega arith in e))
+
+-- a term whose parts stand otherwise under binders is no such term
+pub no-leaf : (trees : Trees) (id : TermId) (t : Term) → Holds trees id.0 t → is_leaf t ≡ false → IsLeafAt trees id → ⊥
+no-leaf trees id t h other l = let e = ap is_leaf (same_Some _ _ (sym h ∙ l.is)) in let yes = l.leaf in cc
+
+-- what stands for a term was noted for one of its places
+pub leaf_noted : (key : Place) (old new : List (Place × LpId)) (trees : List Tree) (tree : Tree) (mark : LpId) → lp.Holds trees mark.0 (lift key.depth tree)
+    → ((i : Place) (r : LpId) → IsNoted new i r → IsNoted old i r ⊎ ((i ≡ key) × (r ≡ mark))) → IsNoted new key mark
+    → ((i : Place) (r : LpId) → IsNoted old i r → (i ≡ key) ⊎ IsNoted new i r) → IsLeafMade key old new trees tree
+leaf_noted key old new trees tree mark h only is kept = record {
+  only = λ i r n. ⊎_elim (λ a. inl a) (λ b. inr (ap (λ (p : Place). p.id) b.0, here i r b.0 b.1)) (only i r n);
+  kept = λ i d. ⊎_elim (λ e. (mark, subst (λ p. IsNoted new p mark) (sym e) is)) (λ n. (d.0, n)) (kept i d.0 d.1);
+  done = (mark, is);
+}
+  where
+    here : (i : Place) (r : LpId) → i ≡ key → r ≡ mark → lp.Holds trees r.0 (lift i.depth tree)
+    here i r e f =
+        subst (λ (p : Place). lp.Holds trees r.0 (lift p.depth tree)) (sym e)
+        (subst (λ (m : LpId). lp.Holds trees m.0 (lift key.depth tree)) (sym f) h)
+
+-- and then for another
+pub leaf_noted-then : (place key : Place) (old between new : List (Place × LpId)) (trees now : List Tree) (tree : Tree) → key.id ≡ place.id
+    → lp.Keeps trees now → IsLeafMade key old between trees tree → IsLeafMade place between new now tree → IsLeafMade place old new now tree
+leaf_noted-then place key old between new trees now tree e keeps f s = record {
+  only = λ i r n. ⊎_elim (λ a. ⊎_elim (λ b. inl b) (λ b. inr (b.0 ∙ e, keeps.stays.each r.0 _ b.1)) (f.only i r a)) (λ b. inr b) (s.only i r n);
+  kept = λ i d. s.kept i (f.kept i d);
+  done = s.done;
+}
 
 -- a walk at its beginning
 pub term_begins : (given : Given) (root : Place) (m : Module) (trees : Trees) (names : List (Name × LpId)) (variables : List (AVariable × LpId))
@@ -135,6 +170,27 @@ module _ (given : Given) (root : Place) (m : Module) (trees : Trees) (names : Li
       let kb : b.0 < length trees.terms = omega (arith, lb, k.known) in
       term_set_out (record { id = b; depth = place.depth + 1 } ∷ []) (record { known = kb; countable = omega (arith, lb, k.countable); told = t.1 }, tt {0})
       (inr (record { ty = ty; body = b; body_known = kb; is = h; parts_are = refl })) w
+
+  -- a free variable or a constant
+  module _ (now : Module) (grows : Grows m now) (after : List (Place × LpId)) (types_after : List (TypeId × LpId)) (t : Term) (h : Holds trees place.id.0 t)
+      (leaf : is_leaf t ≡ true) (is : IsLeafMade place made after now.table (term_wanted given 0 t))
+      (types_noted : IsTypeMemo given trees.types now.table types_after) where
+    leaf_sound : (i : Place) (r : LpId) → i.id ≡ place.id → lp.Holds now.table r.0 (lift i.depth (term_wanted given 0 t))
+        → lp.Holds now.table r.0 (term_wanted given i.depth (term_at trees i.id.0))
+    leaf_sound i r e k =
+        k ∙ ap Some (leaf-lift given i.depth t leaf ∙ ap (term_wanted given i.depth)
+        (sym (Some-term_in trees.terms place.id.0 t h) ∙ ap (λ (j : TermId). term_at trees j.0) (sym e)))
+
+    pub term_lifted : IsTermWalk given root m trees names variables (Visit place ∷ tasks) made types
+        → IsTermWalk given root now trees names variables tasks after types_after
+    term_lifted w = record {
+      reads = IsGiven-Grows grows given names w.reads;
+      variables_told = AreGiven-Grows grows given trees.types variables w.variables_told;
+      types_noted = types_noted;
+      noted = λ i r n. ⊎_elim (λ a. IsTermMemo-Keeps grows.table given trees made w.noted i r a) (λ b. leaf_sound i r b.0 b.1) (is.only i r n);
+      ends = Ends-more (IsTermKnown given trees) (HasParts trees) root tasks (OrIs (IsDone made) place) (IsDone after)
+          (λ x. ⊎_elim (is.kept x) (λ e. subst (IsDone after) (sym e) is.done)) w.ends.1;
+    }
 
   -- what a walk is given for the type in a term's head
   pub start-of : (k : IsTermKnown given trees place) (t : Term) → Holds trees place.id.0 t → (ty : TypeId) → ty.0 < length trees.types

@@ -1,7 +1,8 @@
--- Places are told apart by `==`.
+-- Places, and numbers of variables, are told apart by `==`.
 use Rattle.std.proofs.Common.{◌≡◌, true}
 use Rattle.std.proofs.lemmas.Bool.{eqb-true, and_parts}
 use Rattle.std.specs.Prelude.{nat_eq, ◌&&◌}
+use Rattle.translate_term.specs.declared.generic.Binder.{Binder}
 use Rattle.translate_term.specs.declared.memo.Place.{Place}
 
 -- places that are equal by their test are one
@@ -11,3 +12,7 @@ place_exact p q h =
     let x = eqb-true p.id.0 q.id.0 a.0 in
     let y = eqb-true p.depth q.depth a.1 in
     λ i. record { id = record { 0 = x i }; depth = y i }
+
+-- variables of equal numbers are one
+pub binder_exact : (a b : Binder) → nat_eq a.0 b.0 ≡ true → a ≡ b
+binder_exact a b h = let x = eqb-true a.0 b.0 h in λ i. record { 0 = x i }

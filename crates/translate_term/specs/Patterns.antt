@@ -11,6 +11,7 @@ use Rattle.lp_term.specs.Tables.{tree_at, trees_at, Holds}
 use Rattle.holide_sig.specs.declared.module.Module.{Module}
 use Rattle.holide_sig.specs.Modules.{declarations_of, IsHeld}
 use Rattle.translate_spec.specs.Scopes.{SymbolMap, TypeScope, constant_tree, type_tree, generic_tree}
+use Rattle.translate_term.specs.declared.generic.Binder.{Binder}
 use Rattle.translate_term.specs.declared.generic.Meeting.{Meeting}
 use Rattle.translate_term.specs.Tasks.{IsNoted, IsDone}
 use Rattle.translate_term.specs.Told.{TellsConstant}
@@ -52,11 +53,15 @@ DoFit want trees (task ∷ tasks) =
     (task.pattern.0 < length trees) × (task.instance.0 < length trees) × (tree_at trees task.instance.0 ≡ sub want (tree_at trees task.pattern.0))
     × DoFit want trees tasks
 
+-- the variable with this number
+abbrev pub binder : ℕ → Binder
+binder k = record { 0 = k }
+
 -- a matching that is to find what is wanted for the variables in a tree
-pub record IsMatching (want : ℕ → Tree) (root : Tree) (trees : List Tree) (tasks : List Meeting) (found : List (ℕ × LpId)) : Type 0 where
+pub record IsMatching (want : ℕ → Tree) (root : Tree) (trees : List Tree) (tasks : List Meeting) (found : List (Binder × LpId)) : Type 0 where
   pub fit : DoFit want trees tasks
-  pub noted : (k : ℕ) (id : LpId) → IsNoted found k id → (id.0 < length trees) × (tree_at trees id.0 ≡ want k)
-  pub all : (k : ℕ) → Mentions k root → IsDone found k ⊎ IsLeft k trees tasks
+  pub noted : (k : Binder) (id : LpId) → IsNoted found k id → (id.0 < length trees) × (tree_at trees id.0 ≡ want k.0)
+  pub all : (k : ℕ) → Mentions k root → IsDone found (binder k) ⊎ IsLeft k trees tasks
 
 -- how many turns the tasks take at most
 abbrev pub work : List Tree → List Meeting → ℕ
@@ -100,10 +105,11 @@ pub record IsPart (trees : List Tree) (whole part : Meeting) : Type 0 where
   pub fits : (want : ℕ → Tree) → Fits want trees whole.pattern whole.instance → Fits want trees part.pattern part.instance
 
 -- what was found is what is wanted then
-abbrev pub FindsWanted : List Tree → LpId → LpId → List (ℕ × LpId) → Type 0
+abbrev pub FindsWanted : List Tree → LpId → LpId → List (Binder × LpId) → Type 0
 FindsWanted trees pattern instance found =
-    (want : ℕ → Tree) → Fits want trees pattern instance → (k : ℕ) (id : LpId) → IsNoted found k id → (id.0 < length trees) × (tree_at trees id.0 ≡ want k)
+    (want : ℕ → Tree) → Fits want trees pattern instance → (k : Binder) (id : LpId) → IsNoted found k id
+    → (id.0 < length trees) × (tree_at trees id.0 ≡ want k.0)
 
 -- each matching that is here goes on to there
-abbrev pub MatchingGoesOn : List Tree → List Meeting → List (ℕ × LpId) → List Meeting → List (ℕ × LpId) → Type 0
+abbrev pub MatchingGoesOn : List Tree → List Meeting → List (Binder × LpId) → List Meeting → List (Binder × LpId) → Type 0
 MatchingGoesOn trees tasks found left now = (want : ℕ → Tree) (root : Tree) → IsMatching want root trees tasks found → IsMatching want root trees left now

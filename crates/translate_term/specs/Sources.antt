@@ -1,5 +1,5 @@
 -- What a walk over the types or the terms of a source is given, and what it makes.
-use Rattle.std.specs.Prelude.{◌≡◌, ℕ, List, ◌∷◌, Some}
+use Rattle.std.specs.Prelude.{◌≡◌, ℕ, List, [], ◌∷◌, Some}
 use Rattle.hol_spec.specs.Names.{Name}
 use Rattle.hol_spec.specs.Types.{HolType}
 use Rattle.hol_spec.specs.Terms.{free, constant}
@@ -45,6 +45,11 @@ IsOnTypes s m tasks made = (given : Given) × (root : TypeId) × IsTypeWalk give
 abbrev pub TypesGoOn : TypeSource → Module → List (Task TypeId) → List (TypeId × LpId) → Module → List (Task TypeId) → List (TypeId × LpId) → Type 0
 TypesGoOn s m tasks made n left now =
     (given : Given) (root : TypeId) → IsTypeWalk given root m s.table.now s.scope.now tasks made → IsTypeWalk given root n s.table.now s.scope.now left now
+
+-- it has ended, where it began with this type
+abbrev pub TypesEnd : TypeSource → TypeId → Module → List (TypeId × LpId) → Module → List (TypeId × LpId) → Type 0
+TypesEnd s root m made n now =
+    (given : Given) → IsTypeStart given root m s.table.now s.scope.now made → IsTypeWalk given root n s.table.now s.scope.now [] now
 
 -- it comes back to a type
 abbrev pub IsAtJoin : TypeSource → Module → TypeId → List (TypeId × LpId) → Type 0

@@ -1,16 +1,16 @@
 -- Walks over types and terms, which make their trees over a module.
-use Rattle.std.specs.Prelude.{◌≡◌, ◌⊎◌, ℕ, ◌+◌, ◌<◌, ◌^◌, List, [], ◌∷◌, length}
+use Rattle.std.specs.Prelude.{◌≡◌, ◌⊎◌, ℕ, ◌+◌, ◌<◌, ◌^◌, Bool, true, false, List, [], ◌∷◌, length}
 use Rattle.hol_spec.specs.Names.{Name}
 use Rattle.hol_spec.specs.Limits.{type_size, term_size}
 use Rattle.hol_spec.specs.Types.{HolType, operator, types_of}
-use Rattle.hol_spec.specs.Terms.{Term, app, lam, Variable}
+use Rattle.hol_spec.specs.Terms.{Term, free, bound, constant, app, lam, Variable}
 use Rattle.hol_type.specs.declared.table.TypeId.{TypeId}
 use Rattle.hol_type.specs.Tables.{tree_at, types_at}
 use Rattle.hol_type.specs.Tables as type
 use Rattle.hol_term.specs.declared.TermId.{TermId}
 use Rattle.hol_term.specs.declared.Variable.{Variable as AVariable}
 use Rattle.hol_term.specs.Tables.{Trees, term_at, type_at, Holds}
-use Rattle.lp_spec.specs.Trees.{Tree}
+use Rattle.lp_spec.specs.Trees.{Tree, lift}
 use Rattle.lp_spec.specs.Modules.{Declaration}
 use Rattle.lp_term.specs.declared.LpId.{LpId}
 use Rattle.lp_term.specs.Tables as lp
@@ -113,6 +113,25 @@ pub record IsMadeAt (place : Place) (old new : List (Place × LpId)) (trees : Li
   pub noted : IsNoted new place mark
   pub kept : (i : Place) (r : LpId) → IsNoted old i r → (i ≡ place) ⊎ IsNoted new i r
   pub holds : lp.Holds trees mark.0 tree
+
+-- a term without parts that stands for the same under any binders
+abbrev pub is_leaf : Term → Bool
+is_leaf (free n t) = true
+is_leaf (bound k) = false
+is_leaf (constant n t) = true
+is_leaf (app f x) = false
+is_leaf (lam t b) = false
+
+pub record IsLeafAt (trees : Trees) (id : TermId) : Type 0 where
+  pub term : Term
+  pub is : Holds trees id.0 term
+  pub leaf : is_leaf term ≡ true
+
+-- what stands for the term at a place under no binder was lifted there, and noted for the place, and perhaps for others of the term
+pub record IsLeafMade (place : Place) (old new : List (Place × LpId)) (trees : List Tree) (tree : Tree) : Type 0 where
+  pub only : (i : Place) (r : LpId) → IsNoted new i r → IsNoted old i r ⊎ ((i.id ≡ place.id) × lp.Holds trees r.0 (lift i.depth tree))
+  pub kept : (i : Place) → IsDone old i → IsDone new i
+  pub done : IsDone new place
 
 -- the parts of a term at a place, at theirs: a function and its argument, or the body of an abstraction
 pub record IsApplication (trees : Trees) (place : Place) (parts : List Place) : Type 0 where

@@ -1,25 +1,24 @@
 //! A constant of the tree of its type: its symbol at what the variables of its generic type have there. The generic type is read
 //! back from the declared type of the symbol, which is a product over its variables.
-ghost use Rattle.std.specs.Prelude.{◌≡◌, ◌⊎◌, ◌<◌, [], ◌∷◌, ◌++◌, ℕ, length, IfOk, IfSome, IfNone, OnOk};
+ghost use Rattle.std.specs.Prelude.{◌≡◌, ◌<◌, [], ◌∷◌, ◌++◌, ℕ, length, IfOk, IfSome, OnOk};
 ghost use Rattle.hol_spec.specs.Types.{HolType};
 ghost use Rattle.lp_spec.specs.Trees.{Tree};
 ghost use Rattle.lp_spec.specs.Modules.{signature};
-ghost use Rattle.lp_term.specs.declared.LpId.{LpId as AnId};
 ghost use Rattle.lp_term.specs.Tables.{tree_at, AreKnown};
 ghost use Rattle.holide_sig.specs.Modules.{declarations_of, IsHeld};
 ghost use Rattle.translate_spec.specs.Scopes.{SymbolMap, TypeScope};
-ghost use Rattle.translate_term.specs.Patterns.{AreArguments, FindsWanted, Fits, IsGenericType, IsInstance, IsMatching, IsPart, IsTypeTree, IsWanted, MakesInstance, MatchingGoesOn, Mentions, work};
-ghost use Rattle.translate_term.specs.Tasks.{IsDone, IsNoted};
+ghost use Rattle.translate_term.specs.Patterns.{AreArguments, FindsWanted, Fits, IsGenericType, IsInstance, IsMatching, IsPart, IsTypeTree, IsWanted, MakesInstance, MatchingGoesOn, Mentions, binder, work};
+ghost use Rattle.translate_term.specs.Keys.{binder_exact};
+ghost use Rattle.translate_term.specs.Tasks.{IsDone};
 ghost use Rattle.translate_term.specs.Walks.{Grows};
 
 use crate::symbols;
 use common::{Memory, Stack};
 use hol_name::Name;
 use holide_sig::{Module, call};
-use indexmap::IndexMap;
 use lp_term::{LpId, LpNode, LpTable};
 use std::alloc::Global;
-use std::marker::Model;
+use tree_map::{Key, Memo};
 
 /// A part of a generic type's tree, and the tree that it is to become.
 #[derive(Clone, Copy)]
@@ -28,46 +27,16 @@ pub(crate) struct Meeting {
     pub(crate) instance: LpId,
 }
 
+/// The number of a variable of a pattern.
+#[derive(Clone, Copy, PartialEq, Eq, PartialOrd, Ord)]
+pub(crate) struct Binder(u128);
+
+impl Key for Binder {
+    ghost exact = { binder_exact };
+}
+
 /// The tree for each number of a variable that was met.
-#[derive(Drop)]
-pub(crate) struct Found {
-    trees: IndexMap<u128, LpId>,
-}
-
-impl Model for Found {
-    ghost use Rattle.std.specs.Prelude.{ℕ, List};
-    ghost use Rattle.lp_term.specs.declared.LpId.{LpId as AnId};
-
-    ghost Value = { List (ℕ × AnId) };
-
-    ghost view = { λ f. f.trees.entries };
-}
-
-impl Found {
-    fn new(alloc: Global) -> Self
-        ensures empty { (k : ℕ) (id : AnId) → IsNoted result k id → ⊥ }
-    {
-        Found {
-            trees: IndexMap::new(alloc),
-        }
-    }
-
-    fn find(&self, number: u128) -> Option<LpId>
-        ensures noted { IfSome result (λ id. IsNoted self.now number id) }
-        ensures absent { IfNone result ((id : AnId) → IsNoted self.now number id → ⊥) }
-    {
-        self.trees.get(&number).copied()
-    }
-
-    fn note(&mut self, number: u128, tree: LpId) -> Result<(), Memory>
-        ensures noted { OnOk result ((k : ℕ) (id : AnId) → IsNoted self.new k id → IsNoted self.old k id ⊎ ((k ≡ number) × (id ≡ tree))) }
-        ensures new { OnOk result (IsNoted self.new number tree) }
-        ensures kept { OnOk result ((k : ℕ) (id : AnId) → IsNoted self.old k id → (k ≡ number) ⊎ IsNoted self.new k id) }
-    {
-        self.trees.insert(number, tree)?;
-        Ok(())
-    }
-}
+type Found = Memo<Binder, LpId>;
 
 // A constant of the tree of its type.
 pub(crate) fn constant_of(
@@ -82,8 +51,27 @@ pub(crate) fn constant_of(
     ensures grows { Grows target.old target.new }
 {
     let symbol = symbols::constant(target, name, text)?.unwrap();
+    if let Some(tree) = sole_argument(target, symbol, ty) {
+        return call(&mut target.table, symbol, &[tree]);
+    }
     let args = type_arguments(alloc, target, symbol, ty)?;
     call(&mut target.table, symbol, &args)
+}
+
+// The tree that the variable of the generic type of a symbol has in the tree of an instance, where it has one variable, found on one
+// way down.
+fn sole_argument(source: &Module, symbol: usize, ty: LpId) -> Option<LpId>
+    requires held { IsHeld source.now }
+    requires instance { IsInstance source.now symbol ty }
+    ensures argument { IfSome result (λ tree. AreArguments source.now symbol ty (tree ∷ [])) }
+    ensures known { IfSome result (λ tree. tree.0 < length source.now.table) }
+{
+    let (count, pattern) = generic_type(source, symbol);
+    if count == 1 {
+        sole(&source.table, pattern, ty)
+    } else {
+        None
+    }
 }
 
 // The trees that the variables of the generic type of a symbol have in the tree of an instance, in order of first occurrence.
@@ -102,17 +90,12 @@ fn type_arguments(
     if count == 0 {
         return Ok(Vec::new(alloc));
     }
-    if count == 1
-        && let Some(tree) = sole(&source.table, pattern, ty)
-    {
-        return Ok(Vec::from_slice(alloc, &[tree])?);
-    }
     let found = matched(alloc, &source.table, pattern, ty)?;
     let mut args = Vec::new(alloc);
     let mut left = count;
     while left > 0 {
         left -= 1;
-        args.push(found.find(left).unwrap())?;
+        args.push(found.find(Binder(left)).unwrap())?;
     }
     Ok(args)
 }
@@ -192,7 +175,7 @@ fn matched(alloc: Global, trees: &LpTable, pattern: LpId, instance: LpId) -> Res
     requires instance { instance.0 < length trees.now }
     requires fits { (want : ℕ → Tree) × Fits want trees.now pattern instance }
     ensures noted { IfOk result (FindsWanted trees.now pattern instance) }
-    ensures all { IfOk result (λ found. (k : ℕ) → Mentions k (tree_at trees.now pattern.0) → IsDone found k) }
+    ensures all { IfOk result (λ found. (k : ℕ) → Mentions k (tree_at trees.now pattern.0) → IsDone found (binder k)) }
 {
     let mut found = Found::new(alloc);
     let mut tasks = Stack::new(alloc);
@@ -251,7 +234,7 @@ fn turn(
     ensures less { OnOk result (work trees.now tasks.new < work trees.now (task ∷ tasks.old)) }
 {
     match trees.view(task.pattern) {
-        LpNode::Var(number) => found.note(number, task.instance),
+        LpNode::Var(number) => found.note(Binder(number), task.instance),
         LpNode::App(head, argument) => {
             let LpNode::App(function, part) = trees.view(task.instance) else {
                 return Ok(());

@@ -86,8 +86,8 @@ impl ScopeTypes {
         Ok(())
     }
 
-    // What stands for a type variable.
-    pub(crate) fn find(&self, name: &Name) -> Option<LpId>
+    /// What stands for a type variable.
+    pub fn find(&self, name: &Name) -> Option<LpId>
         ensures { result ≡ lookup (name_eq name.now) self.now }
     {
         self.pairs.get(name)
@@ -113,8 +113,8 @@ impl ScopeTerms {
         Ok(())
     }
 
-    // What stands for a free variable.
-    pub(crate) fn find(&self, variable: &Variable) -> Option<LpId>
+    /// What stands for a free variable.
+    pub fn find(&self, variable: &Variable) -> Option<LpId>
         ensures { result ≡ lookup (same_variable variable.now) self.now }
     {
         self.pairs.get(variable)

@@ -1,10 +1,9 @@
 //! The walk that makes the tree of a term.
 ghost use Rattle.std.specs.Prelude.{◌≡◌, ◌+◌, ◌<◌, ◌^◌, ◌∷◌, length, IfOk, OnOk};
-ghost use Rattle.lp_spec.specs.Trees.{lift};
 ghost use Rattle.lp_term.specs.Tables as lp;
 ghost use Rattle.translate_term.specs.declared.tasks.Task.TheVariants as task;
 ghost use Rattle.translate_term.specs.Sources.{at_root, part_at, with_task, works_left, Begins, HoldsTerm, IsConstantTold, IsOnTerms, IsOver, IsStart, MakesConstant, MakesDomain, MakesFiller, MakesFree, MakesTerm, MakesType, MayBegin, NotesTypes, TermsGoOn};
-ghost use Rattle.translate_term.specs.Walks.{AreGiven, Given, Grows, IsMadeAt};
+ghost use Rattle.translate_term.specs.Walks.{AreGiven, Given, Grows, IsLeafAt, IsLeafMade, IsMadeAt};
 
 use crate::generic::constant_of;
 use crate::memo::{Place, TermMemo, TypeMemo};
@@ -101,15 +100,53 @@ fn visit(
             TermView::App(f, x) => set_out_two(walk, place, f, x),
             TermView::Lam(_, body) => set_out_one(walk, place, body),
             TermView::Bound(k) => note_node(target, LpNode::Var(k), place, &mut walk.made),
-            TermView::Free(name, ty) => {
-                let tree = variable(source, target, &mut walk.types, name, ty)?;
-                note_lifted(target, tree, place, &mut walk.made)
-            }
-            TermView::Const(name, ty) => {
-                let tree = constant(source, target, &mut walk.types, &mut walk.text, name, ty)?;
-                note_lifted(target, tree, place, &mut walk.made)
-            }
+            TermView::Free(..) | TermView::Const(..) => visit_leaf(source, target, place, walk),
         },
+    }
+}
+
+// Lifts what is noted for a free variable or a constant under no binder, or makes it.
+fn visit_leaf(
+    source: Source<'_>,
+    target: &mut Module,
+    place: Place,
+    walk: &mut Walk,
+) -> Result<(), Memory>
+    requires leaf { IsLeafAt source.table.now place.id }
+    requires walk { IsOnTerms source target.old (with_task (task.Visit place) walk.old) }
+    ensures grows { Grows target.old target.new }
+    ensures walk { OnOk result (TermsGoOn source.entry target.old (with_task (task.Visit place) walk.old) target.new walk.new) }
+    ensures tasks { walk.new.tasks ≡ walk.old.tasks }
+{
+    match walk.made.find(at(place.id, 0)) {
+        Some(tree) => note_lifted(target, tree, place, &mut walk.made),
+        None => make_leaf(source, target, place, walk),
+    }
+}
+
+// Makes what stands for a free variable or a constant under no binder, and lifts it to its place.
+fn make_leaf(
+    source: Source<'_>,
+    target: &mut Module,
+    place: Place,
+    walk: &mut Walk,
+) -> Result<(), Memory>
+    requires leaf { IsLeafAt source.table.now place.id }
+    requires walk { IsOnTerms source target.old (with_task (task.Visit place) walk.old) }
+    ensures grows { Grows target.old target.new }
+    ensures walk { OnOk result (TermsGoOn source.entry target.old (with_task (task.Visit place) walk.old) target.new walk.new) }
+    ensures tasks { walk.new.tasks ≡ walk.old.tasks }
+{
+    match source.table.view(place.id) {
+        TermView::Free(name, ty) => {
+            let tree = variable(source, target, &mut walk.types, name, ty)?;
+            note_leaf(target, tree, place, &mut walk.made)
+        }
+        TermView::Const(name, ty) => {
+            let tree = constant(source, target, &mut walk.types, &mut walk.text, name, ty)?;
+            note_leaf(target, tree, place, &mut walk.made)
+        }
+        TermView::App(..) | TermView::Lam(..) | TermView::Bound(_) => Ok(()),
     }
 }
 
@@ -136,11 +173,29 @@ fn note_lifted(
     made: &mut TermMemo,
 ) -> Result<(), Memory>
     requires { tree.0 < length target.old.table }
-    ensures made { OnOk result (IsMadeAt place made.old made.new target.new.table (lift place.depth (lp.tree_at target.old.table tree.0))) }
+    ensures made { OnOk result (IsLeafMade place made.old made.new target.new.table (lp.tree_at target.old.table tree.0)) }
     ensures grows { Grows target.old target.new }
 {
     let lifted = target.table.lift(place.depth, tree)?;
     made.note(place, lifted)
+}
+
+// Notes a tree for a term under no binder, and lifts it over the binders round its place.
+fn note_leaf(
+    target: &mut Module,
+    tree: LpId,
+    place: Place,
+    made: &mut TermMemo,
+) -> Result<(), Memory>
+    requires { tree.0 < length target.old.table }
+    ensures made { OnOk result (IsLeafMade place made.old made.new target.new.table (lp.tree_at target.old.table tree.0)) }
+    ensures grows { Grows target.old target.new }
+{
+    if place.depth == 0 {
+        return made.note(place, tree);
+    }
+    made.note(at(place.id, 0), tree)?;
+    note_lifted(target, tree, place, made)
 }
 
 // Sets out to make both parts of an application, and then to come back to it.

@@ -1,11 +1,10 @@
 //! The walk that makes the tree of a type.
 ghost use Rattle.std.specs.Prelude.{◌≡◌, ◌<◌, [], ◌∷◌, List, IsSome, IfOk, OnOk};
-ghost use Rattle.hol_spec.specs.Limits.{type_size};
 ghost use Rattle.lp_term.specs.Tables as lp;
 ghost use Rattle.holide_sig.specs.Modules.{declarations_of};
 ghost use Rattle.translate_laws.specs.ListedScopes.{told_types};
 ghost use Rattle.translate_term.specs.declared.tasks.Task.TheVariants as task;
-ghost use Rattle.translate_term.specs.Sources.{AppliesTold, GoesOnFromJoin, IsAtJoin, IsOnTypes, MakesType, MayBegin, NotesTypes, TypesGoOn};
+ghost use Rattle.translate_term.specs.Sources.{AppliesTold, GoesOnFromJoin, IsAtJoin, IsOnTypes, MakesType, MayBegin, NotesTypes, TypesEnd, TypesGoOn};
 ghost use Rattle.translate_term.specs.Tasks.{AreAll, IsDone, work};
 ghost use Rattle.translate_term.specs.Told.{told_operator};
 ghost use Rattle.translate_term.specs.Walks.{AreNoted, Given, Grows, IsGiven, size_at};
@@ -35,31 +34,59 @@ pub(crate) fn type_of(
     ensures noted { OnOk result (NotesTypes source.entry.table.now source.entry.scope.now root target.old memo.old target.new memo.new) }
     ensures grows { Grows target.old target.new }
 {
-    let mut tasks = Stack::new(source.alloc);
-    let tree = walked(source, target, root, &mut tasks, memo);
-    drop(tasks);
-    tree
+    match memo.find(root) {
+        Some(tree) => Ok(tree),
+        None => {
+            make(source, target, memo, root)?;
+            Ok(memo.find(root).unwrap())
+        }
+    }
 }
 
-// The tree of a type, by a walk that has nothing else to do.
+// Makes the tree of a type and notes it: at once where it has no arguments, and else by a walk.
+fn make(
+    source: TypeSource<'_>,
+    target: &mut Module,
+    memo: &mut TypeMemo,
+    root: TypeId,
+) -> Result<(), Memory>
+    requires { MayBegin source.table.now source.scope.now root target.old memo.old }
+    ensures ends { OnOk result (TypesEnd source.entry root target.old memo.old target.new memo.new) }
+    ensures grows { Grows target.old target.new }
+{
+    match source.table.view(root) {
+        TypeView::Var(name) => {
+            let tree = variable(target, source.scope, name)?;
+            memo.note(root, tree)
+        }
+        TypeView::Op(_, []) => join(source, target, root, memo),
+        TypeView::Op(..) => {
+            let mut tasks = Stack::new(source.alloc);
+            let ended = walked(source, target, root, &mut tasks, memo);
+            drop(tasks);
+            ended
+        }
+    }
+}
+
+// Makes the tree of a type by a walk that has nothing else to do.
 fn walked(
     source: TypeSource<'_>,
     target: &mut Module,
     root: TypeId,
     tasks: &mut Stack<Task<TypeId>>,
     memo: &mut TypeMemo,
-) -> Result<LpId, Memory>
+) -> Result<(), Memory>
     requires nothing_else { tasks.old ≡ [] }
     requires begins { MayBegin source.table.now source.scope.now root target.old memo.old }
-    ensures made { IfOk result (MakesType source.entry.table.now source.entry.scope.now root target.old memo.old target.new) }
-    ensures noted { OnOk result (NotesTypes source.entry.table.now source.entry.scope.now root target.old memo.old target.new memo.new) }
+    ensures ends { OnOk result (TypesEnd source.entry root target.old memo.old target.new memo.new) }
     ensures grows { Grows target.old target.new }
 {
     tasks.push(Task::Visit(root))?;
     while let Some(task) = tasks.pop() {
         turn(source, target, task, tasks, memo)?;
     }
-    Ok(memo.find(root).unwrap())
+    Ok(())
 }
 
 // One turn of the walk.

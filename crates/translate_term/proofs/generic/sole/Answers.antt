@@ -1,5 +1,3 @@
-use Rattle.std.proofs.Common.{arith}
-use Rattle.translate_term.proofs.MatchTurns.{Fits-variable}
 use Rattle.translate_term.proofs.generic.sole.Goals as goal
 
 pub loop-next-init : goal.loop-next-init

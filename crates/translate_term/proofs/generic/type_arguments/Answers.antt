@@ -1,6 +1,6 @@
 use Rattle.std.proofs.Common.{arith, ◌∙◌, ◌-◌, ◌≡◌}
 use Rattle.translate_term.proofs.MadeLaws.{is_some-unless, if_some}
-use Rattle.translate_term.proofs.GenericLaws.{symbol-within, pattern-fits, pattern-mentions, argument-sole, arguments-are, arguments-none, arguments_step, arguments_end}
+use Rattle.translate_term.proofs.GenericLaws.{symbol-within, pattern-fits, pattern-mentions, arguments-are, arguments-none, arguments_step, arguments_end}
 use Rattle.translate_term.proofs.TreeLists.{AreKnown-more}
 use Rattle.translate_term.proofs.generic.type_arguments.Goals as goal
 
@@ -44,14 +44,6 @@ returns-then-count-eq0-clause-known c = rw c.new.ensures.items (tt {0})
 
 pub returns-clause-arguments : goal.returns-clause-arguments
 returns-clause-arguments c =
-    let e : c.generic_type-count.result.0 ≡ 1 = omega (arith, c.if-count-eq1.true) in
-    rw c.in_ok-from_slice.ensures.items
-    (λ symbols scope generic t h.
-    argument-sole _ _ symbols scope generic t _ c.args.ty h _ c.generic_type-count.result.1 c.generic_type-count.ensures.is e _
-    (c.in-Some.ensures.wanted _ (pattern-fits _ _ symbols scope generic t _ c.args.ty h _ c.generic_type-count.result.1 c.generic_type-count.ensures.is)))
-
-pub returns-2-clause-arguments : goal.returns-2-clause-arguments
-returns-2-clause-arguments c =
     λ symbols scope generic t h.
     arguments_end _ _ c.loop-left.args.items c.loop-left.left _ (omega (arith, c.loop-left-test.false)) (c.loop-left.invariant.2 symbols scope generic t h)
     ∙ arguments-are _ _ symbols scope generic t _ c.args.ty h _ c.generic_type-count.result.1 c.generic_type-count.ensures.is

@@ -1,11 +1,11 @@
 use Rattle.translate_term.proofs.EndsLaws.{OnOk-map3}
 use Rattle.translate_term.specs.GrowLaws.{Grows-table}
+use Rattle.translate_term.proofs.TermTurns.{leaf_noted}
 use Rattle.translate_term.proofs.terms.note_lifted.Goals as goal
 
 pub returns-clause-made : goal.returns-clause-made
 returns-clause-made c =
-    OnOk-map3 c.note.result
-    (λ only new kept. record { mark = c.in_ok-lifted.lifted; only = only; noted = new; kept = kept; holds = c.in_ok-lifted.ensures.made })
+    OnOk-map3 c.note.result (λ only new kept. leaf_noted c.args.place _ _ _ _ c.in_ok-lifted.lifted c.in_ok-lifted.ensures.made only new kept)
     c.note.ensures.noted c.note.ensures.new c.note.ensures.kept
 
 pub returns-clause-grows : goal.returns-clause-grows

@@ -1,11 +1,9 @@
-use Rattle.std.proofs.Common.{◌∙◌, ap, sym, subst}
-use Rattle.hol_term.specs.Tables.{type_at}
-use Rattle.lp_spec.specs.Trees.{lift}
-use Rattle.lp_term.specs.TableLaws as lp_reduction_laws
+use Rattle.std.proofs.Common.{arith, sym, subst}
+use Rattle.hol_term.specs.Views.{tree_of_view}
 use Rattle.translate_term.specs.Walks.{IsMadeAt, IsTermWalk}
 use Rattle.translate_term.proofs.EndsLaws.{OnOk-always, OnOk-map, visit-less}
-use Rattle.translate_term.specs.GrowLaws.{Grows-refl, Grows-trans, IsTypeMemo-Keeps}
-use Rattle.translate_term.proofs.TermTurns.{term_done, term_application, term_abstraction, start-of, told-in, term_leaf, bound-wanted, free-lift, constant-lift, place_size-positive, application-less, abstraction-less}
+use Rattle.translate_term.specs.GrowLaws.{Grows-refl, IsTypeMemo-Keeps}
+use Rattle.translate_term.proofs.TermTurns.{term_done, term_application, term_abstraction, term_leaf, bound-wanted, place_size-positive, application-less, abstraction-less}
 use Rattle.translate_term.proofs.terms.visit.Goals as goal
 
 pub returns-in-Some-clause-walk : goal.returns-in-Some-clause-walk
@@ -44,52 +42,12 @@ returns-in-Bound-clause-walk c =
     (IsTypeMemo-Keeps c.note_node.ensures.grows.table given _ _ w.types_noted) w)
     c.note_node.ensures.made
 
-pub note_lifted-requires : goal.note_lifted-requires
-note_lifted-requires c =
-    let w = c.requires.2 in
-    let start = start-of c.requires.0 c.requires.1 _ _ _ c.args.source.scope.now.terms c.args.place c.args.walk.now.tasks c.args.walk.now.made _ w.ends.0 _
-    c.in-Free.ensures.is c.in-Free.ty c.in-Free.ensures.lower (λ t. t) w.reads w.types_noted in
-    lp_reduction_laws.Holds-within _ c.in_ok-tree-in-Free.tree.0 _ (c.in_ok-tree-in-Free.ensures.made c.requires.0 start w.variables_told)
-
-pub returns-in_ok-tree-in-Free-clause-walk : goal.returns-in_ok-tree-in-Free-clause-walk
-returns-in_ok-tree-in-Free-clause-walk c =
-    OnOk-map c.note_lifted.result
-    (λ lifted given root w.
-    let start = start-of given root _ _ _ c.args.source.scope.now.terms c.args.place c.args.walk.now.tasks c.args.walk.now.made _ w.ends.0 _
-    c.in-Free.ensures.is c.in-Free.ty c.in-Free.ensures.lower (λ t. t) w.reads w.types_noted in
-    let made = c.in_ok-tree-in-Free.ensures.made given start w.variables_told in
-    term_leaf given root _ _ _ _ c.args.place _ _ _ _ (Grows-trans c.in_ok-tree-in-Free.ensures.grows c.note_lifted.ensures.grows) _ _ _ c.in-Free.ensures.is
-    (subst (IsMadeAt c.args.place c.args.walk.now.made c.note_lifted.new.made c.note_lifted.new.target.table)
-    (ap (lift c.args.place.depth) (lp_reduction_laws.Holds-tree_at _ c.in_ok-tree-in-Free.tree.0 _ made)
-    ∙ free-lift given c.args.place.depth c.in-Free.name.now (type_at c.args.source.table.now c.in-Free.ty.0)) lifted)
-    (IsTypeMemo-Keeps c.note_lifted.ensures.grows.table given _ _ (c.in_ok-tree-in-Free.ensures.noted given start)) w)
-    c.note_lifted.ensures.made
-
-pub note_lifted-requires-in-Const : goal.note_lifted-requires-in-Const
-note_lifted-requires-in-Const c =
-    let w = c.requires.2 in
-    let start = start-of c.requires.0 c.requires.1 _ _ _ c.args.source.scope.now.terms c.args.place c.args.walk.now.tasks c.args.walk.now.made _ w.ends.0 _
-    c.in-Const.ensures.is c.in-Const.ty c.in-Const.ensures.lower (λ t. t.ty) w.reads w.types_noted in
-    let told = told-in c.requires.0 c.requires.1 c.args.target.now c.args.source.table.now c.args.source.scope.now.types c.args.source.scope.now.terms
-    c.args.place c.args.walk.now.tasks c.args.walk.now.made c.args.walk.now.types _ c.in-Const.ensures.is w.ends.0 in
-    lp_reduction_laws.Holds-within _ c.in_ok-tree-in-Const.tree.0 _ (c.in_ok-tree-in-Const.ensures.made c.requires.0 start told)
-
-pub returns-in_ok-tree-in-Const-clause-walk : goal.returns-in_ok-tree-in-Const-clause-walk
-returns-in_ok-tree-in-Const-clause-walk c =
-    OnOk-map c.note_lifted-in-Const.result
-    (λ lifted given root w.
-    let start = start-of given root _ _ _ c.args.source.scope.now.terms c.args.place c.args.walk.now.tasks c.args.walk.now.made _ w.ends.0 _
-    c.in-Const.ensures.is c.in-Const.ty c.in-Const.ensures.lower (λ t. t.ty) w.reads w.types_noted in
-    let told = told-in given root c.args.target.now c.args.source.table.now c.args.source.scope.now.types c.args.source.scope.now.terms c.args.place
-    c.args.walk.now.tasks c.args.walk.now.made c.args.walk.now.types _ c.in-Const.ensures.is w.ends.0 in
-    let made = c.in_ok-tree-in-Const.ensures.made given start told in
-    term_leaf given root _ _ _ _ c.args.place _ _ _ _ (Grows-trans c.in_ok-tree-in-Const.ensures.grows c.note_lifted-in-Const.ensures.grows) _ _ _
-    c.in-Const.ensures.is
-    (subst (IsMadeAt c.args.place c.args.walk.now.made c.note_lifted-in-Const.new.made c.note_lifted-in-Const.new.target.table)
-    (ap (lift c.args.place.depth) (lp_reduction_laws.Holds-tree_at _ c.in_ok-tree-in-Const.tree.0 _ made)
-    ∙ constant-lift given c.args.place.depth c.in-Const.name.now (type_at c.args.source.table.now c.in-Const.ty.0)) lifted)
-    (IsTypeMemo-Keeps c.note_lifted-in-Const.ensures.grows.table given _ _ (c.in_ok-tree-in-Const.ensures.noted given start)) w)
-    c.note_lifted-in-Const.ensures.made
+pub visit_leaf-requires-clause-leaf : goal.visit_leaf-requires-clause-leaf
+visit_leaf-requires-clause-leaf c = record {
+  term = tree_of_view c.args.source.table.now c.view.result;
+  is = c.view.ensures.is;
+  leaf = grind (arith, c.in-Free.is);
+}
 
 pub returns-in-Some-clause-grows : goal.returns-in-Some-clause-grows
 returns-in-Some-clause-grows c = Grows-refl _
@@ -99,12 +57,6 @@ returns-in-App-clause-grows c = Grows-refl _
 
 pub returns-in-Lam-clause-grows : goal.returns-in-Lam-clause-grows
 returns-in-Lam-clause-grows c = Grows-refl _
-
-pub returns-in_ok-tree-in-Free-clause-grows : goal.returns-in_ok-tree-in-Free-clause-grows
-returns-in_ok-tree-in-Free-clause-grows c = Grows-trans c.in_ok-tree-in-Free.ensures.grows c.note_lifted.ensures.grows
-
-pub returns-in_ok-tree-in-Const-clause-grows : goal.returns-in_ok-tree-in-Const-clause-grows
-returns-in_ok-tree-in-Const-clause-grows c = Grows-trans c.in_ok-tree-in-Const.ensures.grows c.note_lifted-in-Const.ensures.grows
 
 pub returns-in-App-clause-less : goal.returns-in-App-clause-less
 returns-in-App-clause-less c =
@@ -121,10 +73,6 @@ returns-in-Lam-clause-less c =
 pub returns-in-Bound-clause-less : goal.returns-in-Bound-clause-less
 returns-in-Bound-clause-less c = OnOk-always c.note_node.result (visit-less _ c.args.place _ (place_size-positive c.args.source.table.now c.args.place))
 
-pub returns-in_ok-tree-in-Free-clause-less : goal.returns-in_ok-tree-in-Free-clause-less
-returns-in_ok-tree-in-Free-clause-less c = OnOk-always c.note_lifted.result
-    (visit-less _ c.args.place _ (place_size-positive c.args.source.table.now c.args.place))
-
-pub returns-in_ok-tree-in-Const-clause-less : goal.returns-in_ok-tree-in-Const-clause-less
-returns-in_ok-tree-in-Const-clause-less c = OnOk-always c.note_lifted-in-Const.result
-    (visit-less _ c.args.place _ (place_size-positive c.args.source.table.now c.args.place))
+pub returns-in-Free-clause-less : goal.returns-in-Free-clause-less
+returns-in-Free-clause-less c = OnOk-always c.visit_leaf.result
+    (rw c.visit_leaf.ensures.tasks (visit-less _ c.args.place _ (place_size-positive c.args.source.table.now c.args.place)))

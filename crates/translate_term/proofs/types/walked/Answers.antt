@@ -1,5 +1,4 @@
 use Rattle.translate_term.specs.GrowLaws.{Grows-refl, Grows-trans}
-use Rattle.translate_term.proofs.MadeLaws.{is_some-unless, if_some}
 use Rattle.translate_term.proofs.TypeTurns.{type_begins}
 use Rattle.translate_term.proofs.types.walked.Goals as goal
 
@@ -15,16 +14,8 @@ loop-task-preserved c = (
   λ given s. c.in_ok-turn.ensures.walk given _ (rw c.in-Some.ensures.popped at c.loop-task.invariant.1 given s),
 )
 
-pub unwrap-requires : goal.unwrap-requires
-unwrap-requires c =
-    let w = rw c.in_default.ensures.popped at c.loop-task.invariant.1 c.requires.begins.0 c.requires.begins.1 in
-    is_some-unless c.find.result c.find.ensures.absent (λ absent. absent w.ends.0 w.ends.1)
-
-pub returns-clause-made : goal.returns-clause-made
-returns-clause-made c = λ given s. (c.loop-task.invariant.1 given s).noted _ _ (if_some _ c.find.result c.unwrap.result c.unwrap.ensures c.find.ensures.noted)
-
-pub returns-clause-noted : goal.returns-clause-noted
-returns-clause-noted c = λ given s. (c.loop-task.invariant.1 given s).noted
+pub returns-clause-ends : goal.returns-clause-ends
+returns-clause-ends c = λ given s. rw c.in_default.ensures.popped at c.loop-task.invariant.1 given s
 
 pub loop-task-smaller : goal.loop-task-smaller
 loop-task-smaller c = rw c.in-Some.ensures.popped c.in_ok-turn.ensures.less
