@@ -102,7 +102,7 @@ module _ (trees : Trees) (distinct : type.IsDistinct trees.types) (v : AVariable
 module _ (given : Given) (m : Module) (terms : Trees) (env : Environment) (h : Represents given m terms env) where
   pub constant-stands : (n : Name) (a : HolType) → constant_tree given.symbols (told_types (types_in m.table env.scope.types)) n a
       ≡ constant_tree given.symbols given.scope.types n a
-  constant-stands n a = ap (λ w. constant_tree given.symbols w n a) (ap (λ es. told_types (types_in m.table es)) h.same_types ∙ fun_ext h.types.each)
+  constant-stands n a = ap (λ w. constant_tree given.symbols w n a) (fun_ext h.types.each)
 
   pub declared-constant : (n : Name) (a : HolType) → TellsConstant given.declarations given.symbols n a → TellsConstant (declarations_of m) given.symbols n a
   declared-constant n a t = subst (λ d. TellsConstant d given.symbols n a) (sym h.declared) t

@@ -6,30 +6,7 @@ use Rattle.hol_term.specs.Subterms.{HaveTypes}
 use Rattle.hol_term.specs.declared.TermId.{TermId}
 use Rattle.hol_term.specs.Tables.{Trees, AreKnown}
 use Rattle.lp_spec.specs.Trees.{Tree, Var}
-use Rattle.translate_proof.specs.declared.scope.Environment.{Environment}
 use Rattle.translate_proof.specs.Placed.{placed}
-use Rattle.translate_proof.specs.Placing.{TypesAlone, TermsAlone, ProofsAlone}
-
--- what changes of an environment at two changes
-pub TypesAlone-refl : (e : Environment) → TypesAlone e e
-TypesAlone-refl e = record { terms = refl; proofs = refl; scope_terms = refl; same = λ h. h }
-
-pub TypesAlone-trans : {a b c : Environment} → TypesAlone a b → TypesAlone b c → TypesAlone a c
-TypesAlone-trans h k = record
-    { terms = k.terms ∙ h.terms; proofs = k.proofs ∙ h.proofs; scope_terms = k.scope_terms ∙ h.scope_terms; same = λ e. k.same (h.same e) }
-
-pub TermsAlone-refl : (e : Environment) → TermsAlone e e
-TermsAlone-refl e = record { types = refl; proofs = refl; scope_types = refl; same = λ h. h }
-
-pub TermsAlone-trans : {a b c : Environment} → TermsAlone a b → TermsAlone b c → TermsAlone a c
-TermsAlone-trans h k = record
-    { types = k.types ∙ h.types; proofs = k.proofs ∙ h.proofs; scope_types = k.scope_types ∙ h.scope_types; same = λ e. k.same (h.same e) }
-
-pub ProofsAlone-refl : (e : Environment) → ProofsAlone e e
-ProofsAlone-refl e = record { types = refl; terms = refl; scope = refl }
-
-pub ProofsAlone-trans : {a b c : Environment} → ProofsAlone a b → ProofsAlone b c → ProofsAlone a c
-ProofsAlone-trans h k = record { types = k.types ∙ h.types; terms = k.terms ∙ h.terms; scope = k.scope ∙ h.scope }
 
 module _ {A E : Type 0} (same : A → A → Bool) (Tell : List Tree → E → (A → Tree) → Type 0) where
   -- what pairs tell while the binders from the outermost of so many on are let stand for one after another, of which these are left

@@ -59,14 +59,8 @@ told-instances d symbols (term.Term.app f x) h = (told-instances d symbols f h.0
 told-instances d symbols (term.Term.lam t b) h = told-instances d symbols b h.1
 
 module _ (given : Given) (m : Module) (terms : Trees) (env : Environment) (h : Represents given m terms env) where
-  pub types_known : AreTypesKnown m.table env.scope.types
-  types_known = subst (AreTypesKnown m.table) (sym h.same_types) h.types.known
-
-  pub terms_known : AreTermsKnown terms.types m.table env.scope.terms
-  terms_known = subst (AreTermsKnown terms.types m.table) (sym h.same_terms) h.terms_told.known
-
   types-same : told_types (types_in m.table env.scope.types) ≡ given.scope.types
-  types-same = ap (λ es. told_types (types_in m.table es)) h.same_types ∙ fun_ext h.types.each
+  types-same = fun_ext h.types.each
 
   -- the tree of a type
   pub type-stands : (a : HolType) → type_tree given.symbols (told_types (types_in m.table env.scope.types)) a ≡ type_tree given.symbols given.scope.types a
@@ -79,9 +73,9 @@ module _ (given : Given) (m : Module) (terms : Trees) (env : Environment) (h : R
       term_tree-agrees given.symbols (λ n. Unit {0}) (λ v. Unit {0}) 0
       (told given.symbols (types_in m.table env.scope.types) (terms_in terms.types m.table env.scope.terms)) given.scope
       (record {
-        types = λ n p. ap (λ f. f n) types-same;
+        types = λ n p. h.types.each n;
         terms = λ v q.
-            ap₂ (λ es w. unwrap_or (lookup (variable_eq v) (terms_in terms.types m.table es)) (filler (type_tree given.symbols w v.1))) h.same_terms types-same
+            ap (λ w. unwrap_or (lookup (variable_eq v) (terms_in terms.types m.table env.scope.terms)) (filler (type_tree given.symbols w v.1))) types-same
             ∙ h.terms_told.each v;
         bounds = λ j l. absurd (omega (arith, l));
       })

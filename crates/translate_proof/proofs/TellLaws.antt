@@ -24,7 +24,7 @@ use Rattle.lp_spec.specs.Trees.{Tree}
 use Rattle.lp_spec.specs.Modules.{bools}
 use Rattle.lp_term.specs.declared.LpId.{LpId}
 use Rattle.lp_term.specs.Tables as lp
-use Rattle.lp_term.specs.Tables.{tree_at, Keeps}
+use Rattle.lp_term.specs.Tables.{tree_at}
 use Rattle.lp_term.specs.TableLaws.{Holds-tree_at, Holds-within}
 use Rattle.translate_spec.specs.Scopes.{TypeScope, set_type}
 use Rattle.translate_laws.specs.ListedScopes.{told_types}

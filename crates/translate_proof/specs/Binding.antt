@@ -11,6 +11,7 @@ use Rattle.hol_term.specs.Tables.{Trees, term_at, terms_at, AreKnown, IsDistinct
 use Rattle.hol_rules.specs.Views.{variable_view}
 use Rattle.holide_sig.specs.declared.module.Module.{Module}
 use Rattle.lp_spec.specs.Trees.{Tree, Var}
+use Rattle.lp_term.specs.declared.LpId.{LpId}
 use Rattle.translate_spec.specs.Scopes.{TypeScope, set_proof, set_term}
 use Rattle.sequent.specs.declared.params.Params.{Params}
 use Rattle.translate_proof.specs.declared.scope.Environment.{Environment}
@@ -47,18 +48,18 @@ BindsProof old new before id after =
     → Represents (with_scope given (set_proof (term_at trees id.0) (Var 0) given.scope)) new trees after
 
 -- binders from the outermost of so many on are placed for type variables, for free variables, and for hypotheses
-abbrev pub PlacesTypes : Module → Module → Environment → List Name → ℕ → Environment → Type 0
+abbrev pub PlacesTypes : List Tree → List Tree → List (Name × LpId) → List Name → ℕ → List (Name × LpId) → Type 0
 PlacesTypes old new before names depth after =
-    (scope : TypeScope) → TellTypes old.table before.types scope → TellTypes new.table after.types (placed name_eq depth names scope)
+    (scope : TypeScope) → TellTypes old before scope → TellTypes new after (placed name_eq depth names scope)
 
-abbrev pub PlacesTerms : Module → Module → Environment → List Variable → ℕ → Environment → Type 0
+abbrev pub PlacesTerms : List Tree → List Tree → List (Variable × LpId) → List Variable → ℕ → List (Variable × LpId) → Type 0
 PlacesTerms old new before variables depth after =
     (trees : Trees) (other scope : ATerm → Tree) → type.IsDistinct trees.types → HaveTypes trees variables
-    → TellTerms trees.types old.table before.terms other scope
-    → TellTerms trees.types new.table after.terms other (placed variable_eq depth (variables_of trees variables) scope)
+    → TellTerms trees.types old before other scope
+    → TellTerms trees.types new after other (placed variable_eq depth (variables_of trees variables) scope)
 
-abbrev pub PlacesProofs : Module → Module → Environment → List TermId → ℕ → Environment → Type 0
+abbrev pub PlacesProofs : List Tree → List Tree → List (TermId × LpId) → List TermId → ℕ → List (TermId × LpId) → Type 0
 PlacesProofs old new before hyps depth after =
     (trees : Trees) (other scope : Term → Tree) → IsDistinct trees.terms → AreKnown trees hyps
-    → TellProofs trees old.table before.proofs other scope
-    → TellProofs trees new.table after.proofs other (placed term_eq depth (terms_at trees hyps) scope)
+    → TellProofs trees old before other scope
+    → TellProofs trees new after other (placed term_eq depth (terms_at trees hyps) scope)

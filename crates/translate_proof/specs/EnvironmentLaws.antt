@@ -59,9 +59,7 @@ Represents-Grows {m = m} {n = n} g given terms env h = record {
   declared = declarations_of-Grows m n g h.held ∙ h.declared;
   one_type = h.one_type;
   one_term = h.one_term;
-  same_types = h.same_types;
-  same_terms = h.same_terms;
-  types = TellTypes-Keeps g.table env.types given.scope.types h.types;
-  terms_told = TellTerms-Keeps g.table terms.types env.terms (filled_terms given.symbols given.scope.types) given.scope.terms h.terms_told;
+  types = TellTypes-Keeps g.table env.scope.types given.scope.types h.types;
+  terms_told = TellTerms-Keeps g.table terms.types env.scope.terms (filled_terms given.symbols given.scope.types) given.scope.terms h.terms_told;
   proofs = TellProofs-Keeps g.table terms env.proofs unproved given.scope.proofs h.proofs;
 }

@@ -65,10 +65,8 @@ pub record Represents (given : Given) (m : Module) (terms : Trees) (env : Enviro
   pub declared : declarations_of m ≡ given.declarations
   pub one_type : type.IsDistinct terms.types
   pub one_term : IsDistinct terms.terms
-  pub same_types : env.scope.types ≡ env.types
-  pub same_terms : env.scope.terms ≡ env.terms
-  pub types : TellTypes m.table env.types given.scope.types
-  pub terms_told : TellTerms terms.types m.table env.terms (filled_terms given.symbols given.scope.types) given.scope.terms
+  pub types : TellTypes m.table env.scope.types given.scope.types
+  pub terms_told : TellTerms terms.types m.table env.scope.terms (filled_terms given.symbols given.scope.types) given.scope.terms
   pub proofs : TellProofs terms m.table env.proofs unproved given.scope.proofs
 
 -- and some arguments are made, which are these trees

@@ -1,5 +1,5 @@
--- An environment on its way: what changes of it, and what the one that is made of the parameters of a sequent stands for.
-use Rattle.std.specs.Prelude.{◌≡◌, ℕ, ◌+◌, List, length}
+-- An environment at first, and what the one that is made of the parameters of a sequent stands for.
+use Rattle.std.specs.Prelude.{◌≡◌, ℕ, ◌+◌, List, [], length}
 use Rattle.hol_spec.specs.Names.{Name}
 use Rattle.hol_spec.specs.NameEquality.{name_eq}
 use Rattle.hol_spec.specs.Terms.{Term, Variable, variable_eq, term_eq}
@@ -15,25 +15,11 @@ use Rattle.translate_proof.specs.declared.scope.Environment.{Environment}
 use Rattle.translate_proof.specs.Environments.{Given, filled_terms, unproved}
 use Rattle.translate_proof.specs.Placed.{placed}
 
--- of two environments at most what stands for type variables differs, and one that has one list of them has one after it
-pub record TypesAlone (old new : Environment) : Type 0 where
-  pub terms : new.terms ≡ old.terms
-  pub proofs : new.proofs ≡ old.proofs
-  pub scope_terms : new.scope.terms ≡ old.scope.terms
-  pub same : old.scope.types ≡ old.types → new.scope.types ≡ new.types
-
--- at most what stands for free variables differs
-pub record TermsAlone (old new : Environment) : Type 0 where
-  pub types : new.types ≡ old.types
-  pub proofs : new.proofs ≡ old.proofs
-  pub scope_types : new.scope.types ≡ old.scope.types
-  pub same : old.scope.terms ≡ old.terms → new.scope.terms ≡ new.terms
-
--- at most what proves hypotheses differs
-pub record ProofsAlone (old new : Environment) : Type 0 where
-  pub types : new.types ≡ old.types
-  pub terms : new.terms ≡ old.terms
-  pub scope : new.scope ≡ old.scope
+-- an environment tells nothing
+pub record TellsNothing (env : Environment) : Type 0 where
+  pub types : env.scope.types ≡ []
+  pub terms : env.scope.terms ≡ []
+  pub proofs : env.proofs ≡ []
 
 -- the binders outside `inside` more stand for these parameters in the scope that is given
 pub record IsPlaced (given : Given) (m : Module) (trees : Trees) (names : List Name) (variables : List AVariable) (hyps : List TermId) (inside : ℕ) : Type 0

@@ -40,7 +40,7 @@ pub fn constant_list(
     ensures made { MakesList target.old target.new ground.entry pairs.now one result }
     ensures grows { Grows target.old target.new }
 {
-    let params = params_of(ground.env.alloc, ground.proof, one.id)?;
+    let params = params_of(ground.proof, one.id)?;
     let mut args = Vec::new(ground.env.alloc);
     let made = constant_list_over(target, ground, pairs, one, &params, &mut args);
     drop(args);

@@ -67,7 +67,7 @@ impl KeptParams {
     {
         let place = id % PLACES;
         self.reach(place)?;
-        let params = params_of(self.alloc, proof, id)?;
+        let params = params_of(proof, id)?;
         self.places[place] = Some(StepParams { id, params });
         Ok(())
     }
@@ -91,7 +91,7 @@ impl KeptParams {
     {
         match self.get(id) {
             Some(params) => Ok(LentParams::Lent(params)),
-            None => Ok(LentParams::Found(params_of(self.alloc, proof, id)?)),
+            None => Ok(LentParams::Found(params_of(proof, id)?)),
         }
     }
 

@@ -31,7 +31,8 @@
 //! told by comparing trees part by part: nothing is made in the proof's table.
 //!
 //! `step_name` gives the name under which a module declares a step, and `abstracted` puts a proof under the binders of its type. `type_part`
-//! gives what the operator or a constant of a type definition stands for, in the environment of `Environment::of_types`.
+//! gives what the operator or a constant of a type definition stands for, in the environment of `Environment::of_types`. `place_types` lets
+//! binders stand for type variables in a scope of translations.
 #![tactic(auto)]
 
 mod constants;
@@ -54,5 +55,5 @@ pub use names::step_name;
 pub use parts::{Part, first_law, first_law_free, second_law, second_law_free, type_part};
 pub use premise::Premise;
 pub use rows::{abs_thm, app_thm, deduct_antisym, eq_mp, prove_hyp, refl, sym, trans};
-pub use scope::Environment;
+pub use scope::{Environment, place_types};
 pub use trees::abstracted;

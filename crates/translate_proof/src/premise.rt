@@ -45,11 +45,11 @@ pub(crate) struct Proved {
 }
 
 /// The parameters of a step's sequent.
-pub(crate) fn params_of(alloc: Global, proof: &Proof, id: StepId) -> Result<Params, Memory>
+pub(crate) fn params_of(proof: &Proof, id: StepId) -> Result<Params, Memory>
     requires { id < step_count proof.now }
     ensures { IfOk result (AreParams proof.now id) }
 {
-    proof.sequent(id).params(alloc, proof.terms())
+    proof.params_of(id)
 }
 
 impl Environment {
@@ -75,10 +75,10 @@ impl Environment {
 
     // What stands for a type variable: `bool` where nothing is told.
     fn type_variable(&self, target: &mut Module, name: &Name) -> Result<LpId, Memory>
-        ensures made { IfOk result (λ r. (scope : TypeScope) → TellTypes target.old.table self.now.types scope → Holds target.new.table r.0 (scope name.now)) }
+        ensures made { IfOk result (λ r. (scope : TypeScope) → TellTypes target.old.table self.now.scope.types scope → Holds target.new.table r.0 (scope name.now)) }
         ensures grows { Grows target.old target.new }
     {
-        match self.find_type(name) {
+        match self.scope.types.find(name) {
             Some(tree) => Ok(tree),
             None => target.table.node(LpNode::Sym(BOOL)),
         }
@@ -97,7 +97,7 @@ impl Environment {
             (variable_row proof.now variable.now) }
         ensures grows { Grows target.old target.new }
     {
-        match self.find_term(variable) {
+        match self.scope.terms.find(variable) {
             Some(tree) => Ok(tree),
             None => {
                 let filled = self.ty(target, proof, variable.ty)?;

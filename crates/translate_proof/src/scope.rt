@@ -5,28 +5,26 @@ ghost use Rattle.hol_spec.specs.NameEquality.{name_eq};
 ghost use Rattle.tree_map.specs.Entries.{insert_entry};
 ghost use Rattle.sequent.specs.Params.{same_variable};
 ghost use Rattle.sequent.specs.Sequents.{same_id};
+ghost use Rattle.lp_term.specs.Tables.{Keeps};
 ghost use Rattle.translate_term.specs.Walks.{Grows};
 ghost use Rattle.translate_proof.specs.Binding.{BindsProof, BindsVariable, PlacesProofs, PlacesTerms, PlacesTypes, StandsPlaced, StandsUnderProof, StandsUnderVariable};
-ghost use Rattle.translate_proof.specs.Placing.{ProofsAlone, TermsAlone, TypesAlone};
+ghost use Rattle.translate_proof.specs.Placing.{TellsNothing};
 
 use common::Memory;
 use hol_name::Name;
 use hol_term::{TermId, Variable};
 use holide_sig::Module;
-use lp_term::{LpId, LpNode};
+use lp_term::{LpId, LpNode, LpTable};
 use sequent::Params;
 use std::alloc::Global;
-use translate_term::Scope;
+use translate_term::{Scope, ScopeTerms, ScopeTypes};
 use tree_map::TreeMap;
 
-/// The trees that stand for type variables, free variables and hypotheses. The scope of translations has those for variables once
-/// more, since it isn't read by name.
+/// The trees that stand for type variables, free variables and hypotheses. Those for variables are the scope of translations.
 #[derive(Drop)]
 pub struct Environment {
     pub(crate) alloc: Global,
     pub(crate) scope: Scope,
-    pub(crate) types: TreeMap<Name, LpId>,
-    pub(crate) terms: TreeMap<Variable, LpId>,
     pub(crate) proofs: TreeMap<TermId, LpId>,
 }
 
@@ -60,7 +58,8 @@ impl Environment {
         ensures grows { Grows target.old target.new }
     {
         let mut made = Environment::new(alloc);
-        made.place_types(target, names, inside + names.len() as u128)?;
+        let depth = inside + names.len() as u128;
+        place_types(&mut made.scope.types, &mut target.table, names, depth)?;
         Ok(made)
     }
 
@@ -73,11 +72,7 @@ impl Environment {
         inside: u128,
     ) -> Result<(), Memory>
         requires inside { inside < 2 ^ 64 }
-        requires types { self.old.types ≡ [] }
-        requires terms { self.old.terms ≡ [] }
-        requires proofs { self.old.proofs ≡ [] }
-        requires scope_types { self.old.scope.types ≡ [] }
-        requires scope_terms { self.old.scope.terms ≡ [] }
+        requires nothing { TellsNothing self.old }
         ensures made { OnOk result (StandsPlaced target.old target.new params.now.type_vars params.now.free_vars hyps.now inside self.new) }
         ensures grows { Grows target.old target.new }
     {
@@ -86,9 +81,9 @@ impl Environment {
         let proofs = inside + hyps.len() as u128;
         let terms = proofs + variables.len() as u128;
         let types = terms + names.len() as u128;
-        self.place_types(target, names, types)?;
-        self.place_terms(target, variables, terms)?;
-        self.place_proofs(target, hyps, proofs)?;
+        place_types(&mut self.scope.types, &mut target.table, names, types)?;
+        place_terms(&mut self.scope.terms, &mut target.table, variables, terms)?;
+        place_proofs(&mut self.proofs, &mut target.table, hyps, proofs)?;
         Ok(())
     }
 
@@ -130,7 +125,7 @@ impl Environment {
         ensures grows { Grows target.old target.new }
     {
         let tree = target.table.node(LpNode::Var(0))?;
-        self.set_term(variable, tree)?;
+        set_term(&mut self.scope.terms, variable, tree)?;
         Ok(())
     }
 
@@ -140,99 +135,19 @@ impl Environment {
         ensures grows { Grows target.old target.new }
     {
         let tree = target.table.node(LpNode::Var(0))?;
-        self.set_proof(id, tree)?;
+        set_proof(&mut self.proofs, id, tree)?;
         Ok(())
     }
 
     // The environment in which nothing is told.
     fn new(alloc: Global) -> Environment
-        ensures types { result.types ≡ [] }
-        ensures terms { result.terms ≡ [] }
-        ensures proofs { result.proofs ≡ [] }
-        ensures scope_types { result.scope.types ≡ [] }
-        ensures scope_terms { result.scope.terms ≡ [] }
+        ensures nothing { TellsNothing result }
     {
         Environment {
             alloc,
             scope: Scope::new(alloc),
-            types: TreeMap::new(alloc),
-            terms: TreeMap::new(alloc),
             proofs: TreeMap::new(alloc),
         }
-    }
-
-    // Lets the binders from the outermost of so many on stand for type variables.
-    fn place_types(
-        &mut self,
-        target: &mut Module,
-        names: &[Name],
-        depth: u128,
-    ) -> Result<(), Memory>
-        ensures types { OnOk result (PlacesTypes target.old target.new self.old names.now depth self.new) }
-        ensures alone { OnOk result (TypesAlone self.old self.new) }
-        ensures grows { Grows target.old target.new }
-    {
-        let mut place = depth;
-        for name in names {
-            place = place.saturating_sub(1);
-            let tree = target.table.node(LpNode::Var(place))?;
-            self.set_type(name, tree)?;
-        }
-        Ok(())
-    }
-
-    // Lets them stand for free variables.
-    fn place_terms(
-        &mut self,
-        target: &mut Module,
-        variables: &[Variable],
-        depth: u128,
-    ) -> Result<(), Memory>
-        ensures terms { OnOk result (PlacesTerms target.old target.new self.old variables.now depth self.new) }
-        ensures alone { OnOk result (TermsAlone self.old self.new) }
-        ensures grows { Grows target.old target.new }
-    {
-        let mut place = depth;
-        for variable in variables {
-            place = place.saturating_sub(1);
-            let tree = target.table.node(LpNode::Var(place))?;
-            self.set_term(variable, tree)?;
-        }
-        Ok(())
-    }
-
-    // Lets them prove hypotheses.
-    fn place_proofs(
-        &mut self,
-        target: &mut Module,
-        hyps: &[TermId],
-        depth: u128,
-    ) -> Result<(), Memory>
-        ensures proofs { OnOk result (PlacesProofs target.old target.new self.old hyps.now depth self.new) }
-        ensures alone { OnOk result (ProofsAlone self.old self.new) }
-        ensures grows { Grows target.old target.new }
-    {
-        let mut place = depth;
-        for id in hyps {
-            place = place.saturating_sub(1);
-            let tree = target.table.node(LpNode::Var(place))?;
-            self.set_proof(*id, tree)?;
-        }
-        Ok(())
-    }
-
-    // What is told of a type variable.
-    pub(crate) fn find_type(&self, name: &Name) -> Option<LpId>
-        ensures { result ≡ lookup (name_eq name.now) self.now.types }
-    {
-        self.types.get(name)
-    }
-
-    // What is told of a free variable.
-    pub(crate) fn find_term(&self, variable: &Variable) -> Option<LpId>
-        ensures { result ≡ lookup (same_variable variable.now) self.now.terms }
-    {
-        self.terms.get(variable)
     }
 
     // What is told of a hypothesis.
@@ -241,35 +156,84 @@ impl Environment {
     {
         self.proofs.get(&id)
     }
+}
 
-    // Lets a tree stand for a type variable.
-    fn set_type(&mut self, name: &Name, tree: LpId) -> Result<(), Memory>
-        ensures types { OnOk result (self.new.types ≡ insert_entry name_eq self.old.types name.now tree) }
-        ensures alone { OnOk result (TypesAlone self.old self.new) }
-    {
-        self.scope.types.set(name.clone()?, tree)?;
-        self.types.insert(name.clone()?, tree)?;
-        Ok(())
+/// Lets the binders from the outermost of so many on stand for type variables, the first of them for the first.
+pub fn place_types(
+    types: &mut ScopeTypes,
+    table: &mut LpTable,
+    names: &[Name],
+    depth: u128,
+) -> Result<(), Memory>
+    ensures types { OnOk result (PlacesTypes table.old table.new types.old names.now depth types.new) }
+    ensures keeps { Keeps table.old table.new }
+{
+    let mut place = depth;
+    for name in names {
+        place = place.saturating_sub(1);
+        let tree = table.node(LpNode::Var(place))?;
+        set_type(types, name, tree)?;
     }
+    Ok(())
+}
 
-    // Lets a tree stand for a free variable.
-    pub(crate) fn set_term(&mut self, variable: &Variable, tree: LpId) -> Result<(), Memory>
-        ensures terms { OnOk result (self.new.terms ≡ insert_entry same_variable self.old.terms variable.now tree) }
-        ensures alone { OnOk result (TermsAlone self.old self.new) }
-    {
-        self.scope.terms.set(copied(variable)?, tree)?;
-        self.terms.insert(copied(variable)?, tree)?;
-        Ok(())
+// Lets them stand for free variables.
+fn place_terms(
+    terms: &mut ScopeTerms,
+    table: &mut LpTable,
+    variables: &[Variable],
+    depth: u128,
+) -> Result<(), Memory>
+    ensures terms { OnOk result (PlacesTerms table.old table.new terms.old variables.now depth terms.new) }
+    ensures keeps { Keeps table.old table.new }
+{
+    let mut place = depth;
+    for variable in variables {
+        place = place.saturating_sub(1);
+        let tree = table.node(LpNode::Var(place))?;
+        set_term(terms, variable, tree)?;
     }
+    Ok(())
+}
 
-    // Lets a tree prove a hypothesis.
-    pub(crate) fn set_proof(&mut self, id: TermId, tree: LpId) -> Result<(), Memory>
-        ensures proofs { OnOk result (self.new.proofs ≡ insert_entry same_id self.old.proofs id tree) }
-        ensures alone { OnOk result (ProofsAlone self.old self.new) }
-    {
-        self.proofs.insert(id, tree)?;
-        Ok(())
+// Lets them prove hypotheses.
+fn place_proofs(
+    proofs: &mut TreeMap<TermId, LpId>,
+    table: &mut LpTable,
+    hyps: &[TermId],
+    depth: u128,
+) -> Result<(), Memory>
+    ensures proofs { OnOk result (PlacesProofs table.old table.new proofs.old hyps.now depth proofs.new) }
+    ensures keeps { Keeps table.old table.new }
+{
+    let mut place = depth;
+    for id in hyps {
+        place = place.saturating_sub(1);
+        let tree = table.node(LpNode::Var(place))?;
+        set_proof(proofs, *id, tree)?;
     }
+    Ok(())
+}
+
+// Lets a tree stand for a type variable.
+fn set_type(types: &mut ScopeTypes, name: &Name, tree: LpId) -> Result<(), Memory>
+    ensures { OnOk result (types.new ≡ insert_entry name_eq types.old name.now tree) }
+{
+    types.set(name.clone()?, tree)
+}
+
+// Lets a tree stand for a free variable.
+fn set_term(terms: &mut ScopeTerms, variable: &Variable, tree: LpId) -> Result<(), Memory>
+    ensures { OnOk result (terms.new ≡ insert_entry same_variable terms.old variable.now tree) }
+{
+    terms.set(copied(variable)?, tree)
+}
+
+// Lets a tree prove a hypothesis.
+fn set_proof(proofs: &mut TreeMap<TermId, LpId>, id: TermId, tree: LpId) -> Result<(), Memory>
+    ensures { OnOk result (proofs.new ≡ insert_entry same_id proofs.old id tree) }
+{
+    proofs.insert(id, tree)
 }
 
 // A variable, copied.

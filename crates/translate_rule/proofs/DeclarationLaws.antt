@@ -1,9 +1,9 @@
 -- The declaration of a step, put together of its parts.
-use Rattle.std.proofs.Common.{◌≡◌, ℕ, suc, ◌+◌, ◌<◌, Bool, true, false, cond, refl, sym, ap, subst, ◌∙◌, List, [], ◌∷◌, ◌++◌, map, length, arith, Some, None}
+use Rattle.std.proofs.Common.{◌≡◌, ℕ, suc, ◌+◌, ◌<◌, Bool, true, false, refl, sym, ap, subst, ◌∙◌, List, [], ◌∷◌, ◌++◌, map, length, arith}
 use Rattle.std.proofs.lemmas.List.{length-append, length-map}
 use Rattle.std.specs.List.{AllByRecursion}
 use Rattle.hol_spec.specs.Names.{Name}
-use Rattle.hol_spec.specs.Proofs.{Made, Step, sequent_at, IsProof}
+use Rattle.hol_spec.specs.Proofs.{Step, sequent_at, IsProof}
 use Rattle.hol_spec.specs.Rules.{Parameters}
 use Rattle.hol_spec.specs.Sequents.{Sequent, type_variables_of, free_variables_of}
 use Rattle.hol_spec.specs.Terms.{Term, Variable}
@@ -12,7 +12,6 @@ use Rattle.hol_rules.specs.Kept.{Kept, step_count}
 use Rattle.hol_rules.specs.Views.{step_at}
 use Rattle.lp_spec.specs.Lemmas.{theorem}
 use Rattle.lp_spec.specs.Modules.{Declaration, symbol, types}
-use Rattle.lp_spec.specs.Trees.{Tree}
 use Rattle.translate_laws.specs.NeededSteps.{needed-sequent, needed-row}
 use Rattle.translate_spec.specs.Items.{declaration_of}
 use Rattle.translate_spec.specs.MadeItems.{content_by}

@@ -28,7 +28,6 @@ use Rattle.image_items_laws.specs.Making.{items_made, module_number, definition_
 use Rattle.image_items_laws.specs.NextDefinitions.{next-definition, next-definition-kept, next-definition-gone}
 use Rattle.image_items_laws.specs.NextSteps.{each-at, nothing_said}
 use Rattle.image_items_laws.specs.Positions.{index-front, get-within}
-use Rattle.translate_rule.specs.declared.items.Item.{Item as AnItem}
 use Rattle.translate_rule.specs.declared.items.Item.TheVariants as item
 use Rattle.translate_rule.specs.declared.items.TypeDefinition.{TypeDefinition}
 use Rattle.translate_rule.specs.declared.builder.ModuleBuilder.{ModuleBuilder}

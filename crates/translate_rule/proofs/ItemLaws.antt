@@ -19,7 +19,7 @@ use Rattle.translate_spec.specs.Items.{Content, declaration_of, definition_tree}
 use Rattle.translate_spec.specs.Scopes.{SymbolMap, filled, generic_tree, term_tree, type_tree, under_types, unfilled}
 use Rattle.translate_laws.specs.ListedScopes.{told, told_types}
 use Rattle.translate_term.specs.Told.{types_in, terms_in}
-use Rattle.translate_rule.specs.TypeScopes.{IsTypeScope}
+use Rattle.translate_proof.specs.Environments.{TellTypes}
 use Rattle.translate_rule.proofs.GenericLaws.{binders-of}
 
 -- a symbol without a body
@@ -39,13 +39,13 @@ pub binders-are : (names vars : List Name) (count : ℕ) → names ≡ vars → 
 binders-are names vars count e c = ap (λ n. replicate n types) c ∙ binders-of names ∙ ap (map (λ (n : Name). types)) e
 
 -- what a scope tells, as a function
-scope-is : (trees : List Tree) (entries : List (Name × LpId)) (names vars : List Name) → names ≡ vars → IsTypeScope trees entries (under_types names unfilled)
+scope-is : (trees : List Tree) (entries : List (Name × LpId)) (names vars : List Name) → names ≡ vars → TellTypes trees entries (under_types names unfilled)
     → told_types (types_in trees entries) ≡ under_types vars unfilled
 scope-is trees entries names vars e h = fun_ext h.each ∙ ap (λ l. under_types l unfilled) e
 
 -- The type of a constant
 pub generic-made : (symbols : SymbolMap) (t : HolType) (scoped mid inner new : List Tree) (entries : List (Name × LpId)) (names : List Name) (count : ℕ)
-    (tree inside r : LpId) → names ≡ type_variables t → count ≡ length names → IsTypeScope scoped entries (under_types names unfilled)
+    (tree inside r : LpId) → names ≡ type_variables t → count ≡ length names → TellTypes scoped entries (under_types names unfilled)
     → Holds mid tree.0 (type_tree symbols (told_types (types_in scoped entries)) t) → Holds inner inside.0 (term_of (tree_at mid tree.0))
     → Holds new r.0 (products (replicate count types) (tree_at inner inside.0)) → Holds new r.0 (generic_tree symbols t)
 generic-made symbols t scoped mid inner new entries names count tree inside r e c scope is terms made =
@@ -57,7 +57,7 @@ generic-made symbols t scoped mid inner new entries names count tree inside r e 
 -- What a constant stands for
 pub definition-made : (symbols : SymbolMap) (a : HolType) (t : Term) (types_of : List HolType) (scoped mid new : List Tree) (entries : List (Name × LpId))
     (others : List (AVariable × LpId)) (names : List Name) (count : ℕ) (tree r : LpId) → names ≡ type_variables a → count ≡ length names
-    → IsTypeScope scoped entries (under_types names unfilled) → others ≡ []
+    → TellTypes scoped entries (under_types names unfilled) → others ≡ []
     → Holds mid tree.0 (term_tree symbols (told symbols (types_in scoped entries) (terms_in types_of scoped others)) t)
     → Holds new r.0 (abstractions (replicate count types) (tree_at mid tree.0)) → Holds new r.0 (definition_tree symbols a t)
 definition-made symbols a t types_of scoped mid new entries others names count tree r e c scope none is made =

@@ -2,7 +2,7 @@
 use Rattle.std.proofs.Common.{◌≡◌, ℕ, refl, sym, ap, ◌∙◌, List, [], ◌∷◌, unwrap_or}
 use Rattle.hol_spec.specs.Types.{HolType}
 use Rattle.hol_spec.specs.Primitives.{bool, function}
-use Rattle.hol_spec.specs.Terms.{Term, Variable, equation, app, lam}
+use Rattle.hol_spec.specs.Terms.{Term, equation, app, lam}
 use Rattle.hol_spec.specs.TermBinding.{put}
 use Rattle.hol_spec.specs.Sequents.{Sequent}
 use Rattle.hol_spec.specs.Rules.{Rule, Parameters}
@@ -11,7 +11,7 @@ use Rattle.hol_spec.specs.declared.StepKind.TheVariants as kinds
 use Rattle.lp_spec.specs.Trees.{Tree}
 use Rattle.translate_spec.specs.Scopes.{SymbolMap, Scope}
 use Rattle.translate_spec.specs.ProofTrees.{refl_tree, app_thm_tree}
-use Rattle.translate_spec.specs.Rows.{proof_tree, equated_type, left_side, right_side, argument_type, result_type, type_or}
+use Rattle.translate_spec.specs.Rows.{proof_tree, equated_type, left_side, right_side, argument_type, result_type}
 
 -- a conclusion is an equation
 pub record IsEquation (s : Sequent) : Type 0 where

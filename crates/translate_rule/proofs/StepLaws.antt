@@ -1,20 +1,14 @@
 -- A step of a proof: its rule, its premises, and its row.
-use Rattle.std.proofs.Common.{◌≡◌, ℕ, zero, suc, ◌<◌, ◌≤◌, refl, sym, ap, subst, ◌∙◌, arith, List, [], ◌∷◌, ◌++◌, map, length, Some, slice_get, ◌⊎◌, inl, inr, unwrap_or}
+use Rattle.std.proofs.Common.{◌≡◌, ℕ, zero, suc, ◌<◌, refl, sym, ap, subst, ◌∙◌, arith, List, [], ◌∷◌, ◌++◌, map, length, Some, slice_get, ◌⊎◌, inl, inr}
 use Rattle.std.specs.Prelude.{slice_index_or}
 use Rattle.std.specs.List.{AllByRecursion}
 use Rattle.std.proofs.lemmas.List.{append-nil, length-map}
 use Rattle.std.proofs.lemmas.Option.{same_Some}
-use Rattle.hol_spec.specs.Types.{HolType}
-use Rattle.hol_spec.specs.Primitives.{bool, function}
-use Rattle.hol_spec.specs.Terms.{Term, Variable, bound, equation}
+use Rattle.hol_spec.specs.Terms.{bound}
 use Rattle.hol_spec.specs.Sequents.{Sequent}
-use Rattle.hol_spec.specs.TermSubstitution.{TermPairs, sub, AreFitting}
-use Rattle.hol_spec.specs.Substitution.{TypePairs}
-use Rattle.hol_spec.specs.Rules.{Rule, Parameters, derived}
-use Rattle.hol_spec.specs.Rules as rule
-use Rattle.hol_spec.specs.Proofs.{Made, Step, steps_of, sequents_of, sequent_at, ArePremises, IsStep, IsMade, IsProof}
+use Rattle.hol_spec.specs.Rules.{Rule}
+use Rattle.hol_spec.specs.Proofs.{Made, Step, steps_of, sequents_of, sequent_at, ArePremises, IsProof}
 use Rattle.hol_spec.specs.Proofs as made
-use Rattle.hol_spec.specs.declared.StepKind.TheVariants as kinds
 use Rattle.hol_proof_laws.specs.ProofGrowth.{steps_of-append, sequents_of-append}
 use Rattle.hol_rules.specs.Views.{step_at}
 

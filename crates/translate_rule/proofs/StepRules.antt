@@ -1,14 +1,12 @@
 -- What the proof of a step asks of it and what it gives, by the numbers of its premises.
-use Rattle.std.proofs.Common.{◌≡◌, ℕ, ◌<◌, ◌≤◌, Bool, true, false, cond, refl, sym, ap, subst, ◌∙◌, arith, List, [], ◌∷◌, map, length}
+use Rattle.std.proofs.Common.{◌≡◌, ℕ, ◌<◌, true, false, cond, refl, sym, ap, subst, ◌∙◌, List, [], ◌∷◌, map, length}
 use Rattle.std.specs.Prelude.{drop}
 use Rattle.std.proofs.lemmas.List.{length-map, nil_from_length}
 use Rattle.std.specs.List.{AllByRecursion}
-use Rattle.hol_spec.specs.Primitives.{bool, function}
-use Rattle.hol_spec.specs.Terms.{Term, Variable, equation}
 use Rattle.hol_spec.specs.Sequents.{Sequent}
 use Rattle.hol_spec.specs.Rules.{Rule, Parameters}
 use Rattle.hol_spec.specs.Rules as rule
-use Rattle.hol_spec.specs.Proofs.{Made, Step, sequent_at, IsProof}
+use Rattle.hol_spec.specs.Proofs.{Step, sequent_at, IsProof}
 use Rattle.hol_spec.specs.declared.StepKind.{StepKind}
 use Rattle.hol_spec.specs.declared.StepKind.TheVariants as kinds
 use Rattle.hol_rules.specs.Kept.{Kept, step_count}
@@ -18,9 +16,8 @@ use Rattle.lp_spec.specs.Trees.{Tree}
 use Rattle.translate_spec.specs.MadeItems.{proves_nothing, restated, needed}
 use Rattle.translate_spec.specs.Rows.{proof_tree, has_row}
 use Rattle.translate_spec.specs.Scopes.{SymbolMap, Scope, theorem_tree}
-use Rattle.translate_term.specs.Told.{TellsType, TellsTerm}
 use Rattle.translate_proof.specs.declared.premise.Premise.{Premise}
-use Rattle.translate_rule.specs.Steps.{symbol_in, needed_at, rule_tree, TellsProof, IsPremise, IsOne, AreTwo}
+use Rattle.translate_rule.specs.Steps.{symbol_in, needed_at, rule_tree, TellsProof, IsOne, AreTwo}
 use Rattle.translate_proof.specs.Told.{TellsSequent}
 use Rattle.translate_proof.specs.Equations.{IsEquationStep}
 use Rattle.translate_rule.proofs.RuleLaws.{IsEquation}

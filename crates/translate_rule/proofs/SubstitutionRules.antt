@@ -1,5 +1,5 @@
 -- The rule of substitution, by what its step was given.
-use Rattle.std.proofs.Common.{◌≡◌, ℕ, refl, sym, ap, ◌∙◌, subst, List, [], ◌∷◌}
+use Rattle.std.proofs.Common.{◌≡◌, ℕ, refl, sym, ap, subst, List, [], ◌∷◌}
 use Rattle.hol_spec.specs.Proofs.{sequent_at}
 use Rattle.hol_spec.specs.Rules.{Rule, Parameters}
 use Rattle.hol_spec.specs.Rules as rule

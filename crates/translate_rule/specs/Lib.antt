@@ -3,7 +3,6 @@ pub mod ItemViews
 pub mod Parts
 pub mod LemmaNodes
 pub mod Building
-pub mod TypeScopes
 pub mod LawSteps
 pub mod Domains
 pub mod Unnamed

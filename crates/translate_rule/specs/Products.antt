@@ -1,8 +1,7 @@
 -- The products over formulas and over variables, which are made in one environment.
 use Rattle.std.specs.Prelude.{ℕ, List}
 use Rattle.std.specs.List.{AllByRecursion}
-use Rattle.hol_spec.specs.Terms.{Term, Variable}
-use Rattle.hol_spec.specs.Types.{HolType}
+use Rattle.hol_spec.specs.Terms.{Variable}
 use Rattle.hol_rules.specs.Kept.{Kept}
 use Rattle.hol_term.specs.declared.TermId.{TermId}
 use Rattle.hol_term.specs.declared.Variable.{Variable as AVariable}
@@ -17,30 +16,16 @@ use Rattle.lp_term.specs.Tables.{Holds}
 use Rattle.translate_spec.specs.Scopes.{term_tree, type_tree}
 use Rattle.translate_proof.specs.declared.scope.Environment.{Environment}
 use Rattle.translate_proof.specs.Environments.{Given, IsTold, Represents}
+use Rattle.translate_proof.specs.Grounds.{TellsTermAt, TellsTypeAt, TellsVariables}
 use Rattle.translate_rule.specs.Domains.{lifted_domains}
-use Rattle.translate_term.specs.Told.{TellsType}
-
--- an environment stands for what is given, of which this is told
-abbrev pub HasGiven : Kept → Environment → (Given → Type 0) → Module → Type 0
-HasGiven k env Tells m = (given : Given) × Represents given m k.trees env × Tells given
 
 -- a tree is this one for what is given, where that is told
 abbrev pub IsGivenTree : Kept → Environment → (Given → Type 0) → (Given → Tree) → Module → Module → LpId → Type 0
 IsGivenTree k env Tells tree old new r = (given : Given) → Represents given old k.trees env → Tells given → Holds new.table r.0 (tree given)
 
--- a formula is told, and formulas are
-abbrev pub TellsFormula : Kept → TermId → Given → Type 0
-TellsFormula k id given = IsTold given (term_at k.trees id.0)
-
+-- formulas are told
 abbrev pub TellsFormulas : Kept → List TermId → Given → Type 0
 TellsFormulas k hyps given = AllByRecursion (IsTold given) (terms_at k.trees hyps)
-
--- a type is told, and those of variables are
-abbrev pub TellsTypeAt : Kept → TypeId → Given → Type 0
-TellsTypeAt k id given = TellsType given.declarations given.symbols (type_at k.trees id.0)
-
-abbrev pub TellsVariables : Kept → List AVariable → Given → Type 0
-TellsVariables k variables given = AllByRecursion (λ (v : Variable). TellsType given.declarations given.symbols v.1) (variables_of k.trees variables)
 
 -- the product over the proofs of a formula, which are lifted, and over the proofs of formulas
 abbrev pub formula_product : Kept → TermId → ℕ → Tree → Given → Tree
@@ -59,7 +44,7 @@ types_product k variables inside given =
 
 -- a tree is such a product
 abbrev pub IsOverFormula : Kept → Environment → TermId → ℕ → Tree → Module → Module → LpId → Type 0
-IsOverFormula k env id outside inside old new r = IsGivenTree k env (TellsFormula k id) (formula_product k id outside inside) old new r
+IsOverFormula k env id outside inside old new r = IsGivenTree k env (TellsTermAt k id) (formula_product k id outside inside) old new r
 
 abbrev pub AreOverFormulas : Kept → Environment → List TermId → Tree → Module → Module → LpId → Type 0
 AreOverFormulas k env hyps inside old new r = IsGivenTree k env (TellsFormulas k hyps) (formulas_product k hyps inside) old new r

@@ -3,7 +3,6 @@ ghost use Rattle.std.specs.Prelude.{◌≡◌, ◌<◌, IfOk, OnOk};
 ghost use Rattle.article_spec.specs.SoundRuns.{IsSoundRun};
 ghost use Rattle.hol_defs.specs.Symbols.{IsKnownSymbol};
 ghost use Rattle.hol_rules.specs.Kept.{Kept as AProof};
-ghost use Rattle.hol_spec.specs.Proofs.{Accepted};
 ghost use Rattle.holide_sig.specs.Modules.{declarations_of, IsHeld};
 ghost use Rattle.translate_reach.specs.MadeItems.{IsNoted};
 ghost use Rattle.translate_spec.specs.Image.{image};

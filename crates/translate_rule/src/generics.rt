@@ -1,19 +1,18 @@
 //! What stands under the binders of a generic type's variables.
-ghost use Rattle.std.specs.Prelude.{◌≡◌, ◌<◌, [], length, replicate, IfOk, OnOk};
-ghost use Rattle.hol_spec.specs.NameEquality.{name_eq};
-ghost use Rattle.tree_map.specs.Entries.{insert_entry};
+ghost use Rattle.std.specs.Prelude.{◌≡◌, ◌<◌, [], length, replicate, IfOk};
 ghost use Rattle.lp_spec.specs.Modules.{abstractions, products, term_of as terms_of, types as simple_types};
 ghost use Rattle.lp_spec.specs.Trees.{Pi, Var};
 ghost use Rattle.lp_term.specs.Tables.{tree_at, Holds, Keeps};
 ghost use Rattle.translate_spec.specs.Scopes.{under_types, unfilled};
-ghost use Rattle.translate_rule.specs.TypeScopes.{IsTypeScope};
+ghost use Rattle.translate_proof.specs.Environments.{TellTypes};
 
 use common::Memory;
 use hol_name::Name;
 use holide_sig::symbols::{TERM, TYPE};
 use lp_term::{LpId, LpNode, LpTable};
 use std::alloc::Global;
-use translate_term::{Scope, ScopeTypes};
+use translate_proof::place_types;
+use translate_term::Scope;
 
 // The type of simple types.
 fn simple_type(table: &mut LpTable) -> Result<LpId, Memory>
@@ -96,23 +95,11 @@ pub(crate) fn type_scope(
     table: &mut LpTable,
     names: &[Name],
 ) -> Result<Scope, Memory>
-    ensures made { IfOk result (λ scope. IsTypeScope table.new scope.types (under_types names.now unfilled)) }
+    ensures made { IfOk result (λ scope. TellTypes table.new scope.types (under_types names.now unfilled)) }
     ensures terms { IfOk result (λ scope. scope.terms ≡ []) }
     ensures keeps { Keeps table.old table.new }
 {
     let mut scope = Scope::new(alloc);
-    let mut place = names.len() as u128;
-    for name in names {
-        place = place.saturating_sub(1);
-        let tree = table.node(LpNode::Var(place))?;
-        set_type(&mut scope.types, name, tree)?;
-    }
+    place_types(&mut scope.types, table, names, names.len() as u128)?;
     Ok(scope)
-}
-
-// Lets a tree stand for a type variable.
-fn set_type(types: &mut ScopeTypes, name: &Name, tree: LpId) -> Result<(), Memory>
-    ensures { OnOk result (types.new ≡ insert_entry name_eq types.old name.now tree) }
-{
-    types.set(name.clone()?, tree)
 }

@@ -20,7 +20,6 @@ use crate::generics::{at_types, operator_type, over_types, terms, terms_of_all, 
 use crate::parts::part_declaration;
 use crate::premises::with_symbol;
 use crate::run::Run;
-use crate::symbol_names::{constant_name, input_constant_name, input_operator_name};
 use common::Memory;
 use hol_defs::TypeOpView;
 use hol_name::Name;
@@ -31,7 +30,7 @@ use holide_sig::{Decl, Form, Ident, Module};
 use lp_term::LpId;
 use std::alloc::Global;
 use translate_proof::{KeptParams, Part};
-use translate_term::{tm, ty};
+use translate_term::{constant_name, input_constant_name, input_operator_name, tm, ty};
 
 /// A type definition, by its numbers.
 #[derive(Clone, Copy)]

@@ -25,7 +25,6 @@
 //! | `items` | an item of what was made, and its declaration |
 //! | `parts` | the declarations of a type definition's operator and constants, by the theorem from which it is made |
 //! | `generics` | types and definitions of constants, over the type variables of their types |
-//! | `symbol_names` | the names of operators and constants |
 //! | `lemmas` | the two lemmas with which each module begins, by the nodes of their trees |
 #![tactic(auto)]
 
@@ -40,7 +39,6 @@ mod premises;
 mod proof_term;
 mod run;
 mod statement;
-mod symbol_names;
 
 pub use builder::module;
 pub use declaration::step;

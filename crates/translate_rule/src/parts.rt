@@ -18,7 +18,6 @@ ghost use Rattle.translate_rule.specs.Parts.{part_at, IsDefining, IsDefiningTold
 use crate::generics::{at_types, operator_type};
 use crate::items::constant_type;
 use crate::own::type_environment;
-use crate::symbol_names::{constant_name, operator_name};
 use common::Memory;
 use hol_defs::TypeOpView;
 use hol_name::Name;
@@ -28,6 +27,7 @@ use holide_sig::{Decl, Form, Ident, Module};
 use lp_term::LpId;
 use std::alloc::Global;
 use translate_proof::{Environment, Part, Premise, type_part};
+use translate_term::{constant_name, operator_name};
 
 // The declaration of a part of a type definition, from a premise with its symbol.
 pub(crate) fn part_declaration(

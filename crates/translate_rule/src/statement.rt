@@ -7,8 +7,8 @@ ghost use Rattle.lp_term.specs.Tables.{tree_at, Holds, Keeps};
 ghost use Rattle.translate_spec.specs.Scopes.{conclusion_tree, sequent_tree};
 ghost use Rattle.translate_term.specs.Walks.{Grows};
 ghost use Rattle.translate_rule.specs.OwnSteps.{hypotheses_product, variables_product, IsReady, IsSequentTold, IsTreeOf};
-ghost use Rattle.translate_rule.specs.Products.{AreOverFormulas, AreOverTypes, HasGiven, IsOverFormula, IsOverType};
-ghost use Rattle.translate_rule.specs.Products.{TellsFormula, TellsFormulas, TellsTypeAt, TellsVariables};
+ghost use Rattle.translate_proof.specs.Grounds.{TellsTermAt, TellsTypeAt, TellsVariables, TellsWhere};
+ghost use Rattle.translate_rule.specs.Products.{AreOverFormulas, AreOverTypes, IsOverFormula, IsOverType, TellsFormulas};
 
 use crate::generics::over_types;
 use crate::own::{OwnStep, type_environment, variable_environment};
@@ -84,7 +84,7 @@ fn over_formulas(
 ) -> Result<LpId, Memory>
     requires hyps { AreKnown proof.now.trees hyps.now }
     requires inside { inside.0 < length target.old.table }
-    requires told { HasGiven proof.now env.now (TellsFormulas proof.now hyps.now) target.old }
+    requires told { TellsWhere target.old proof.now env.now (TellsFormulas proof.now hyps.now) }
     ensures made { IfOk result (AreOverFormulas proof.now env.now hyps.now (tree_at target.old.table inside.0) target.old target.new) }
     ensures known { IfOk result (λ r. r.0 < length target.new.table) }
     ensures grows { Grows target.old target.new }
@@ -109,7 +109,7 @@ fn over_formula(
 ) -> Result<LpId, Memory>
     requires id { id.0 < length proof.now.trees.terms }
     requires inside { inside.0 < length target.old.table }
-    requires told { HasGiven proof.now env.now (TellsFormula proof.now id) target.old }
+    requires told { TellsWhere target.old proof.now env.now (TellsTermAt proof.now id) }
     ensures made { IfOk result (IsOverFormula proof.now env.now id outside (tree_at target.old.table inside.0) target.old target.new) }
     ensures known { IfOk result (λ r. r.0 < length target.new.table) }
     ensures grows { Grows target.old target.new }
@@ -149,7 +149,7 @@ fn over_terms(
 ) -> Result<LpId, Memory>
     requires variables { HaveTypes proof.now.trees variables.now }
     requires inside { inside.0 < length target.old.table }
-    requires told { HasGiven proof.now env.now (TellsVariables proof.now variables.now) target.old }
+    requires told { TellsWhere target.old proof.now env.now (TellsVariables proof.now variables.now) }
     ensures made { IfOk result (AreOverTypes proof.now env.now variables.now (tree_at target.old.table inside.0) target.old target.new) }
     ensures known { IfOk result (λ r. r.0 < length target.new.table) }
     ensures grows { Grows target.old target.new }
@@ -174,7 +174,7 @@ fn over_type(
 ) -> Result<LpId, Memory>
     requires id { id.0 < length proof.now.trees.types }
     requires inside { inside.0 < length target.old.table }
-    requires told { HasGiven proof.now env.now (TellsTypeAt proof.now id) target.old }
+    requires told { TellsWhere target.old proof.now env.now (TellsTypeAt proof.now id) }
     ensures made { IfOk result (IsOverType proof.now env.now id outside (tree_at target.old.table inside.0) target.old target.new) }
     ensures known { IfOk result (λ r. r.0 < length target.new.table) }
     ensures grows { Grows target.old target.new }

@@ -1,5 +1,4 @@
-use Rattle.std.proofs.Common.{◌∙◌, ap, sym}
-use Rattle.translate_spec.specs.Rows.{has_row}
+use Rattle.std.proofs.Common.{sym}
 use Rattle.translate_rule.proofs.StepRules.{row-other}
 use Rattle.translate_rule.proofs.declaration.has_proof.Goals as goal
 

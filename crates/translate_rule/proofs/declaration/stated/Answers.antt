@@ -1,6 +1,5 @@
-use Rattle.std.proofs.Common.{sym, subst}
 use Rattle.std.proofs.lemmas.Result.{IfOk-weaker}
-use Rattle.translate_term.specs.GrowLaws.{IsHeld-Grows, Grows-trans, declarations_of-Grows}
+use Rattle.translate_term.specs.GrowLaws.{IsHeld-Grows, Grows-trans}
 use Rattle.translate_rule.specs.OwnSteps.{own_scope}
 use Rattle.translate_rule.specs.Steps.{content_at, TellsContent}
 use Rattle.translate_rule.proofs.OwnLaws.{told-Grows, StandsFor-Made}

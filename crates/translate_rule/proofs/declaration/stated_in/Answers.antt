@@ -1,4 +1,4 @@
-use Rattle.std.proofs.Common.{◌∙◌, refl, sym, ap, Some, None, arith}
+use Rattle.std.proofs.Common.{◌∙◌, sym, ap, Some, None, arith}
 use Rattle.holide_sig.specs.Modules.{declarations_of}
 use Rattle.lp_spec.specs.Modules.{abstractions}
 use Rattle.lp_spec.specs.declared.form.Form.TheVariants as form

@@ -1,4 +1,4 @@
-use Rattle.std.proofs.Common.{◌∙◌, ap, refl, sym, subst, Some, ◌∷◌, []}
+use Rattle.std.proofs.Common.{◌∙◌, ap, refl, subst, Some, ◌∷◌, []}
 use Rattle.std.proofs.lemmas.Result.{IfOk-weaker}
 use Rattle.hol_spec.specs.Proofs.{sequent_at}
 use Rattle.hol_spec.specs.Sequents.{Sequent}

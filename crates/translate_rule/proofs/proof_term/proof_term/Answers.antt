@@ -1,4 +1,4 @@
-use Rattle.std.proofs.Common.{◌∙◌, false, true, ◌≡◌, refl, sym, ap, Some, ◌∷◌, []}
+use Rattle.std.proofs.Common.{◌∙◌, false, true, ◌≡◌, refl, sym, ap, Some, []}
 use Rattle.std.proofs.lemmas.Result.{IfOk-weaker}
 use Rattle.hol_spec.specs.Sequents.{Sequent}
 use Rattle.hol_spec.specs.declared.StepKind.TheVariants as kinds

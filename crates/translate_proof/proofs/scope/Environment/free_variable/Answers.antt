@@ -17,7 +17,7 @@ filler-requires-clause-ty c = Holds-within _ c.in_ok-filled-in-None.filled.0 _
 pub returns-in-Some-clause-made : goal.returns-in-Some-clause-made
 returns-in-Some-clause-made c = λ given s told.
     variable-found c.args.proof.now.trees.types s.one_type _ c.args.variable.now c.requires.variable _ c.in-Some.tree
-    (filled_terms given.symbols given.scope.types) given.scope.terms s.terms_told (sym c.find_term.ensures ∙ c.in-Some.is)
+    (filled_terms given.symbols given.scope.types) given.scope.terms s.terms_told (sym c.find.ensures ∙ c.in-Some.is)
 
 pub returns-in_ok-filled-in-None-clause-made : goal.returns-in_ok-filled-in-None-clause-made
 returns-in_ok-filled-in-None-clause-made c =
@@ -25,5 +25,5 @@ returns-in_ok-filled-in-None-clause-made c =
     (λ r h given s told.
     h ∙ ap (λ a. Some (filler a)) (Holds-tree_at _ c.in_ok-filled-in-None.filled.0 _ (c.in_ok-filled-in-None.ensures.made given s told))
     ∙ ap Some (variable-absent c.args.proof.now.trees.types s.one_type _ c.args.variable.now c.requires.variable _
-    (filled_terms given.symbols given.scope.types) given.scope.terms s.terms_told (sym c.find_term.ensures ∙ c.in-None.is)))
+    (filled_terms given.symbols given.scope.types) given.scope.terms s.terms_told (sym c.find.ensures ∙ c.in-None.is)))
     c.filler.ensures.made

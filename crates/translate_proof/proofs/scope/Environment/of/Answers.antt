@@ -1,17 +1,7 @@
 use Rattle.translate_proof.proofs.scope.Environment.of.Goals as goal
 
 pub place-requires : goal.place-requires
-place-requires c =
-    let start = c.new-made.ensures in
-    record {
-      inside = c.requires;
-      types = start.types;
-      terms = start.terms;
-      proofs = start.proofs;
-      scope_types = start.scope_types;
-      scope_terms =
-          start.scope_terms;
-    }
+place-requires c = record { inside = c.requires; nothing = c.new-made.ensures.nothing }
 
 pub returns-in_err-place-clause-grows : goal.returns-in_err-place-clause-grows
 returns-in_err-place-clause-grows c = c.place.ensures.grows

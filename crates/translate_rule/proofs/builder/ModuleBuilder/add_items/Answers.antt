@@ -1,10 +1,9 @@
-use Rattle.std.proofs.Common.{◌∙◌, ◌++◌, ◌∷◌, [], Some, ap, refl, sym, subst}
+use Rattle.std.proofs.Common.{◌∙◌, ◌++◌, ◌∷◌, [], Some, ap, refl, subst}
 use Rattle.std.proofs.lemmas.Result.{on_ok_weaker}
 use Rattle.hol_defs.specs.Symbols.{symbol_at, IsKnownSymbol}
 use Rattle.hol_defs.specs.Views.{taken_of_view}
 use Rattle.image_items_laws.specs.Making.{items_made}
 use Rattle.translate_rule.specs.ItemViews.{accepted}
-use Rattle.translate_rule.specs.Building.{AreCounted}
 use Rattle.translate_rule.proofs.TakenLaws.{definition-is, definition-told, next-input-constant, next-input-operator, next-constant}
 use Rattle.translate_rule.proofs.builder.ModuleBuilder.add_items.Goals as goal
 
