@@ -36,6 +36,13 @@ impl Gathered {
         }
     }
 
+    /// Gathers nothing of what came so far.
+    pub(crate) fn forget(&mut self)
+        ensures { self.new ≡ [] }
+    {
+        self.len = 0;
+    }
+
     // How many bytes more can be gathered.
     fn room(&self) -> usize
         ensures { length self.now + result ≡ 4096 }

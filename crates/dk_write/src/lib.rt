@@ -5,7 +5,7 @@
 //! `write` puts the one text of a module to a sink, with a bound before each theorem: the whole text, or a front of it where the sink fails. It is
 //! `write_prelude`, and then `write_decl` for each declaration, for a caller that wants the text piece by piece. They take no memory: what follows
 //! the part that is being written stands in a path, which `Path::new` makes with room for the module's deepest tree. The text is gathered in an
-//! array, and the sink gets it declaration by declaration, at most 4,096 bytes at a time.
+//! array of the path, and the sink gets it declaration by declaration, at most 4,096 bytes at a time. What a failed write left there is forgotten.
 //!
 //! ```
 //! let module = Module::new(alloc)?;
@@ -28,6 +28,7 @@ mod path;
 mod tree;
 
 use crate::gathered::Gathered;
+use crate::path::Frames;
 pub use crate::path::Path;
 use crate::tree::write_tree;
 use bridge_base::{Failed, Sink, write_all};
@@ -93,35 +94,34 @@ pub fn write_decl<S: Sink>(
     ensures err { OnErr result (GainsFront (S.got sink.old) (line_at (declarations_of source.now) bounds.now i) (S.got sink.new)) }
     ensures cause { HasCause (S.faults sink.old) (S.faults sink.new) result }
 {
-    path.clear();
     let line = Bounded {
         decl: source.decls.get(i),
         bound: bounds[i],
     };
-    write_by(source, i, line, path, sink)
+    write_by(source, i, line, &mut path.frames, &mut path.gathered, sink)
 }
 
-// Writes what a declaration adds, with this path.
+// Writes what a declaration adds, with these frames, whatever stands there and is gathered.
 fn write_by<S: Sink>(
     source: &Module,
     before: usize,
     line: Bounded<'_>,
-    path: &mut Path,
+    frames: &mut Frames,
+    gathered: &mut Gathered,
     sink: &mut S,
 ) -> Result<(), Failed>
     requires held { IsHeld source.now }
     requires before { before ≤ length source.now.decls }
     requires known { IsKnown source.now.table line.decl.now }
-    requires room { IsWithin path.old.room source.now.table line.decl.now }
-    requires empty { path.old.frames ≡ [] }
-    requires small { path.old.room < 2 ^ 64 }
-    ensures room { path.new.room ≡ path.old.room }
+    requires room { IsWithin frames.old.room source.now.table line.decl.now }
+    ensures room { frames.new.room ≡ frames.old.room }
     ensures ok { OnOk result (Gains (S.got sink.old) (decl_text source.now before line.entry) (S.got sink.new)) }
     ensures err { OnErr result (GainsFront (S.got sink.old) (decl_text source.now before line.entry) (S.got sink.new)) }
     ensures cause { HasCause (S.faults sink.old) (S.faults sink.new) result }
 {
-    let mut gathered = Gathered::new();
-    write_declaration(source, before, line, path, &mut gathered, sink)?;
+    frames.clear();
+    gathered.forget();
+    write_declaration(source, before, line, frames, gathered, sink)?;
     gathered.flush(sink)
 }
 
@@ -130,23 +130,23 @@ fn write_declaration<S: Sink>(
     source: &Module,
     before: usize,
     line: Bounded<'_>,
-    path: &mut Path,
+    frames: &mut Frames,
     gathered: &mut Gathered,
     sink: &mut S,
 ) -> Result<(), Failed>
     requires held { IsHeld source.now }
     requires before { before ≤ length source.now.decls }
     requires known { IsKnown source.now.table line.decl.now }
-    requires room { IsWithin path.old.room source.now.table line.decl.now }
-    requires empty { path.old.frames ≡ [] }
-    requires small { path.old.room < 2 ^ 64 }
-    ensures room { path.new.room ≡ path.old.room }
+    requires room { IsWithin frames.old.room source.now.table line.decl.now }
+    requires empty { frames.old.frames ≡ [] }
+    requires small { frames.old.room < 2 ^ 64 }
+    ensures room { frames.new.room ≡ frames.old.room }
     ensures writes { WritesTo S.got S.faults sink.old gathered.old (decl_text source.now before line.entry) sink.new gathered.new result }
 {
     write_opening(line.decl.form, line.bound, gathered, sink)?;
     gathered.write_words(&[line.decl.name.as_bytes(), b" : "], sink)?;
-    write_tree(source, before, line.decl.ty, path, gathered, sink)?;
-    write_body(source, before, line.decl.body, path, gathered, sink)?;
+    write_tree(source, before, line.decl.ty, frames, gathered, sink)?;
+    write_body(source, before, line.decl.body, frames, gathered, sink)?;
     gathered.write_words(&[b".\n"], sink)
 }
 
@@ -175,23 +175,23 @@ fn write_body<S: Sink>(
     source: &Module,
     before: usize,
     body: Option<LpId>,
-    path: &mut Path,
+    frames: &mut Frames,
     gathered: &mut Gathered,
     sink: &mut S,
 ) -> Result<(), Failed>
     requires held { IsHeld source.now }
     requires before { before ≤ length source.now.decls }
     requires known { IsBodyKnown source.now.table body }
-    requires room { IsBodyWithin path.old.room source.now.table body }
-    requires empty { path.old.frames ≡ [] }
-    requires small { path.old.room < 2 ^ 64 }
-    ensures room { path.new.room ≡ path.old.room }
+    requires room { IsBodyWithin frames.old.room source.now.table body }
+    requires empty { frames.old.frames ≡ [] }
+    requires small { frames.old.room < 2 ^ 64 }
+    ensures room { frames.new.room ≡ frames.old.room }
     ensures writes { WritesTo S.got S.faults sink.old gathered.old (decl_body_text source.now before body) sink.new gathered.new result }
 {
     match body {
         Some(id) => {
             gathered.write_words(&[b" := "], sink)?;
-            write_tree(source, before, id, path, gathered, sink)
+            write_tree(source, before, id, frames, gathered, sink)
         }
         None => Ok(()),
     }

@@ -1,8 +1,9 @@
-//! What follows the part of a tree that is being written.
+//! What follows the part of a tree that is being written, and the path that owns it.
 ghost use Rattle.std.specs.Prelude.{◌≡◌, ◌<◌, ◌≤◌, ◌^◌, [], ◌∷◌, length, MatchOption, IfNone, IfOk, IfSome};
 ghost use Rattle.holide_sig.specs.Modules.{IsHeld, IsKnown};
 ghost use Rattle.dk_write.specs.Shallow.{AreTold, AreWithin, IsTold};
 
+use crate::gathered::Gathered;
 use common::Memory;
 use holide_sig::{Decl, Module};
 use lp_term::LpId;
@@ -29,14 +30,14 @@ pub(crate) enum Frame {
     Produced(Place, bool),
 }
 
-/// What follows the part of a tree that is being written, the next on top. It has room for as many frames as a module's trees are deep.
+/// What follows the part of a tree that is being written, the next on top.
 #[derive(Drop)]
-pub struct Path {
+pub(crate) struct Frames {
     frames: Vec<Frame>,
     len: usize,
 }
 
-impl Model for Path {
+impl Model for Frames {
     ghost use Rattle.std.specs.Prelude.{length, reverse, take, ◌≤◌};
     ghost use Rattle.dk_write.specs.Open.{Open};
 
@@ -47,15 +48,15 @@ impl Model for Path {
     ghost invariant = { λ p. p.len ≤ length p.frames.items };
 }
 
-impl Path {
-    /// A path with room for every tree of a module.
-    pub fn new(alloc: Global, source: &Module) -> Result<Path, Memory>
+impl Frames {
+    // No frame, with room for every tree of a module.
+    fn new(alloc: Global, source: &Module) -> Result<Frames, Memory>
         requires held { IsHeld source.now }
-        ensures room { IfOk result (λ path. AreWithin path.room source.now.table source.now.decls) }
+        ensures room { IfOk result (λ frames. AreWithin frames.room source.now.table source.now.decls) }
     {
         let room = greatest_depth(source) as usize;
         let frames = vec![in alloc; Frame::Close; room]?;
-        Ok(Path { frames, len: 0 })
+        Ok(Frames { frames, len: 0 })
     }
 
     // Leaves nothing open.
@@ -88,6 +89,36 @@ impl Path {
         }
         self.len -= 1;
         Some(self.frames[self.len])
+    }
+}
+
+/// What follows the part of a tree that is being written, and the text that a sink is to get. It has room for as many frames as a module's trees
+/// are deep.
+#[derive(Drop)]
+pub struct Path {
+    pub(crate) frames: Frames,
+    pub(crate) gathered: Gathered,
+}
+
+impl Model for Path {
+    ghost use Rattle.dk_write.specs.Open.{Open};
+
+    ghost Value = { Open };
+
+    ghost view = { λ p. p.frames };
+}
+
+impl Path {
+    /// A path with room for every tree of a module.
+    pub fn new(alloc: Global, source: &Module) -> Result<Path, Memory>
+        requires held { IsHeld source.now }
+        ensures room { IfOk result (λ path. AreWithin path.room source.now.table source.now.decls) }
+    {
+        let frames = Frames::new(alloc, source)?;
+        Ok(Path {
+            frames,
+            gathered: Gathered::new(),
+        })
     }
 }
 

@@ -1,4 +1,4 @@
-//! Writing a tree, with a path in the place of a recursion.
+//! Writing a tree, with what follows its parts in the place of a recursion.
 ghost use Rattle.std.specs.Prelude.{◌≡◌, None, take, ◌+◌, ◌-◌, ◌<◌, ◌≤◌, ◌^◌, [], ◌∷◌, ◌++◌, length, codes, IfOk, OnOk, OnErr, if◌then◌else◌};
 ghost use Rattle.bridge_base.specs.Outside.{GainsFront, HasCause};
 ghost use Rattle.lp_spec.specs.Trees.{depth as depth_of};
@@ -11,7 +11,7 @@ ghost use Rattle.dk_write.specs.Paths.{binder_text, root_text, GoesOn, IsPlace, 
 ghost use Rattle.dk_write.specs.Writing.{WritesTo};
 
 use crate::gathered::Gathered;
-use crate::path::{Frame, Path, Place};
+use crate::path::{Frame, Frames, Place};
 use bridge_base::{Failed, Sink};
 use holide_sig::{Module, SIGNATURE};
 use itoa::Buffer;
@@ -31,26 +31,26 @@ pub(crate) fn write_tree<S: Sink>(
     source: &Module,
     before: usize,
     id: LpId,
-    path: &mut Path,
+    frames: &mut Frames,
     gathered: &mut Gathered,
     sink: &mut S,
 ) -> Result<(), Failed>
     requires held { IsHeld source.now }
     requires before { before ≤ length source.now.decls }
     requires known { id.0 < length source.now.table }
-    requires room { depth_of (tree_at source.now.table id.0) ≤ path.old.room }
-    requires small { path.old.room < 2 ^ 64 }
-    requires empty { path.old.frames ≡ [] }
-    ensures empty { OnOk result (path.new.frames ≡ []) }
-    ensures room { path.new.room ≡ path.old.room }
+    requires room { depth_of (tree_at source.now.table id.0) ≤ frames.old.room }
+    requires small { frames.old.room < 2 ^ 64 }
+    requires empty { frames.old.frames ≡ [] }
+    ensures empty { OnOk result (frames.new.frames ≡ []) }
+    ensures room { frames.new.room ≡ frames.old.room }
     ensures writes { WritesTo S.got S.faults sink.old gathered.old (root_text source.now before id) sink.new gathered.new result }
 {
     let mut turn = Turn::Write(Place { id, depth: 0 });
     loop {
         turn = match turn {
-            Turn::Write(place) => write_place(source, before, place, path, gathered, sink)?,
-            Turn::Leave => match path.pop() {
-                Some(frame) => write_frame(source, before, frame, path, gathered, sink)?,
+            Turn::Write(place) => write_place(source, before, place, frames, gathered, sink)?,
+            Turn::Leave => match frames.pop() {
+                Some(frame) => write_frame(source, before, frame, frames, gathered, sink)?,
                 None => return Ok(()),
             },
         };
@@ -62,21 +62,21 @@ fn write_place<S: Sink>(
     source: &Module,
     before: usize,
     place: Place,
-    path: &mut Path,
+    frames: &mut Frames,
     gathered: &mut Gathered,
     sink: &mut S,
 ) -> Result<Turn, Failed>
     requires held { IsHeld source.now }
     requires before { before ≤ length source.now.decls }
-    requires place { IsPlace path.old.room source.now.table (length path.old.frames) place }
-    requires frames { AreFrames path.old.room source.now.table path.old.frames }
-    requires small { path.old.room < 2 ^ 64 }
-    ensures turn { IfOk result (IsTurn path.new.room source.now.table path.new.frames) }
-    ensures frames { IfOk result (λ _. AreFrames path.new.room source.now.table path.new.frames) }
-    ensures room { path.new.room ≡ path.old.room }
-    ensures less { IfOk result (λ turn. work source.now.table turn path.new.frames < work source.now.table (Turn.Write place) path.old.frames) }
-    ensures ok { IfOk result (GoesOn S.got source.now before sink.old gathered.old (Turn.Write place) path.old.frames sink.new gathered.new path.new.frames) }
-    ensures err { OnErr result (GainsFront (S.got sink.old) (gathered.old ++ left_text source.now before (Turn.Write place) path.old.frames) (S.got sink.new)) }
+    requires place { IsPlace frames.old.room source.now.table (length frames.old.frames) place }
+    requires frames { AreFrames frames.old.room source.now.table frames.old.frames }
+    requires small { frames.old.room < 2 ^ 64 }
+    ensures turn { IfOk result (IsTurn frames.new.room source.now.table frames.new.frames) }
+    ensures frames { IfOk result (λ _. AreFrames frames.new.room source.now.table frames.new.frames) }
+    ensures room { frames.new.room ≡ frames.old.room }
+    ensures less { IfOk result (λ turn. work source.now.table turn frames.new.frames < work source.now.table (Turn.Write place) frames.old.frames) }
+    ensures ok { IfOk result (GoesOn S.got source.now before sink.old gathered.old (Turn.Write place) frames.old.frames sink.new gathered.new frames.new.frames) }
+    ensures err { OnErr result (GainsFront (S.got sink.old) (gathered.old ++ left_text source.now before (Turn.Write place) frames.old.frames) (S.got sink.new)) }
     ensures cause { HasCause (S.faults sink.old) (S.faults sink.new) result }
 {
     match short_name(source, before, place.id) {
@@ -84,7 +84,7 @@ fn write_place<S: Sink>(
             gathered.write(symbol_name(source, symbol), sink)?;
             Ok(Turn::Leave)
         }
-        None => write_parts(source, before, place, path, gathered, sink),
+        None => write_parts(source, before, place, frames, gathered, sink),
     }
 }
 
@@ -93,22 +93,22 @@ fn write_parts<S: Sink>(
     source: &Module,
     before: usize,
     place: Place,
-    path: &mut Path,
+    frames: &mut Frames,
     gathered: &mut Gathered,
     sink: &mut S,
 ) -> Result<Turn, Failed>
     requires held { IsHeld source.now }
     requires before { before ≤ length source.now.decls }
-    requires place { IsPlace path.old.room source.now.table (length path.old.frames) place }
-    requires frames { AreFrames path.old.room source.now.table path.old.frames }
-    requires small { path.old.room < 2 ^ 64 }
+    requires place { IsPlace frames.old.room source.now.table (length frames.old.frames) place }
+    requires frames { AreFrames frames.old.room source.now.table frames.old.frames }
+    requires small { frames.old.room < 2 ^ 64 }
     requires long { short (take before (declarations_of source.now)) (tree_at source.now.table place.id.0) ≡ None }
-    ensures turn { IfOk result (IsTurn path.new.room source.now.table path.new.frames) }
-    ensures frames { IfOk result (λ _. AreFrames path.new.room source.now.table path.new.frames) }
-    ensures room { path.new.room ≡ path.old.room }
-    ensures less { IfOk result (λ turn. work source.now.table turn path.new.frames < work source.now.table (Turn.Write place) path.old.frames) }
-    ensures ok { IfOk result (GoesOn S.got source.now before sink.old gathered.old (Turn.Write place) path.old.frames sink.new gathered.new path.new.frames) }
-    ensures err { OnErr result (GainsFront (S.got sink.old) (gathered.old ++ left_text source.now before (Turn.Write place) path.old.frames) (S.got sink.new)) }
+    ensures turn { IfOk result (IsTurn frames.new.room source.now.table frames.new.frames) }
+    ensures frames { IfOk result (λ _. AreFrames frames.new.room source.now.table frames.new.frames) }
+    ensures room { frames.new.room ≡ frames.old.room }
+    ensures less { IfOk result (λ turn. work source.now.table turn frames.new.frames < work source.now.table (Turn.Write place) frames.old.frames) }
+    ensures ok { IfOk result (GoesOn S.got source.now before sink.old gathered.old (Turn.Write place) frames.old.frames sink.new gathered.new frames.new.frames) }
+    ensures err { OnErr result (GainsFront (S.got sink.old) (gathered.old ++ left_text source.now before (Turn.Write place) frames.old.frames) (S.got sink.new)) }
     ensures cause { HasCause (S.faults sink.old) (S.faults sink.new) result }
 {
     let depth = place.depth;
@@ -130,7 +130,7 @@ fn write_parts<S: Sink>(
         }
         LpNode::App(function, argument) => {
             let closes = is_binder(source, before, function);
-            path.push(Frame::Argument(
+            frames.push(Frame::Argument(
                 Place {
                     id: argument,
                     depth,
@@ -145,7 +145,7 @@ fn write_parts<S: Sink>(
         }
         LpNode::Lam(domain, body) => {
             let closes = is_binder(source, before, domain);
-            path.push(Frame::Abstracted(
+            frames.push(Frame::Abstracted(
                 Place {
                     id: body,
                     depth: depth + 1,
@@ -157,7 +157,7 @@ fn write_parts<S: Sink>(
         }
         LpNode::Pi(domain, body) => {
             let closes = is_binder(source, before, domain);
-            path.push(Frame::Produced(
+            frames.push(Frame::Produced(
                 Place {
                     id: body,
                     depth: depth + 1,
@@ -200,22 +200,22 @@ fn write_frame<S: Sink>(
     source: &Module,
     before: usize,
     frame: Frame,
-    path: &mut Path,
+    frames: &mut Frames,
     gathered: &mut Gathered,
     sink: &mut S,
 ) -> Result<Turn, Failed>
     requires held { IsHeld source.now }
     requires before { before ≤ length source.now.decls }
-    requires frame { IsFrame path.old.room source.now.table (length path.old.frames) frame }
-    requires frames { AreFrames path.old.room source.now.table path.old.frames }
-    requires small { path.old.room < 2 ^ 64 }
-    requires room { length path.old.frames < path.old.room }
-    ensures turn { IfOk result (IsTurn path.new.room source.now.table path.new.frames) }
-    ensures frames { IfOk result (λ _. AreFrames path.new.room source.now.table path.new.frames) }
-    ensures room { path.new.room ≡ path.old.room }
-    ensures less { IfOk result (λ turn. work source.now.table turn path.new.frames < work source.now.table Turn.Leave (frame ∷ path.old.frames)) }
-    ensures ok { IfOk result (GoesOn S.got source.now before sink.old gathered.old Turn.Leave (frame ∷ path.old.frames) sink.new gathered.new path.new.frames) }
-    ensures err { OnErr result (GainsFront (S.got sink.old) (gathered.old ++ left_text source.now before Turn.Leave (frame ∷ path.old.frames)) (S.got sink.new)) }
+    requires frame { IsFrame frames.old.room source.now.table (length frames.old.frames) frame }
+    requires frames { AreFrames frames.old.room source.now.table frames.old.frames }
+    requires small { frames.old.room < 2 ^ 64 }
+    requires room { length frames.old.frames < frames.old.room }
+    ensures turn { IfOk result (IsTurn frames.new.room source.now.table frames.new.frames) }
+    ensures frames { IfOk result (λ _. AreFrames frames.new.room source.now.table frames.new.frames) }
+    ensures room { frames.new.room ≡ frames.old.room }
+    ensures less { IfOk result (λ turn. work source.now.table turn frames.new.frames < work source.now.table Turn.Leave (frame ∷ frames.old.frames)) }
+    ensures ok { IfOk result (GoesOn S.got source.now before sink.old gathered.old Turn.Leave (frame ∷ frames.old.frames) sink.new gathered.new frames.new.frames) }
+    ensures err { OnErr result (GainsFront (S.got sink.old) (gathered.old ++ left_text source.now before Turn.Leave (frame ∷ frames.old.frames)) (S.got sink.new)) }
     ensures cause { HasCause (S.faults sink.old) (S.faults sink.new) result }
 {
     match frame {
@@ -227,7 +227,7 @@ fn write_frame<S: Sink>(
             let opens = !is_word(source, before, place.id);
             gathered.write(between(closes, opens), sink)?;
             if opens {
-                path.push(Frame::Close);
+                frames.push(Frame::Close);
             }
             Ok(Turn::Write(place))
         }

@@ -31,7 +31,7 @@ module _ (amount : Place → ℕ) (trees : List Tree) (place : Place) (tasks : L
     pub set_out_walk : (goal : ℕ) → IsWalk amount trees goal (Visit place ∷ tasks) amounts memo
         → IsWalk amount trees goal (Visit first ∷ Visit second ∷ Join place ∷ tasks) amounts memo
     set_out_walk goal w = record {
-      places = (two.first_place, (two.second_place, w.places.1));
+      places = (two.first_place, (two.second_place, (w.places.0, w.places.1)));
       noted = w.noted;
       makes = (saturated-sum (amount first) (amount second) ∙ two.sum, w.makes);
     }
@@ -49,10 +49,15 @@ join_walk place n first second tasks amounts rest memo noted em en notes amount 
     let makes = subst (λ l. Makes amount (Join place ∷ tasks) l goal) em w.makes in
     let is : n ≡ saturated (amount place) = en ∙ makes.0 in
     record {
-      places = w.places;
+      places = w.places.1;
       noted = λ p k h. ⊎_elim (λ old. w.noted p k old) (λ new. new.1 ∙ is ∙ ap (λ q. saturated (amount q)) (sym new.0)) (notes p k h);
       makes = subst (λ k. Makes amount tasks (k ∷ rest) goal) (sym is) makes.1;
     }
+
+-- a join is at a place of the table
+pub join_place : (amount : Place → ℕ) (trees : List Tree) (goal : ℕ) (place : Place) (tasks : List Task) (amounts : List ℕ) (memo : List (Place × ℕ))
+    → IsWalk amount trees goal (Join place ∷ tasks) amounts memo → place.id.0 < length trees
+join_place amount trees goal place tasks amounts memo w = w.places.0.known
 
 -- a join has two amounts on top
 pub join_length : (amount : Place → ℕ) (trees : List Tree) (goal : ℕ) (place : Place) (tasks : List Task) (amounts : List ℕ) (memo : List (Place × ℕ))

@@ -46,11 +46,15 @@ Makes amount (Join place ∷ rest) (second ∷ first ∷ amounts) goal =
     (saturated (first + second) ≡ saturated (amount place)) × Makes amount rest (saturated (amount place) ∷ amounts) goal
 Makes amount (Join place ∷ rest) _ goal = ⊥
 
--- each place that is to be visited is one of the table
+-- the tree at a place is noted, since it has more than a few nodes
+abbrev pub IsLarge : List Tree → Place → Type 0
+IsLarge trees place = 16 < size (tree_of trees place)
+
+-- each place that is to be visited or joined is one of the table
 abbrev pub ArePlaces : List Tree → List Task → Type 0
 ArePlaces trees [] = Unit {0}
 ArePlaces trees (Visit place ∷ rest) = IsPlace trees place × ArePlaces trees rest
-ArePlaces trees (Join place ∷ rest) = ArePlaces trees rest
+ArePlaces trees (Join place ∷ rest) = IsPlace trees place × ArePlaces trees rest
 
 -- each amount of the memo is that of its place
 abbrev pub IsMemo : (Place → ℕ) → List (Place × ℕ) → Type 0

@@ -1,11 +1,11 @@
-//! How often variables occur in trees: sums over the places of a tree, each looked at once. The walk keeps a stack of its own.
-ghost use Rattle.std.specs.Prelude.{◌≡◌, ℕ, ◌<◌, ◌∷◌, List, length, IfOk, OnOk};
+//! How often variables occur in trees: sums over the places of a tree, each whose tree is large looked at once. The walk keeps a stack of its own.
+ghost use Rattle.std.specs.Prelude.{◌≡◌, ◌⊎◌, ℕ, ◌<◌, ◌∷◌, List, length, IfOk, IfSome, IfNone, OnOk};
 ghost use Rattle.lp_spec.specs.Trees.{Tree};
 ghost use Rattle.lp_weight.specs.declared.memo.Place.{Place as APlace};
 ghost use Rattle.lp_weight.specs.declared.measure.Task.TheVariants as task;
 ghost use Rattle.lp_weight.specs.Saturation.{saturated};
 ghost use Rattle.tree_map.specs.Noted.{IsNoted};
-ghost use Rattle.lp_weight.specs.Measures.{IsPlace, IsWalk, IsIdle, place_occurrences, work};
+ghost use Rattle.lp_weight.specs.Measures.{IsPlace, IsLarge, IsWalk, IsIdle, place_occurrences, work};
 
 use crate::memo::{Memo, Place};
 use crate::occurrences::{Parts, parts_of};
@@ -25,6 +25,9 @@ pub(crate) enum Task {
 
 // From how many amounts on a walk forgets them before the next.
 const MOST: usize = 1 << 14;
+
+// How many nodes a tree has at most that is summed anew at each visit, which costs less than to note it and to look for it.
+const SMALL: u128 = 16;
 
 /// A walk, on its way or idle. What it noted stays for the next.
 #[derive(Drop)]
@@ -86,7 +89,7 @@ fn turn(base: &Module, task: Task, walk: &mut Walk) -> Result<(), Memory>
 {
     match task {
         Task::Visit(place) => visit(base, place, walk),
-        Task::Join(place) => join(place, walk),
+        Task::Join(place) => join(base, place, walk),
     }
 }
 
@@ -97,15 +100,40 @@ fn visit(base: &Module, place: Place, walk: &mut Walk) -> Result<(), Memory>
         → IsWalk (place_occurrences base.now) base.now.table goal (task.Visit place ∷ walk.old.tasks) walk.old.amounts walk.old.memo
         → IsWalk (place_occurrences base.now) base.now.table goal walk.new.tasks walk.new.amounts walk.new.memo) }
     ensures less { OnOk result (work base.now.table walk.new.tasks < work base.now.table (task.Visit place ∷ walk.old.tasks)) }
-    ensures once { OnOk result ((n : ℕ) → IsNoted walk.old.memo place n → walk.new.tasks ≡ walk.old.tasks) }
+    ensures once { OnOk result (IsLarge base.now.table place → (n : ℕ) → IsNoted walk.old.memo place n → walk.new.tasks ≡ walk.old.tasks) }
 {
     match parts_of(base, place) {
         Parts::Alone(amount) => give(walk, amount),
-        Parts::Two(first, second) => match walk.memo.find(place) {
+        Parts::Two(first, second) => match recalled(base, place, &walk.memo) {
             Some(amount) => give(walk, amount),
             None => set_out(walk, place, first, second),
         },
     }
+}
+
+// What a place amounts to, if its tree is large and it was noted.
+fn recalled(base: &Module, place: Place, memo: &Memo) -> Option<u128>
+    requires { place.id.0 < length base.now.table }
+    ensures noted { IfSome result (IsNoted memo.now place) }
+    ensures absent { IfNone result (IsLarge base.now.table place → (n : ℕ) → IsNoted memo.now place n → ⊥) }
+{
+    if base.table.size(place.id) > SMALL {
+        memo.find(place)
+    } else {
+        None
+    }
+}
+
+// Notes what a place amounts to, if its tree is large.
+fn note(base: &Module, place: Place, amount: u128, memo: &mut Memo) -> Result<(), Memory>
+    requires { place.id.0 < length base.now.table }
+    ensures noted { OnOk result ((p : APlace) (n : ℕ) → IsNoted memo.new p n → IsNoted memo.old p n ⊎ ((p ≡ place) × (n ≡ amount))) }
+    ensures new { OnOk result (IsLarge base.now.table place → IsNoted memo.new place amount) }
+{
+    if base.table.size(place.id) > SMALL {
+        memo.note(place, amount)?;
+    }
+    Ok(())
 }
 
 // Puts an amount on the others.
@@ -130,18 +158,19 @@ fn set_out(walk: &mut Walk, place: Place, first: Place, second: Place) -> Result
     Ok(())
 }
 
-// Sums the parts of a place, and notes the sum.
-fn join(place: Place, walk: &mut Walk) -> Result<(), Memory>
-    requires { 1 < length walk.old.amounts }
+// Sums the parts of a place, and notes the sum, if the place's tree is large.
+fn join(base: &Module, place: Place, walk: &mut Walk) -> Result<(), Memory>
+    requires known { place.id.0 < length base.now.table }
+    requires two { 1 < length walk.old.amounts }
     ensures tasks { walk.new.tasks ≡ walk.old.tasks }
     ensures walk { OnOk result ((amount : APlace → ℕ) (trees : List Tree) (goal : ℕ)
         → IsWalk amount trees goal (task.Join place ∷ walk.old.tasks) walk.old.amounts walk.old.memo
         → IsWalk amount trees goal walk.new.tasks walk.new.amounts walk.new.memo) }
-    ensures noted { OnOk result ((n : ℕ) × IsNoted walk.new.memo place n) }
+    ensures noted { OnOk result (IsLarge base.now.table place → (n : ℕ) × IsNoted walk.new.memo place n) }
 {
     let (first, second) = two(&mut walk.amounts);
     let amount = first.saturating_add(second);
-    walk.memo.note(place, amount)?;
+    note(base, place, amount, &mut walk.memo)?;
     give(walk, amount)
 }
 

@@ -8,7 +8,7 @@ write_by-requires-clause-known g c = AreDeclsKnown-slice_get c.args.source.now.t
     c.get.ensures
 
 pub write_by-requires-clause-room : goal.write_by-requires-clause-room
-write_by-requires-clause-room g c = rw c.clear.ensures.room (c.requires.room c.args.i c.get.result.now c.get.ensures)
+write_by-requires-clause-room g c = rw c.path.view_is (c.requires.room c.args.i c.get.result.now c.get.ensures)
 
 pub returns-clause-ok : goal.returns-clause-ok
 returns-clause-ok g c =

@@ -8,7 +8,7 @@ use Rattle.dk_write.proofs.tree.write_place.Goals as goal
 pub returns-in_err-write-in-Some-clause-err : goal.returns-in_err-write-in-Some-clause-err
 returns-in_err-write-in-Some-clause-err g c =
     on_err_front _ _ _ _ _ _ _
-    (short_parts c.args.source.now c.args.before c.args.path.now.frames c.args.place c.in-Some.symbol _ (sym c.short_name.ensures ∙ c.in-Some.is)
+    (short_parts c.args.source.now c.args.before c.args.frames.now.frames c.args.place c.in-Some.symbol _ (sym c.short_name.ensures ∙ c.in-Some.is)
     c.symbol_name.ensures)
     c.in_err-write-in-Some.ensures.err
 
@@ -18,6 +18,6 @@ returns-in_ok-write-in-Some-clause-less g c = let s = size-positive (tree_at c.a
 pub returns-in_ok-write-in-Some-clause-ok : goal.returns-in_ok-write-in-Some-clause-ok
 returns-in_ok-write-in-Some-clause-ok g c =
     gained_part _ _ _ _ _ _ _
-    (short_parts c.args.source.now c.args.before c.args.path.now.frames c.args.place c.in-Some.symbol _ (sym c.short_name.ensures ∙ c.in-Some.is)
+    (short_parts c.args.source.now c.args.before c.args.frames.now.frames c.args.place c.in-Some.symbol _ (sym c.short_name.ensures ∙ c.in-Some.is)
     c.symbol_name.ensures)
     c.in_ok-write-in-Some.ensures.ok

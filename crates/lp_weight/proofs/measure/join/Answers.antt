@@ -12,4 +12,4 @@ returns-clause-walk c =
 
 pub returns-clause-noted : goal.returns-clause-noted
 returns-clause-noted c = rw c.give.ensures.memo
-    (on_ok_weaker c.give.result (λ m. (c.saturating_add-amount.result, c.in_ok-note.ensures.new)) c.give.ensures.amounts)
+    (on_ok_weaker c.give.result (λ m large. (c.saturating_add-amount.result, c.in_ok-note.ensures.new large)) c.give.ensures.amounts)

@@ -45,4 +45,4 @@ returns-in-None-clause-less c =
     c.args.walk.now.memo c.in-Two.first c.in-Two.second h)) c.set_out.ensures.tasks
 
 pub returns-in-None-clause-once : goal.returns-in-None-clause-once
-returns-in-None-clause-once c = on_ok_weaker c.set_out.result (λ m n noted. absurd (c.in-None.ensures.absent n noted)) c.set_out.ensures.tasks
+returns-in-None-clause-once c = on_ok_weaker c.set_out.result (λ m large n noted. absurd (c.in-None.ensures.absent large n noted)) c.set_out.ensures.tasks

@@ -1,7 +1,7 @@
 use Rattle.std.proofs.Common.{◌≡◌, arith, length, subst}
 use Rattle.dk_write.specs.Shallow.{AreTold}
 use Rattle.dk_write.proofs.Told.{told_within}
-use Rattle.dk_write.proofs.path.Path.new.Goals as goal
+use Rattle.dk_write.proofs.path.Frames.new.Goals as goal
 
 pub returns : goal.returns
 returns c =
