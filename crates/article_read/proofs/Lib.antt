@@ -1,3 +1,5 @@
+pub mod Cuts
 pub mod Fed
 pub mod Steps
 pub mod Whole
+pub mod Words

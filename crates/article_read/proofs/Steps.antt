@@ -1,14 +1,17 @@
 -- What a byte, and the end of the text, do to a reader.
-use Rattle.std.proofs.Common.{◌≡◌, ◌≢◌, ℕ, zero, suc, add-one, take, drop, get_or, ◌+◌, ◌<◌, ◌≤◌, List, [], ◌∷◌, ◌++◌, Option, None, Some, Ok, Err, length, refl, sym, ap, subst, ◌∙◌, append_assoc, arith}
+use Rattle.std.proofs.Common.{◌≡◌, ℕ, ◌+◌, ◌<◌, ◌≤◌, List, [], ◌∷◌, ◌++◌, Option, None, Some, Ok, Err, length, refl, sym, ap, subst, ◌∙◌, append_assoc, length-append, arith}
 use Rattle.std.proofs.lemmas.List.{append-nil}
+use Rattle.common.specs.declared.faults.Kind.{Kind}
 use Rattle.common.specs.declared.faults.Kind.TheVariants.{LineTooLong, InputTooLong}
 use Rattle.article_spec.specs.declared.commands.Command.{Command}
 use Rattle.article_spec.specs.Contents.{Content, skipped, command, faulty, content}
-use Rattle.article_spec.specs.Lines.{newline, max_line, max_article, command_at, EndedLine, Opens, open_line, skips, gives, Stops, faults, long_line, long_article, ended, Lines, last_skipped, last_gives, last_faults, stops}
-use Rattle.article_laws.specs.LineLaws.{opens_then, stops_then, Stops-append, IsLine-push}
+use Rattle.article_spec.specs.Lines.{newline, max_line, max_article, IsLine, command_at, EndedLine, Opens, open_line, skips, gives, Stops, faults, long_line, long_article, ended, Lines, last_skipped, last_gives, last_faults, stops}
+use Rattle.article_laws.specs.LineLaws.{opens_then, stops_then, Stops-append}
 use Rattle.article_read.specs.declared.lines.LineFault.{LineFault}
 use Rattle.article_read.specs.declared.lines.LineFault.TheVariants.{Memory, Refused}
 use Rattle.article_read.specs.Reading.{Reading, fed_with, IsFed, Feeds, Ends, EndsWith, IsKept, commands_of, GivesLine, RefusesLine}
+use Rattle.article_read.specs.OpenLines.{FeedsPart, HasRoom, line_room, article_room, Keeps, AnswersLine, behind_line}
+use Rattle.article_read.proofs.Cuts.{IsLine-append, CutAt-of}
 
 -- a reader at an open line, and one that has stopped there
 abbrev pub open_at : ℕ → ℕ → List ℕ → Reading
@@ -67,59 +70,88 @@ feeds_more {b = b} {xs = xs} fault e h more = record {
 pub feeds_stopped : (r : Reading) (fault : LineFault) → r.fault ≡ Some fault → (piece : List ℕ) (out : List Command) → Feeds r piece out out r
 feeds_stopped r fault e piece out = feeds_more fault e (feeds_nothing r out) piece
 
--- a piece about one of its bytes
-split_at : (xs : List ℕ) (i : ℕ) → i < length xs → (take i xs ++ get_or xs i 0 ∷ []) ++ drop (i + 1) xs ≡ xs
-split_at [] i h = absurd (omega (arith, h))
-split_at (x ∷ xs) zero h = refl
-split_at (x ∷ xs) (suc i) h = rw add-one (ap (λ ys. x ∷ ys) (rw add-one at (split_at xs i (omega (arith, h)))))
-
--- the reader stops at a byte of the piece
-pub feeds_until : {a b c : Reading} {p q r : List Command} (piece : List ℕ) (i : ℕ) (fault : LineFault) → i < length piece → Feeds a (take i piece) p q b
-    → Feeds b (get_or piece i 0 ∷ []) q r c → c.fault ≡ Some fault → Feeds a piece p r c
-feeds_until {a = a} {c = c} {p = p} {r = r} piece i fault h front byte e =
-    subst (λ xs. Feeds a xs p r c) (split_at piece i h) (feeds_more fault e (feeds_both front byte) (drop (i + 1) piece))
+-- what a reader that has stopped still holds doesn't matter
+Feeds-stopped : (fault : LineFault) (a b r : Reading) (piece : List ℕ) (p q : List Command) → b.fault ≡ Some fault → r.fault ≡ Some fault → Feeds a piece p q b
+    → Feeds a piece p q r
+Feeds-stopped (Refused line kind) a b r piece p q eb er h = record {
+  added = h.added;
+  is = h.is;
+  fed = λ text given f. subst (λ x. fed_with x r (text ++ piece) (given ++ h.added)) (sym er)
+      (subst (λ x. fed_with x b (text ++ piece) (given ++ h.added)) eb (h.fed text given f));
+}
+Feeds-stopped Memory a b r piece p q eb er h = record {
+  added = h.added;
+  is = h.is;
+  fed = λ text given f. subst (λ x. fed_with x r (text ++ piece) (given ++ h.added)) (sym er)
+      (subst (λ x. fed_with x b (text ++ piece) (given ++ h.added)) eb (h.fed text given f));
+}
 
 module _ (n o : ℕ) (line : List ℕ) (kept : IsKept n o line) (out : List Command) where
-  -- a further byte of the open line
-  pub feeds_byte : (b : ℕ) → b ≢ newline → length line + 1 ≤ max_line → o + length line + 1 ≤ max_article → length (line ++ b ∷ []) ≡ length line + 1
-      → Feeds (open_at n o line) (b ∷ []) out out (open_at n o (line ++ b ∷ []))
-  feeds_byte b other short within len = goes (λ text given f.
-      subst (λ cs. Opens 1 0 (text ++ b ∷ []) cs n o (line ++ b ∷ [])) (append-nil given)
-      (opens_then f (b ∷ [])
+  -- a further part of the open line
+  pub feeds_part : (part : List ℕ) → IsLine part → length line + length part ≤ max_line → o + length line + length part ≤ max_article
+      → Feeds (open_at n o line) part out out (open_at n o (line ++ part))
+  feeds_part part is short within = goes (λ text given f.
+      subst (λ cs. Opens 1 0 (text ++ part) cs n o (line ++ part)) (append-nil given)
+      (opens_then f part
       (open_line (record {
-        one_line = IsLine-push b other line kept.line.one_line;
-        short = omega (arith, short, len);
-        within =
-            omega (arith, within, len);
+        one_line = IsLine-append line part kept.line.one_line is;
+        short = omega (arith, short, length-append line part);
+        within = omega (arith, within, length-append line part);
       }))))
 
   -- want of memory
   pub feeds_memory : (piece : List ℕ) → Feeds (open_at n o line) piece out out (stopped_at n o line Memory)
   feeds_memory piece = goes (λ text given f. record { front = text; back = piece; is = refl; number = n; offset = o; rest = line; opens = f })
 
-  -- the byte past a limit
-  pub feeds_long : (b : ℕ) → b ≢ newline → length line ≡ max_line → Feeds (open_at n o line) (b ∷ []) out out (stopped_at n o line (Refused n LineTooLong))
-  feeds_long b other full = goes (λ text given f.
-      let w : o + max_line ≤ max_article = omega (arith, kept.line.within, full) in
-      subst (λ cs. Stops 1 0 (text ++ b ∷ []) cs n LineTooLong) (append-nil given)
-      (stops_then f (b ∷ [])
-      (long_line (record { line = line; byte = b; more = []; is = refl; one_line = kept.line.one_line; other = other; full = full; within = w }))))
+  -- a part with a byte past a limit
+  pub feeds_over : {room : ℕ} {kind : Kind} → (part : List ℕ) → IsLine part → room < length part → HasRoom o (length line) room kind
+      → Feeds (open_at n o line) part out out (stopped_at n o line (Refused n kind))
+  feeds_over {room = room} part is over (line_room full within) =
+      let c = CutAt-of part room over is in
+      goes (λ text given f.
+      subst (λ cs. Stops 1 0 (text ++ part) cs n LineTooLong) (append-nil given)
+      (stops_then f part
+      (long_line (record {
+        line = line ++ c.front;
+        byte = c.byte;
+        more = c.back;
+        is = ap (λ xs. line ++ xs) c.is ∙ sym (append_assoc line c.front (c.byte ∷ c.back));
+        one_line = IsLine-append line c.front kept.line.one_line c.line;
+        other = c.other;
+        full = omega (arith, full, c.counted, length-append line c.front);
+        within = within;
+      }))))
+  feeds_over {room = room} part is over (article_room full short) =
+      let c = CutAt-of part room over is in
+      let few : length (line ++ c.front) < max_line = omega (arith, short, c.counted, length-append line c.front) in
+      goes (λ text given f.
+      subst (λ cs. Stops 1 0 (text ++ part) cs n InputTooLong) (append-nil given)
+      (stops_then f part
+      (long_article (record {
+        line = line ++ c.front;
+        byte = c.byte;
+        more = c.back;
+        is = ap (λ xs. line ++ xs) c.is ∙ sym (append_assoc line c.front (c.byte ∷ c.back));
+        one_line = IsLine-append line c.front kept.line.one_line c.line;
+        short = omega (arith, few);
+        first = λ h. absurd (omega (arith, few, h));
+        full = omega (arith, full, c.counted, length-append line c.front);
+      }))))
 
-  pub feeds_full : (b : ℕ) → (length line ≡ max_line → b ≡ newline) → o + length line ≡ max_article
-      → Feeds (open_at n o line) (b ∷ []) out out (stopped_at n o line (Refused n InputTooLong))
-  feeds_full b first full = goes (λ text given f.
-      subst (λ cs. Stops 1 0 (text ++ b ∷ []) cs n InputTooLong) (append-nil given)
-      (stops_then f (b ∷ [])
+  -- a newline past the limit of the article
+  pub feeds_full : o + length line ≡ max_article → Feeds (open_at n o line) (newline ∷ []) out out (stopped_at n o line (Refused n InputTooLong))
+  feeds_full full = goes (λ text given f.
+      subst (λ cs. Stops 1 0 (text ++ newline ∷ []) cs n InputTooLong) (append-nil given)
+      (stops_then f (newline ∷ [])
       (long_article (record {
         line = line;
-        byte = b;
+        byte = newline;
         more = [];
         is = refl;
         one_line = kept.line.one_line;
         short = kept.line.short;
-        first = first;
-        full =
-            full;
+        first = λ _. refl;
+        full = full;
       }))))
 
   -- the newline of the open line
@@ -148,6 +180,12 @@ module _ (n o : ℕ) (line : List ℕ) (kept : IsKept n o line) (out : List Comm
       subst (λ cs. Stops 1 0 (text ++ newline ∷ []) cs m kind) (append-nil given)
       (rw (h.here) (stops_then f (newline ∷ []) (faults (line_of (faulty kind) h.says room)))))
 
+  -- the open line ends, of which this was answered
+  pub feeds_end : (x : Option LineFault) (after : List Command) → AnswersLine x n line out after → o + length line < max_article
+      → Feeds (open_at n o line) (newline ∷ []) out after (behind_line (open_at n o line) (length line) x)
+  feeds_end None after h room = feeds_newline after room h
+  feeds_end (Some fault) after h room = rw (h.1) (feeds_fault fault room h.0)
+
   -- the text ends behind the open line
   last_with : (says : Content) (added : List Command) (text : List ℕ) (given : List Command) → content line ≡ says → commands_of n says ≡ Some added
       → Opens 1 0 text given n o line → Lines text (given ++ added) (ended n)
@@ -175,55 +213,76 @@ ends_stopped r out (Refused m kind) e = record {
 pub opened : (r : Reading) → r.fault ≡ None → open_at r.number r.offset r.rest ≡ r
 opened r none = ap (λ f. record r { fault = f }) (sym none)
 
-module _ (r : Reading) (kept : IsKept r.number r.offset r.rest) (none : r.fault ≡ None) (out after : List Command) (new : Reading) where
-  pub newline_fault : (fault : LineFault) → r.offset + length r.rest < max_article → RefusesLine fault r.number r.rest → new ≡ record r { fault = Some fault }
-      → after ≡ out → Feeds r (newline ∷ []) out after new
-  newline_fault fault room refuses stopped same = rw (stopped, same)
-      (subst (λ x. Feeds x (newline ∷ []) out out (record r { fault = Some fault })) (opened r none)
-      (feeds_fault r.number r.offset r.rest kept out fault room refuses))
+module _ (n o : ℕ) (few : n ≤ o + 1) (line : List ℕ) (is : IsLine line) (short : length line ≤ max_line) (room : o + length line < max_article)
+    (out after : List Command) where
+  kept_empty : IsKept n o []
+  kept_empty = record { line = record { one_line = tt; short = omega arith; within = omega (arith, room) }; few = few }
 
-  pub newline_goes : (mid : Reading) → mid ≡ r → r.offset + length r.rest < max_article → GivesLine r.number r.rest out after → new
-      ≡ record { number = mid.number + 1; offset = mid.offset + length mid.rest + 1; rest = []; fault = mid.fault } → Feeds r (newline ∷ []) out after new
-  newline_goes mid same room given is =
-      let at : new ≡ open_at (r.number + 1) (r.offset + length r.rest + 1) [] =
-      is ∙ ap (λ m. record { number = m.number + 1; offset = m.offset + length m.rest + 1; rest = []; fault = m.fault }) same
-      ∙ ap (λ f. record { number = r.number + 1; offset = r.offset + length r.rest + 1; rest = []; fault = f }) none in
-      rw at (subst (λ x. Feeds x (newline ∷ []) out after (open_at (r.number + 1) (r.offset + length r.rest + 1) [])) (opened r none)
-      (feeds_newline r.number r.offset r.rest kept out after room given))
+  kept_line : IsKept n o line
+  kept_line = record { line = record { one_line = is; short = short; within = omega (arith, room) }; few = few }
 
-  pub end_fault : (fault : LineFault) → RefusesLine fault r.number r.rest → after ≡ out → EndsWith r out after (Err fault)
-  end_fault fault refuses same = subst (λ cs. EndsWith r out cs (Err fault)) (sym same)
-      (subst (λ x. EndsWith x out out (Err fault)) (opened r none) (ends_fault r.number r.offset r.rest kept out fault refuses))
+  in_place : (x : Option LineFault) → AnswersLine x n line out after
+      → Feeds (open_at n o []) (line ++ newline ∷ []) out after (behind_line (open_at n o line) (length line) x)
+  in_place x h = feeds_both (feeds_part n o [] kept_empty out line is (omega (arith, short)) (omega (arith, room)))
+      (feeds_end n o line kept_line out x after h room)
 
-  pub end_goes : (n : ℕ) → n ≡ r.number → GivesLine r.number r.rest out after → EndsWith r out after (Ok n)
-  end_goes n is given = rw is (subst (λ x. Ends x out after (ended r.number)) (opened r none) (ends_line r.number r.offset r.rest kept out after given))
+  -- a line that stands whole in the piece, of which this was answered
+  pub feeds_line : (x : Option LineFault) → AnswersLine x n line out after
+      → Feeds (open_at n o []) (line ++ newline ∷ []) out after (behind_line (open_at n o []) (length line) x)
+  feeds_line None h = in_place None h
+  feeds_line (Some fault) h = Feeds-stopped fault (open_at n o []) (stopped_at n o line fault) (stopped_at n o [] fault) (line ++ newline ∷ []) out after refl
+      refl
+      (in_place (Some fault) h)
 
-below : (a c : ℕ) → a ≤ c → a ≢ c → a + 1 ≤ c
-below a c h other = omega (arith, h, other)
+-- what there is room for passes no limit
+HasRoom-fits : {offset count room : ℕ} {kind : Kind} → HasRoom offset count room kind → (count + room ≤ max_line) × (offset + count + room ≤ max_article)
+HasRoom-fits (line_room full within) = (omega (arith, full), omega (arith, full, within))
+HasRoom-fits (article_room full short) = (omega (arith, short), omega (arith, full))
 
--- the same of the parts that a reader is seen as
-pub from_view : (n o : ℕ) (line : List ℕ) (f : Option LineFault) (r : Reading) → record { number = n; offset = o; rest = line; fault = f } ≡ r → r.fault ≡ None
-    → open_at n o line ≡ r
-from_view n o line f r view none = ap (λ g. record { number = n; offset = o; rest = line; fault = g }) (sym (ap (λ x. x.fault) view ∙ none)) ∙ view
+module _ (r : Reading) (kept : IsKept r.number r.offset r.rest) (none : r.fault ≡ None) where
+  at : open_at r.number r.offset r.rest ≡ r
+  at = opened r none
 
-module _ (n o : ℕ) (line : List ℕ) (f : Option LineFault) (kept : IsKept n o line) (r : Reading)
-    (view : record { number = n; offset = o; rest = line; fault = f } ≡ r) (none : r.fault ≡ None) (out : List Command) (b : ℕ) (new : Reading) where
-  pub take_long : b ≢ newline → length line ≡ max_line → new ≡ record r { fault = Some (Refused r.number LineTooLong) } → Feeds r (b ∷ []) out out new
-  take_long other full is = let e = from_view n o line f r view none in rw (is, ← e) (feeds_long n o line kept out b other full)
+  -- the same of a reader
+  pub part_over : (part : List ℕ) (room : ℕ) (kind : Kind) (new : Reading) → IsLine part → room < length part → HasRoom r.offset (length r.rest) room kind
+      → new ≡ record r { fault = Some (Refused r.number kind) } → FeedsPart r part new
+  part_over part room kind new is over h moved out = rw moved
+      (subst (λ x. Feeds x part out out (record r { fault = Some (Refused r.number kind) })) at
+      (feeds_over r.number r.offset r.rest kept out part is over h))
 
-  pub take_full : (length line ≡ max_line → b ≡ newline) → o + length line ≡ max_article → new ≡ record r { fault = Some (Refused r.number InputTooLong) }
-      → Feeds r (b ∷ []) out out new
-  take_full first full is = let e = from_view n o line f r view none in rw (is, ← e) (feeds_full n o line kept out b first full)
+  pub part_kept : (part : List ℕ) (room : ℕ) (kind : Kind) (x : Option LineFault) (new : Reading) → IsLine part → length part ≤ room
+      → HasRoom r.offset (length r.rest) room kind → Keeps r part x new → FeedsPart r part new
+  part_kept part room kind None new is few has h out =
+      let fits = HasRoom-fits has in
+      rw h (subst (λ f. Feeds r part out out (record { number = r.number; offset = r.offset; rest = r.rest ++ part; fault = f })) (sym none)
+      (subst (λ x. Feeds x part out out (open_at r.number r.offset (r.rest ++ part))) at
+      (feeds_part r.number r.offset r.rest kept out part is (omega (arith, few, fits.0)) (omega (arith, few, fits.1)))))
+  part_kept part room kind (Some fault) new is few has h out = rw (h.1)
+      (subst (λ x. Feeds x part out out (record r { fault = Some Memory })) at (feeds_memory r.number r.offset r.rest kept out part))
 
-  pub take_memory : (rest : List ℕ) → rest ≡ line → new ≡ record { number = n; offset = o; rest = rest; fault = Some Memory } → Feeds r (b ∷ []) out out new
-  take_memory rest same is = let e = from_view n o line f r view none in rw (is, same, ← e) (feeds_memory n o line kept out (b ∷ []))
+  pub newline_full : (new : Reading) (out : List Command) → r.offset + length r.rest ≡ max_article → new
+      ≡ record r { fault = Some (Refused r.number InputTooLong) }
+      → Feeds r (newline ∷ []) out out new
+  newline_full new out full moved = rw moved
+      (subst (λ x. Feeds x (newline ∷ []) out out (record r { fault = Some (Refused r.number InputTooLong) })) at
+      (feeds_full r.number r.offset r.rest kept out full))
 
-  pub take_byte : (rest : List ℕ) → rest ≡ line ++ b ∷ [] → length rest ≡ length line + 1 → b ≢ newline → (length line ≡ max_line → b ≡ newline)
-      → o + length line ≢ max_article → new ≡ record { number = n; offset = o; rest = rest; fault = f } → Feeds r (b ∷ []) out out new
-  take_byte rest longer len other first room is =
-      let e = from_view n o line f r view none in
-      let fault : f ≡ None = ap (λ x. x.fault) view ∙ none in
-      let at : length (line ++ b ∷ []) ≡ length line + 1 = ap length (sym longer) ∙ len in
-      rw (is, longer, fault, ← e)
-      (feeds_byte n o line kept out b other (below (length line) max_line kept.line.short (λ h. other (first h)))
-      (below (o + length line) max_article kept.line.within room) at)
+  pub newline_ends : (new : Reading) (out after : List Command) (x : Option LineFault) → r.offset + length r.rest < max_article
+      → AnswersLine x r.number r.rest out after → new ≡ behind_line r (length r.rest) x → Feeds r (newline ∷ []) out after new
+  newline_ends new out after x room h moved = rw moved
+      (subst (λ y. Feeds y (newline ∷ []) out after (behind_line y (length y.rest) x)) at (feeds_end r.number r.offset r.rest kept out x after h room))
+
+  pub line_ends : (new : Reading) (line : List ℕ) (out after : List Command) (x : Option LineFault) → r.rest ≡ [] → IsLine line → length line ≤ max_line
+      → r.offset + length line < max_article → AnswersLine x r.number line out after → new ≡ behind_line r (length line) x
+      → Feeds r (line ++ newline ∷ []) out after new
+  line_ends new line out after x empty is short room h moved =
+      let e : open_at r.number r.offset [] ≡ r = ap (λ xs. open_at r.number r.offset xs) (sym empty) ∙ at in
+      rw moved (subst (λ y. Feeds y (line ++ newline ∷ []) out after (behind_line y (length line) x)) e
+      (feeds_line r.number r.offset kept.few line is short room out after x h))
+
+  pub end_fault : (out after : List Command) (fault : LineFault) → AnswersLine (Some fault) r.number r.rest out after → EndsWith r out after (Err fault)
+  end_fault out after fault h = subst (λ cs. EndsWith r out cs (Err fault)) (sym h.1)
+      (subst (λ x. EndsWith x out out (Err fault)) at (ends_fault r.number r.offset r.rest kept out fault h.0))
+
+  pub end_goes : (out after : List Command) (n : ℕ) → n ≡ r.number → GivesLine r.number r.rest out after → EndsWith r out after (Ok n)
+  end_goes out after n is given = rw is (subst (λ x. Ends x out after (ended r.number)) at (ends_line r.number r.offset r.rest kept out after given))

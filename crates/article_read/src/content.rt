@@ -1,8 +1,10 @@
 //! What one line says.
 
-ghost use Rattle.std.specs.Prelude.{◌≡◌, map, reverse};
+ghost use Rattle.std.specs.Prelude.{◌≡◌, Err, IfOk, None, Some, map, reverse};
 ghost use Rattle.article_spec.specs.Words.{word_of};
-ghost use Rattle.article_spec.specs.Contents.{is_blank, drop_blanks, item_content, content};
+ghost use Rattle.article_spec.specs.Contents.{is_blank, drop_blanks, as_name, command, item_content, content};
+ghost use Rattle.article_spec.specs.declared.commands.Item.TheVariants as item;
+ghost use Rattle.hol_name.specs.declared.name.NameFault.TheVariants as fault;
 ghost use Rattle.article_read.specs.Judged.{Judges, looked_up};
 
 use crate::number::{Numeral, read_number};
@@ -39,7 +41,7 @@ fn read_item(alloc: Global, text: &[u8]) -> Judgement
         Numeral::OutOfRange => return Judgement::Faulty(Kind::NumberRange),
         Numeral::Other => {}
     }
-    match Name::parse(alloc, text) {
+    match read_name(alloc, text) {
         Ok(name) => return Judgement::Command(Item::Name(name)),
         Err(NameFault::Memory) => return Judgement::Memory,
         Err(NameFault::BadLine) => {}
@@ -50,42 +52,53 @@ fn read_item(alloc: Global, text: &[u8]) -> Judgement
     }
 }
 
-/// The words of the stack machine, as they are written.
+/// The name that a text writes. Only a text that begins with a quote is gone through.
+fn read_name(alloc: Global, text: &[u8]) -> Result<Name, NameFault>
+    ensures name { IfOk result (λ name. as_name text.now ≡ Some (command (item.Name name))) }
+    ensures bad_line { result ≡ Err fault.BadLine → as_name text.now ≡ None }
+{
+    match text {
+        [b'"', ..] => Name::parse(alloc, text),
+        _ => Err(NameFault::BadLine),
+    }
+}
+
+/// The words of the stack machine, as they are written: those before others that articles have more often.
 const WORDS: [(&[u8], Word); 34] = [
-    (b"version", Word::Version),
-    (b"nil", Word::Nil),
+    (b"ref", Word::Ref),
     (b"cons", Word::Cons),
-    (b"hdTl", Word::HdTl),
-    (b"typeOp", Word::TypeOp),
-    (b"varType", Word::VarType),
-    (b"opType", Word::OpType),
-    (b"const", Word::Const),
-    (b"constTerm", Word::ConstTerm),
+    (b"nil", Word::Nil),
+    (b"def", Word::Def),
+    (b"remove", Word::Remove),
+    (b"subst", Word::Subst),
+    (b"appTerm", Word::AppTerm),
+    (b"eqMp", Word::EqMp),
+    (b"refl", Word::Refl),
+    (b"proveHyp", Word::ProveHyp),
+    (b"appThm", Word::AppThm),
+    (b"trans", Word::Trans),
+    (b"assume", Word::Assume),
+    (b"betaConv", Word::BetaConv),
+    (b"absTerm", Word::AbsTerm),
+    (b"absThm", Word::AbsThm),
+    (b"deductAntisym", Word::DeductAntisym),
+    (b"sym", Word::Sym),
     (b"var", Word::Var),
     (b"varTerm", Word::VarTerm),
-    (b"appTerm", Word::AppTerm),
-    (b"absTerm", Word::AbsTerm),
-    (b"def", Word::Def),
-    (b"ref", Word::Ref),
-    (b"remove", Word::Remove),
+    (b"opType", Word::OpType),
+    (b"constTerm", Word::ConstTerm),
     (b"pop", Word::Pop),
-    (b"pragma", Word::Pragma),
-    (b"refl", Word::Refl),
-    (b"assume", Word::Assume),
-    (b"eqMp", Word::EqMp),
-    (b"absThm", Word::AbsThm),
-    (b"appThm", Word::AppThm),
-    (b"deductAntisym", Word::DeductAntisym),
-    (b"betaConv", Word::BetaConv),
-    (b"sym", Word::Sym),
-    (b"trans", Word::Trans),
-    (b"proveHyp", Word::ProveHyp),
-    (b"subst", Word::Subst),
     (b"defineConst", Word::DefineConst),
-    (b"defineConstList", Word::DefineConstList),
-    (b"defineTypeOp", Word::DefineTypeOp),
+    (b"varType", Word::VarType),
+    (b"typeOp", Word::TypeOp),
+    (b"const", Word::Const),
     (b"axiom", Word::Axiom),
     (b"thm", Word::Thm),
+    (b"defineTypeOp", Word::DefineTypeOp),
+    (b"defineConstList", Word::DefineConstList),
+    (b"hdTl", Word::HdTl),
+    (b"pragma", Word::Pragma),
+    (b"version", Word::Version),
 ];
 
 /// The word that a text writes.

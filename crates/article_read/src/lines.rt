@@ -1,12 +1,13 @@
 //! The reader of lines.
 
-ghost use Rattle.std.specs.Prelude.{◌≡◌, ◌∷◌, [], ◌+◌, ◌<◌, ◌≤◌, ◌^◌, length, None, Some, Ok, Err, OnOk, OnErr, IfOk, IfErr};
+ghost use Rattle.std.specs.Prelude.{◌≡◌, ◌∷◌, [], ◌++◌, ◌+◌, ◌<◌, ◌≤◌, length, true, false, None, Some, Ok, Err, OnOk, IfOk, IfErr, IfSome, IfNone};
 ghost use Rattle.std.specs.List.{flat_map};
 ghost use Rattle.std.specs.Result.{result_err};
 ghost use Rattle.common.specs.declared.faults.Kind.{Kind};
-ghost use Rattle.article_spec.specs.Lines.{max_line, max_article};
+ghost use Rattle.article_spec.specs.Lines.{newline, max_line, max_article, IsLine};
 ghost use Rattle.article_read.specs.declared.lines.LineFault.{LineFault};
-ghost use Rattle.article_read.specs.Reading.{IsFed, Feeds, EndsWith, StaysStopped, GivesLine, RefusesLine, IsKept, ReadsAs, fresh};
+ghost use Rattle.article_read.specs.Reading.{IsFed, Feeds, EndsWith, StaysStopped, IsKept, ReadsAs, fresh};
+ghost use Rattle.article_read.specs.OpenLines.{AnswersLine, FeedsPart, HasRoom, Keeps, behind_line};
 
 use crate::content::{Judgement, read_content};
 use article_spec::Command;
@@ -84,10 +85,12 @@ impl Lines {
         if let Some(fault) = self.fault {
             return Err(fault);
         }
-        for byte in piece {
-            self.take(*byte, out)?;
+        let mut rest = piece;
+        while let Some((line, more)) = first_line(rest) {
+            self.take_line(line, out)?;
+            rest = more;
         }
-        Ok(())
+        self.take_part(rest)
     }
 
     /// Ends the article, whose last line needs no newline, and answers with the line of its end. It
@@ -103,7 +106,8 @@ impl Lines {
         if let Some(fault) = self.fault {
             return Err(fault);
         }
-        self.give_command(out)?;
+        let given = self.give(&self.rest, out);
+        self.note(given)?;
         let line = self.number;
         self.renew();
         Ok(line)
@@ -118,91 +122,153 @@ impl Lines {
         self.rest.len()
     }
 
-    /// Takes one byte.
-    fn take(&mut self, byte: u8, commands: &mut Vec<Command>) -> Result<(), LineFault>
-        requires { self.old.fault ≡ None }
-        ensures feeds { Feeds self.old (byte ∷ []) commands.old.items commands.new.items self.new }
+    /// Takes a line and its newline.
+    fn take_line(&mut self, line: &[u8], commands: &mut Vec<Command>) -> Result<(), LineFault>
+        requires none { self.old.fault ≡ None }
+        requires line { IsLine line.now }
+        ensures feeds { Feeds self.old (line.now ++ newline ∷ []) commands.old.items commands.new.items self.new }
         ensures answer { self.new.fault ≡ result_err result }
-        ensures counted { OnOk result (self.new.offset + length self.new.rest ≡ self.old.offset + length self.old.rest + 1) }
+        ensures counted { OnOk result (self.new.offset + length self.new.rest
+            ≡ self.old.offset + length self.old.rest + (length line.now + 1)) }
+    {
+        if self.is_whole(line.len()) {
+            let given = self.give(line, commands);
+            return self.end_line(line.len(), given);
+        }
+        self.take_part(line)?;
+        self.take_newline(commands)
+    }
+
+    /// Takes a part of the open line.
+    fn take_part(&mut self, part: &[u8]) -> Result<(), LineFault>
+        requires none { self.old.fault ≡ None }
+        requires line { IsLine part.now }
+        ensures feeds { FeedsPart self.old part.now self.new }
+        ensures answer { self.new.fault ≡ result_err result }
+        ensures counted { OnOk result (self.new.offset + length self.new.rest
+            ≡ self.old.offset + length self.old.rest + length part.now) }
         ensures within { OnOk result (self.new.offset + length self.new.rest ≤ max_article) }
     {
-        if byte != b'\n' && self.rest.len() == MAX_LINE {
-            return self.refuse(Kind::LineTooLong);
+        let (room, kind) = self.room();
+        if part.len() as u64 > room {
+            return self.refuse(kind);
         }
-        if self.offset + self.rest.len() as u64 == MAX_ARTICLE {
-            return self.refuse(Kind::InputTooLong);
-        }
-        if byte == b'\n' {
-            return self.end_line(commands);
-        }
-        if self.rest.push(byte).is_err() {
-            return self.fail(LineFault::Memory);
-        }
-        Ok(())
+        self.keep(part)
     }
 
     /// Takes the newline of the open line.
-    fn end_line(&mut self, commands: &mut Vec<Command>) -> Result<(), LineFault>
-        requires none { self.old.fault ≡ None }
-        requires room { self.old.offset + length self.old.rest < max_article }
-        ensures feeds { Feeds self.old (10 ∷ []) commands.old.items commands.new.items self.new }
+    fn take_newline(&mut self, commands: &mut Vec<Command>) -> Result<(), LineFault>
+        requires { self.old.fault ≡ None }
+        ensures feeds { Feeds self.old (newline ∷ []) commands.old.items commands.new.items self.new }
         ensures answer { self.new.fault ≡ result_err result }
         ensures counted { OnOk result (self.new.offset + length self.new.rest ≡ self.old.offset + length self.old.rest + 1) }
-        ensures within { OnOk result (self.new.offset + length self.new.rest ≤ max_article) }
     {
-        self.give_command(commands)?;
-        self.next_line();
+        if self.is_full() {
+            return self.refuse(Kind::InputTooLong);
+        }
+        let count = self.rest.len();
+        let given = self.give(&self.rest, commands);
+        self.end_line(count, given)
+    }
+
+    /// Whether nothing is kept of the open line, and a line of so many bytes and its newline pass no limit.
+    fn is_whole(&self, count: usize) -> bool
+        ensures empty { result ≡ true → self.now.rest ≡ [] }
+        ensures short { result ≡ true → count ≤ max_line }
+        ensures room { result ≡ true → self.now.offset + count < max_article }
+    {
+        self.rest.is_empty() && count <= MAX_LINE && self.offset + (count as u64) < MAX_ARTICLE
+    }
+
+    /// How many more bytes of the open line pass no limit, and which one the next byte passes, unless it is a newline.
+    fn room(&self) -> (u64, Kind)
+        ensures room { HasRoom self.now.offset (length self.now.rest) result.0 result.1 }
+        ensures kept { IsKept self.now.number self.now.offset self.now.rest }
+    {
+        let held = self.rest.len() as u64;
+        let room = MAX_LINE as u64 - held;
+        let left = MAX_ARTICLE - self.offset - held;
+        if room <= left {
+            return (room, Kind::LineTooLong);
+        }
+        (left, Kind::InputTooLong)
+    }
+
+    /// Whether no further byte is within the limit of an article.
+    fn is_full(&self) -> bool
+        ensures full { result ≡ true → self.now.offset + length self.now.rest ≡ max_article }
+        ensures room { result ≡ false → self.now.offset + length self.now.rest < max_article }
+        ensures kept { IsKept self.now.number self.now.offset self.now.rest }
+    {
+        self.offset + self.rest.len() as u64 == MAX_ARTICLE
+    }
+
+    /// Keeps a part of the open line.
+    fn keep(&mut self, part: &[u8]) -> Result<(), LineFault>
+        requires none { self.old.fault ≡ None }
+        requires line { IsLine part.now }
+        requires short { length self.old.rest + length part.now ≤ max_line }
+        requires within { self.old.offset + length self.old.rest + length part.now ≤ max_article }
+        ensures kept { Keeps self.old part.now (result_err result) self.new }
+        ensures answer { self.new.fault ≡ result_err result }
+        ensures counted { OnOk result (self.new.offset + length self.new.rest
+            ≡ self.old.offset + length self.old.rest + length part.now) }
+    {
+        if self.rest.extend_from_slice(part).is_err() {
+            return self.note(Err(LineFault::Memory));
+        }
         Ok(())
     }
 
-    /// Appends the command of the open line, if it has one.
-    fn give_command(&mut self, commands: &mut Vec<Command>) -> Result<(), LineFault>
-        ensures ok { OnOk result (self.new ≡ self.old) }
-        ensures gives { OnOk result (GivesLine self.old.number self.old.rest commands.old.items commands.new.items) }
-        ensures refuses { IfErr result (λ fault. RefusesLine fault self.old.number self.old.rest) }
-        ensures stopped { IfErr result (λ fault. self.new ≡ record self.old { fault = Some fault }) }
-        ensures unchanged { OnErr result (commands.new.items ≡ commands.old.items) }
-        ensures kept { IsKept self.old.number self.old.offset self.old.rest }
+    /// Appends the command of this line as the open one, if it has one.
+    fn give(&self, line: &[u8], commands: &mut Vec<Command>) -> Result<(), LineFault>
+        ensures answers { AnswersLine (result_err result) self.now.number line.now commands.old.items commands.new.items }
+        ensures kept { IsKept self.now.number self.now.offset self.now.rest }
     {
-        match read_content(*self.rest.allocator(), &self.rest) {
-            Judgement::Skipped => Ok(()),
-            Judgement::Command(item) => {
-                let line = self.number;
-                if commands.push(Command { line, item }).is_err() {
-                    return self.fail(LineFault::Memory);
-                }
-                Ok(())
-            }
-            Judgement::Faulty(kind) => self.refuse(kind),
-            Judgement::Memory => self.fail(LineFault::Memory),
-        }
+        give_command(*self.rest.allocator(), self.number, line, commands)
+    }
+
+    /// Ends the open line of so many bytes, of which this was answered.
+    fn end_line(&mut self, count: usize, given: Result<(), LineFault>) -> Result<(), LineFault>
+        requires none { self.old.fault ≡ None }
+        requires room { self.old.offset + count < max_article }
+        ensures same { result ≡ given }
+        ensures behind { self.new ≡ behind_line self.old count (result_err given) }
+        ensures answer { self.new.fault ≡ result_err result }
+        ensures counted { OnOk result (self.new.offset + length self.new.rest ≡ self.old.offset + count + 1) }
+    {
+        self.note(given)?;
+        self.next_line(count);
+        Ok(())
     }
 
     /// Stops at the open line.
     fn refuse(&mut self, kind: Kind) -> Result<(), LineFault>
+        requires { self.old.fault ≡ None }
         ensures answer { result ≡ Err (LineFault.Refused self.old.number kind) }
         ensures stopped { self.new ≡ record self.old { fault = Some (LineFault.Refused self.old.number kind) } }
     {
         let line = self.number;
-        self.fail(LineFault::Refused { line, kind })
+        self.note(Err(LineFault::Refused { line, kind }))
     }
 
-    /// Stops with this fault.
-    fn fail(&mut self, fault: LineFault) -> Result<(), LineFault>
-        ensures answer { result ≡ Err fault }
-        ensures stopped { self.new ≡ record self.old { fault = Some fault } }
+    /// Stops where this is a fault.
+    fn note(&mut self, given: Result<(), LineFault>) -> Result<(), LineFault>
+        requires { self.old.fault ≡ None }
+        ensures same { result ≡ given }
+        ensures noted { self.new ≡ record self.old { fault = result_err given } }
     {
-        self.fault = Some(fault);
-        Err(fault)
+        self.fault = given.err();
+        given
     }
 
-    /// Opens the next line.
-    fn next_line(&mut self)
-        requires { self.old.offset + length self.old.rest < max_article }
-        ensures { self.new ≡ record { number = self.old.number + 1; offset = self.old.offset + length self.old.rest + 1; rest = []; fault = self.old.fault } }
+    /// Opens the line behind the open one, which has so many bytes.
+    fn next_line(&mut self, count: usize)
+        requires { self.old.offset + count < max_article }
+        ensures { self.new ≡ record { number = self.old.number + 1; offset = self.old.offset + count + 1; rest = []; fault = self.old.fault } }
     {
         self.number += 1;
-        self.offset += self.rest.len() as u64 + 1;
+        self.offset += count as u64 + 1;
         self.rest.clear();
     }
 
@@ -214,6 +280,43 @@ impl Lines {
         self.number = 1;
         self.offset = 0;
         self.rest.clear();
+    }
+}
+
+/// The first line of a text, without its newline, and what comes behind it, where the line has ended.
+fn first_line(text: &[u8]) -> Option<(&[u8], &[u8])>
+    ensures cut { IfSome result (λ parts. text.now ≡ parts.0.now ++ newline ∷ parts.1.now) }
+    ensures line { IfSome result (λ parts. IsLine parts.0.now) }
+    ensures open { IfNone result (IsLine text.now) }
+{
+    for i in 0..text.len() {
+        if text[i] == b'\n' {
+            return Some((&text[..i], &text[i + 1..]));
+        }
+    }
+    None
+}
+
+/// Appends the command of a line, if it has one.
+fn give_command(
+    alloc: Global,
+    number: u64,
+    line: &[u8],
+    commands: &mut Vec<Command>,
+) -> Result<(), LineFault>
+    ensures { AnswersLine (result_err result) number line.now commands.old.items commands.new.items }
+{
+    match read_content(alloc, line) {
+        Judgement::Skipped => Ok(()),
+        Judgement::Command(item) => {
+            let line = number;
+            match commands.push(Command { line, item }) {
+                Ok(()) => Ok(()),
+                Err(_) => Err(LineFault::Memory),
+            }
+        }
+        Judgement::Faulty(kind) => Err(LineFault::Refused { line: number, kind }),
+        Judgement::Memory => Err(LineFault::Memory),
     }
 }
 
