@@ -28,7 +28,7 @@ abbrev pub names_alone : (Name → Type 0) → Parts
 names_alone N = record { name = N; type = λ a. Unit {0}; variable = λ v. Unit {0}; term = λ t. Unit {0}; step = λ i. Unit {0} }
 
 abbrev pub of_names : (Name → Type 0) → (Stage → List Made → List ℕ → List ℕ → Type 0) → Invariant
-of_names N run = record { parts = λ made. names_alone N; run = run }
+of_names N run = record { parts = λ made. names_alone N; run = λ place made exports assumptions pool. run place made exports assumptions }
 
 -- any objects have names of which nothing is asked
 mutual
@@ -119,8 +119,8 @@ module _ (N : Name → Type 0) (run : Stage → List Made → List ℕ → List 
     define_const_list = λ s pairs j x g h k e l.
         let ds = definitions_in pairs (sequent_at s.made j).hypotheses in
         stepped (with_constants s ds) x (grows.made s (map Made.symbol (map defined ds)) g (grows.define_const_list s pairs j g h)) l;
-    define_type_op = λ s names j x g h k e. type_op-grows s names j x g h e;
+    define_type_op = λ s names j x g h w k e. type_op-grows s names j x g h e;
     meet = λ s hs c x j g h k e m l. stepped s (restatement j x.sequent) g l;
-    assume = λ s hs c x g h k e l. grows.assumed (with_step s x) _ (stepped s x g l);
-    export = λ s j hs c x g h k n e l. grows.exported s j hs c x g e l;
+    assume = λ s hs c x g h k e m l. grows.assumed (with_step s x) _ (stepped s x g l);
+    export = λ s j hs c x g h k n e m l. grows.exported s j hs c x g e l;
   }

@@ -6,8 +6,6 @@ use Rattle.hol_spec.specs.Substitution.{TypePairs}
 use Rattle.hol_spec.specs.TermSubstitution.{TermPairs}
 use Rattle.hol_spec.specs.Proofs.{Made, Step}
 use Rattle.article_spec.specs.RuleSteps.{refl_step, assume_step, eq_mp_step, abs_thm_step, app_thm_step, deduct_antisym_step, beta_conv_step, sym_step, trans_step, prove_hyp_step, subst_step}
-use Rattle.article_spec.specs.declared.commands.Word.{Word}
-use Rattle.article_spec.specs.declared.commands.Word.TheVariants as word
 use Rattle.article_laws.specs.OperandParts.{IsTypePair, IsTermPair}
 use Rattle.article_laws.specs.Parts.{Parts}
 
@@ -24,18 +22,3 @@ pub data Inferred (p : Parts) (made : List Made) (x : Step) : Type 0 where
   by_prove_hyp : (j i : ℕ) → p.step j → p.step i → prove_hyp_step made i j ≡ Ok x → Inferred p made x
   by_subst : (i : ℕ) (q : TypePairs × TermPairs) → p.step i → AllByRecursion (IsTypePair p) q.0 × AllByRecursion (IsTermPair p) q.1
       → subst_step made q.0 q.1 i ≡ Ok x → Inferred p made x
-
--- the words of which each is one rule
-abbrev pub IsRule : Word → Type 0
-IsRule word.Refl = Unit {0}
-IsRule word.Assume = Unit {0}
-IsRule word.EqMp = Unit {0}
-IsRule word.AbsThm = Unit {0}
-IsRule word.AppThm = Unit {0}
-IsRule word.DeductAntisym = Unit {0}
-IsRule word.BetaConv = Unit {0}
-IsRule word.Sym = Unit {0}
-IsRule word.Trans = Unit {0}
-IsRule word.ProveHyp = Unit {0}
-IsRule word.Subst = Unit {0}
-IsRule w = ⊥

@@ -34,6 +34,10 @@ ItemHas P (item.Word w) = Unit {0}
 abbrev pub Placed : Invariant → Type 0
 Placed i = (s : State) (p : Stage) → RunHas i s → RunHas i (record s { place = p })
 
+-- and at the end of an article, whose exports are then the pool
+abbrev pub Ended : Invariant → Type 0
+Ended i = (s : State) → RunHas i s → RunHas i (record s { pool = s.exports })
+
 -- nothing is kept in a new dictionary
 no-objects : (p : Parts) → ObjectsHave p [] entries.empty
 no-objects p = record {
@@ -82,8 +86,10 @@ module _ (i : Invariant) (moves : Moves i) (placed : Placed i) where
   pub step-keeps : (s t : State) (c : Command) → Holds i s → ItemHas (i.parts s.made).name c.item → step s c ≡ Ok t → Holds i t
   step-keeps s t c g h e = step_at-keeps s t s.place c.item g h e
 
-  pub finish-keeps : (s t : State) → Holds i s → finish s ≡ Ok t → Holds i t
-  finish-keeps s t g e = answered i _ t e (record { objects = no-objects (i.parts s.made); run = placed s _ g.run })
+-- The end of an article.
+pub finish-keeps : (i : Invariant) → Placed i → Ended i → (s t : State) → Holds i s → finish s ≡ Ok t → Holds i t
+finish-keeps i placed closed s t g e =
+    answered i _ t e (record { objects = no-objects (i.parts s.made); run = placed (record s { pool = s.exports }) _ (closed s g.run) })
 
 pub on_line : (line : ℕ) (a : Result State Kind) (t : State) → at_line line a ≡ Ok t → a ≡ Ok t
 on_line line (Ok s) t e = cc
@@ -109,7 +115,7 @@ any_item (item.Word w) = tt
 reads_anything : Reads (λ bytes. Unit {0}) (λ n. Unit {0})
 reads_anything = record { commands = λ bytes cs line l h. All-each _ cs (λ c k. any_item c.item) }
 
-module _ (i : Invariant) (moves : Moves i) (placed : Placed i) (B : List ℕ → Type 0) (N : Name → Type 0) (reads : Reads B N)
+module _ (i : Invariant) (moves : Moves i) (placed : Placed i) (closed : Ended i) (B : List ℕ → Type 0) (N : Name → Type 0) (reads : Reads B N)
     (names : (m : List Made) (x : Item) → ItemHas N x → ItemHas (i.parts m).name x) where
   obey_all-keeps : (cs : List Command) (s t : State) → AreOfItems N cs → Holds i s → obey_all machine s cs ≡ Ok t → Holds i t
   obey_all-keeps [] s t h g e = let f : s ≡ t = cc in subst (Holds i) f g
@@ -122,7 +128,7 @@ module _ (i : Invariant) (moves : Moves i) (placed : Placed i) (B : List ℕ →
       → obey_article machine s cs end ≡ Ok t → Holds i t
   obey_article-keeps s t bytes cs (ended line) h l g e =
       let last = bound (obey_all machine s cs) _ t e in
-      finish-keeps i moves placed last.0 t (obey_all-keeps cs s last.0 (reads.commands bytes cs line l h) g last.1) (on_line line (finish last.0) t last.2)
+      finish-keeps i placed closed last.0 t (obey_all-keeps cs s last.0 (reads.commands bytes cs line l h) g last.1) (on_line line (finish last.0) t last.2)
   obey_article-keeps s t bytes cs (refused line kind) h l g e = let last = bound (obey_all machine s cs) _ t e in absurd (let z = last.2 in cc)
 
   module _ (Q : Accepted → Type 0) (gives : (s : State) → Holds i s → Q (accepted_state s)) where
@@ -139,8 +145,8 @@ module _ (i : Invariant) (moves : Moves i) (placed : Placed i) (B : List ℕ →
     run-has articles a h b r = runs-have 1 initial articles (accepted a) a b (initial-holds i h) refl r
 
 -- so it has where nothing is asked of names
-pub every_run : (i : Invariant) → Moves i → Placed i → ((m : List Made) (x : Item) → ItemHas (i.parts m).name x) → (Q : Accepted → Type 0)
+pub every_run : (i : Invariant) → Moves i → Placed i → Ended i → ((m : List Made) (x : Item) → ItemHas (i.parts m).name x) → (Q : Accepted → Type 0)
     → ((s : State) → Holds i s → Q (accepted_state s)) → RunHas i initial → (articles : List (List ℕ)) (a : Accepted) → Run articles (accepted a) → Q a
-every_run i moves placed names Q gives first articles a r =
-    run-has i moves placed (λ bytes. Unit {0}) (λ n. Unit {0}) reads_anything (λ m x h. names m x) Q gives
+every_run i moves placed closed names Q gives first articles a r =
+    run-has i moves placed closed (λ bytes. Unit {0}) (λ n. Unit {0}) reads_anything (λ m x h. names m x) Q gives
     articles a first (All-each _ articles (λ bytes k. tt {0})) r

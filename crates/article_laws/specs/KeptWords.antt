@@ -34,7 +34,7 @@ use Rattle.article_laws.specs.Binds.{bound, passed, demanded, found, sequent_lim
 use Rattle.article_laws.specs.Inferred.{Inferred}
 use Rattle.article_laws.specs.Inferred.Inferred.{by_refl, by_assume, by_eq_mp, by_abs_thm, by_app_thm, by_deduct_antisym, by_beta_conv, by_sym, by_trans, by_prove_hyp, by_subst}
 use Rattle.article_laws.specs.Moves.{Invariant, RunHas, ObjectsHave, Holds, with_constants, Moves}
-use Rattle.article_laws.specs.OperandParts.{Gives, any-gives, Anything, object-gives, list-gives, name-gives, type_operator-gives, constant-gives, type-gives, variable-gives, term-gives, theorem-gives, types-gives, terms-gives, IsTypePair, IsTermPair, substitution-gives, IsConstantPair, constant_pairs-gives, head_and_tail-gives, popping}
+use Rattle.article_laws.specs.OperandParts.{Gives, any-gives, Anything, object-gives, list-gives, name-gives, type_operator-gives, constant-gives, type-gives, variable-gives, term-gives, theorem-gives, list_of-gives, types-gives, terms-gives, IsTypePair, IsTermPair, substitution-gives, IsConstantPair, constant_pairs-gives, head_and_tail-gives, popping}
 use Rattle.article_laws.specs.Parts.{Parts, IsOf, AreOf}
 
 -- a dictionary with one entry more, and one less
@@ -273,31 +273,31 @@ module _ (i : Invariant) (moves : Moves i) where
     named names rest = object.constant names.representation ∷ object.constant names.abstraction ∷ object.type_operator names.operator ∷ rest
 
     defining_type-keeps : (names : TypeNames) (j : ℕ) (rest : List Object) → AllByRecursion (IsOf p) rest
-        → p.name names.operator × p.name names.abstraction × p.name names.representation → p.step j
+        → p.name names.operator × p.name names.abstraction × p.name names.representation → AllByRecursion p.name names.variables → p.step j
         → defining_type (type_laws (version_at s.place) s.made names j) (with_stack s (named names rest)) ≡ Ok t → Holds i t
-    defining_type-keeps names j rest under h k e =
+    defining_type-keeps names j rest under h w k e =
         binding (type_laws (version_at s.place) s.made names j) _ t e (λ x is e.
         let u = with_stack s (named names rest) in
-        let w : State = record u { made = u.made ++ x.definition ∷ [] } in
+        let v : State = record u { made = u.made ++ x.definition ∷ [] } in
         let over = older s.made (x.definition ∷ []) u.stack s.dictionary (record { stacked = (h.2, (h.1, (h.0, under))); kept = g.objects.kept }) in
         answered i (with_type u x) t e (record {
-          objects = with_step-objects (with_theorem w x.first) x.second (with_step-objects w x.first over);
-          run = moves.define_type_op s names j x g.run h k is;
+          objects = with_step-objects (with_theorem v x.first) x.second (with_step-objects v x.first over);
+          run = moves.define_type_op s names j x g.run h w k is;
         }))
 
     define_type_op-keeps : define_type_op s ≡ Ok t → Holds i t
     define_type_op-keeps e =
         popping p as_theorem p.step (theorem-gives p) s.stack objects _ t e (λ j xs h under e.
-        popping p as_names (Anything p) (any-gives p as_names) xs under _ t e (λ vs xs n under e.
+        popping p as_names (AllByRecursion p.name) (list_of-gives p as_name p.name (name-gives p)) xs under _ t e (λ vs xs n under e.
         popping p as_name p.name (name-gives p) xs under _ t e (λ r xs k under e.
         popping p as_name p.name (name-gives p) xs under _ t e (λ a xs l under e.
         popping p as_name p.name (name-gives p) xs under _ t e (λ o rest m under e.
-        defining_type-keeps (record { operator = o; abstraction = a; representation = r; variables = vs }) j rest under (m, l, k) h e)))))
+        defining_type-keeps (record { operator = o; abstraction = a; representation = r; variables = vs }) j rest under (m, l, k) n h e)))))
 
   met : (s t : State) (hs : List Term) (c : Term) (x : Step) (o : Option ℕ) → Holds i s → AllByRecursion (i.parts s.made).term hs → (i.parts s.made).term c
       → axiom_step hs c ≡ Ok x → option_or (first_same s s.pool x.sequent) (first_same s s.assumptions x.sequent) ≡ o → assume_or_meet s x o ≡ Ok t → Holds i t
   met s t hs c x (Some j) g h k a m e = concluded s t (restatement j x.sequent) g.objects (moves.meet s hs c x j g.run h k a m) e
-  met s t hs c x None g h k a m e = concluded (record s { assumptions = s.assumptions ++ next_step s ∷ [] }) t x g.objects (moves.assume s hs c x g.run h k a) e
+  met s t hs c x None g h k a m e = concluded (record s { assumptions = s.assumptions ++ next_step s ∷ [] }) t x g.objects (moves.assume s hs c x g.run h k a m) e
 
   axiom-keeps : (s t : State) → Holds i s → axiom_word s ≡ Ok t → Holds i t
   axiom-keeps s t g e =
@@ -307,13 +307,14 @@ module _ (i : Invariant) (moves : Moves i) where
       binding (axiom_step hs c) _ t e (λ x is e. met (with_stack s rest) t hs c x _ (restacked i s rest g under) k h is refl e)))
 
   exported : (s t : State) (j : ℕ) (hs : List Term) (c : Term) (x : Step) (o : Option ℕ) → Holds i s → AllByRecursion (i.parts s.made).term hs
-      → (i.parts s.made).term c → (i.parts s.made).step j → restate_step s.made j hs c ≡ Ok x → export s x o ≡ Ok t → Holds i t
-  exported s t j hs c x (Some earlier) g h k l a e = answered i s t e g
-  exported s t j hs c x None g h k l a e =
+      → (i.parts s.made).term c → (i.parts s.made).step j → restate_step s.made j hs c ≡ Ok x → first_same s s.exports x.sequent ≡ o
+      → export s x o ≡ Ok t → Holds i t
+  exported s t j hs c x (Some earlier) g h k l a m e = answered i s t e g
+  exported s t j hs c x None g h k l a m e =
       passing (sequent_in_limits x.sequent) _ t e (λ u limit e.
       answered i _ t e (record {
         objects = older s.made (Made.step x ∷ []) s.stack s.dictionary g.objects;
-        run = moves.export s j hs c x g.run h k l a (sequent_limits x.sequent u limit);
+        run = moves.export s j hs c x g.run h k l a m (sequent_limits x.sequent u limit);
       }))
 
   thm-keeps : (s t : State) → Holds i s → thm s ≡ Ok t → Holds i t
@@ -322,7 +323,7 @@ module _ (i : Invariant) (moves : Moves i) where
       popping p as_term p.term (term-gives p) s.stack g.objects.stacked _ t e (λ c below h under e.
       popping p as_terms (AllByRecursion p.term) (terms-gives p) below under _ t e (λ hs below k under e.
       popping p as_theorem p.step (theorem-gives p) below under _ t e (λ j rest l under e.
-      binding (restate_step s.made j hs c) _ t e (λ x is e. exported (with_stack s rest) t j hs c x _ (restacked i s rest g under) k h l is e))))
+      binding (restate_step s.made j hs c) _ t e (λ x is e. exported (with_stack s rest) t j hs c x _ (restacked i s rest g under) k h l is refl e))))
 
   -- A word in the body of an article.
   pub obey-keeps : (s t : State) (w : Word) → Holds i s → obey s w ≡ Ok t → Holds i t

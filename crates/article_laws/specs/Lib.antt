@@ -8,6 +8,7 @@ pub mod Moves
 pub mod NoPhantoms
 pub mod OperandParts
 pub mod Parts
+pub mod PartsLaws
 pub mod PlacesKept
 pub mod ReadingLaws
 pub mod RunLaws
@@ -16,7 +17,6 @@ pub mod SoundBuilding
 pub mod SoundDefining
 pub mod SoundInference
 pub mod SoundInputs
-pub mod SoundOperands
 pub mod SoundStates
 pub mod SoundStating
 pub mod SoundSteps

@@ -1,6 +1,6 @@
 -- What is true of every state of a run is said of its objects and of its run, and is kept by each word if a few moves keep it: an object is
 -- made of parts, a symbol is taken or defined, a step is concluded, assumed or exported.
-use Rattle.std.specs.Prelude.{◌≡◌, ℕ, ℤ, List, [], ◌∷◌, ◌++◌, map, length, true, Some, Ok, is_some}
+use Rattle.std.specs.Prelude.{◌≡◌, ℕ, ℤ, List, [], ◌∷◌, ◌++◌, map, length, true, None, Some, Ok, is_some}
 use Rattle.std.specs.List.{AllByRecursion}
 use Rattle.std.specs.Option.{option_or}
 use Rattle.std.specs.Ordering.{int_cmp}
@@ -21,14 +21,14 @@ use Rattle.article_spec.specs.RuleSteps.{NewType, define_const_step, define_cons
 use Rattle.article_laws.specs.Inferred.{Inferred}
 use Rattle.article_laws.specs.Parts.{Parts, IsOf}
 
--- of the parts of objects, over what was made; and of a run, by its place, what it made, its exports and its assumptions
+-- of the parts of objects, over what was made; and of a run, by its place, what it made, its exports, its assumptions and its pool
 pub record Invariant : Type 1 where
   pub parts : List Made → Parts
-  pub run : Stage → List Made → List ℕ → List ℕ → Type 0
+  pub run : Stage → List Made → List ℕ → List ℕ → List ℕ → Type 0
 
 -- the run of a state
 abbrev pub RunHas : Invariant → State → Type 0
-RunHas i s = i.run s.place s.made s.exports s.assumptions
+RunHas i s = i.run s.place s.made s.exports s.assumptions s.pool
 
 -- objects on a stack and in a dictionary
 pub record ObjectsHave (p : Parts) (stack : List Object) (dictionary : entries.FinMap int_cmp Object) : Type 0 where
@@ -80,13 +80,15 @@ pub record Moves (i : Invariant) : Type 0 where
       → RunHas i (with_step (with_constants s (definitions_in pairs (sequent_at s.made j).hypotheses)) x)
   pub define_type_op : (s : State) (names : TypeNames) (j : ℕ) (x : NewType) → RunHas i s
       → (i.parts s.made).name names.operator × (i.parts s.made).name names.abstraction × (i.parts s.made).name names.representation
-      → (i.parts s.made).step j → type_laws (version_at s.place) s.made names j ≡ Ok x → RunHas i (with_type s x)
+      → AllByRecursion (i.parts s.made).name names.variables → (i.parts s.made).step j → type_laws (version_at s.place) s.made names j ≡ Ok x → RunHas i (with_type s x)
   -- what is stated is met by an earlier step, is assumed, or is exported
   pub meet : (s : State) (hs : List Term) (c : Term) (x : Step) (j : ℕ) → RunHas i s → AllByRecursion (i.parts s.made).term hs → (i.parts s.made).term c
       → axiom_step hs c ≡ Ok x → option_or (first_same s s.pool x.sequent) (first_same s s.assumptions x.sequent) ≡ Some j → SequentWithin x.sequent
       → RunHas i (with_step s (restatement j x.sequent))
   pub assume : (s : State) (hs : List Term) (c : Term) (x : Step) → RunHas i s → AllByRecursion (i.parts s.made).term hs → (i.parts s.made).term c
-      → axiom_step hs c ≡ Ok x → SequentWithin x.sequent → RunHas i (record (with_step s x) { assumptions = s.assumptions ++ next_step s ∷ [] })
+      → axiom_step hs c ≡ Ok x → option_or (first_same s s.pool x.sequent) (first_same s s.assumptions x.sequent) ≡ None → SequentWithin x.sequent
+      → RunHas i (record (with_step s x) { assumptions = s.assumptions ++ next_step s ∷ [] })
   pub export : (s : State) (j : ℕ) (hs : List Term) (c : Term) (x : Step) → RunHas i s → AllByRecursion (i.parts s.made).term hs
-      → (i.parts s.made).term c → (i.parts s.made).step j → restate_step s.made j hs c ≡ Ok x → SequentWithin x.sequent
+      → (i.parts s.made).term c → (i.parts s.made).step j → restate_step s.made j hs c ≡ Ok x → first_same s s.exports x.sequent ≡ None
+      → SequentWithin x.sequent
       → RunHas i (record (with_step s x) { exports = s.exports ++ next_step s ∷ [] })

@@ -54,9 +54,8 @@ use Rattle.article_spec.specs.Conditions.{demand, in_limits, typed}
 use Rattle.article_spec.specs.Changes.{with_step, with_type_definition, with_type}
 use Rattle.article_spec.specs.RuleSteps.{step_by, application_parts, predicate_fits, are_new_names, NewType, define_const_step, define_const_list_step, type_laws, type_measures, made_of_type}
 use Rattle.article_laws.specs.Moves.{with_constants}
-use Rattle.article_laws.specs.Soundness.{IsTermObject, HasSoundRun}
+use Rattle.article_laws.specs.Soundness.{IsTermObject, HasSoundRun, IsConstantPair, IsStepNumber}
 use Rattle.article_laws.specs.SoundStates.{bound, passed, demanded, found, AreTakenAfter, symbols-more, in_limits-All, sequent-within, infer-more, at_step, definition-more, IsWithin}
-use Rattle.article_laws.specs.SoundOperands.{IsConstantPair, IsStepNumber}
 use Rattle.article_laws.specs.SoundInference.{sequent_at-IsSequent, typed-is, the_step}
 
 -- definitions that are made are among those of what was made

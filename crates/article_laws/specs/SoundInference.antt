@@ -28,9 +28,8 @@ use Rattle.article_spec.specs.State.{State}
 use Rattle.article_spec.specs.Conditions.{demand, typed, has_type, is_of_type, equation_of}
 use Rattle.article_spec.specs.RuleSteps.{contracted, refl_step, assume_step, eq_mp_step, abs_thm_step, app_thm_step, deduct_antisym_step, beta_conv_step, sym_step, trans_step, prove_hyp_step, subst_step}
 use Rattle.article_laws.specs.OperandParts.{IsTypePair, IsTermPair}
-use Rattle.article_laws.specs.Soundness.{IsTermObject, sound_parts, HasSoundRun}
+use Rattle.article_laws.specs.Soundness.{IsTermObject, sound_parts, HasSoundRun, IsStepNumber}
 use Rattle.article_laws.specs.SoundStates.{bound, passed, demanded, found, list_all-All, at_step, IsNext}
-use Rattle.article_laws.specs.SoundOperands.{IsStepNumber}
 use Rattle.hol_spec.specs.Definitions.{TypeNames, Definition}
 use Rattle.hol_spec.specs.declared.StepKind.{StepKind}
 use Rattle.hol_spec.specs.TypeDefinitions.{IsTypeDefinition}

@@ -21,8 +21,8 @@ use Rattle.hol_spec.specs.Proofs.{Made, Step, symbols_of, steps_of, sequents_of,
 use Rattle.hol_spec.specs.Proofs as made
 use Rattle.hol_proof_laws.specs.ProofGrowth.{symbols_of-append, steps_of-append, All-among, premises-All, over-sequents, proof-definitions}
 use Rattle.hol_spec.specs.Over.{IsMadeOver}
-use Rattle.article_spec.specs.State.{Object, Objects, number, name, list, type_operator, type, constant, variable, term, theorem, none, more}
-use Rattle.article_laws.specs.Parts.{AreOf}
+use Rattle.article_spec.specs.State.{Object}
+use Rattle.article_laws.specs.PartsLaws.{Weakens, object-weaker}
 use Rattle.article_laws.specs.Soundness.{sound_parts, IsObject, IsSoundlyMade}
 use Rattle.article_spec.specs.SoundRuns.{assumed_from}
 pub use Rattle.article_laws.specs.Binds.{bound, passed, demanded, found, list_all-All, at_most, IsWithin, in_limits-All, sequent-within, sequent_limits, term_limits, type_limits}
@@ -35,26 +35,21 @@ module _ (m ys : List Made) where
       ap length (steps_of-append m ys) ∙ length-append (steps_of m) (steps_of ys) in
       omega (arith, long, l)
 
-  mutual
-    pub object-more : (x : Object) → IsObject m x → IsObject (m ++ ys) x
-    object-more (number z) h = tt
-    object-more (name n) h = tt
-    object-more (list xs) h = objects-more xs h
-    object-more (type_operator n) h = tt
-    object-more (type t) h = (subst (λ zs. TypeTaken zs t) (sym (symbols_of-append m ys)) (type-more (symbols_of m) (symbols_of ys) t h.0), h.1)
-    object-more (constant n) h = tt
-    object-more (variable v) h = (subst (λ zs. TypeTaken zs v.1) (sym (symbols_of-append m ys)) (type-more (symbols_of m) (symbols_of ys) v.1 h.0), h.1)
-    object-more (term t) h = record {
+  pub parts-more : Weakens (sound_parts m) (sound_parts (m ++ ys))
+  parts-more = record {
+    names = λ n h. h;
+    types = λ a h. (subst (λ zs. TypeTaken zs a) (sym (symbols_of-append m ys)) (type-more (symbols_of m) (symbols_of ys) a h.0), h.1);
+    variables = λ v h. (subst (λ zs. TypeTaken zs v.1) (sym (symbols_of-append m ys)) (type-more (symbols_of m) (symbols_of ys) v.1 h.0), h.1);
+    terms = λ t h. record {
       typed = h.typed;
       taken = subst (λ zs. TermTaken zs t) (sym (symbols_of-append m ys)) (term-more (symbols_of m) (symbols_of ys) t h.taken);
-      within =
-          h.within;
-    }
-    object-more (theorem i) h = earlier i h
+      within = h.within;
+    };
+    steps = earlier;
+  }
 
-    objects-more : (xs : Objects) → AreOf (sound_parts m) xs → AreOf (sound_parts (m ++ ys)) xs
-    objects-more none h = tt
-    objects-more (more x xs) h = (object-more x h.0, objects-more xs h.1)
+  pub object-more : (x : Object) → IsObject m x → IsObject (m ++ ys) x
+  object-more x h = object-weaker (sound_parts m) (sound_parts (m ++ ys)) parts-more x h
 
 -- numbers that ascend
 pub raised : (low n m : ℕ) (is : List ℕ) → n ≤ m → Ascend low n is → Ascend low m is

@@ -1,29 +1,27 @@
--- Every command keeps a state sound, and so does the end of an article.
-use Rattle.std.proofs.Common.{◌≡◌, ℕ, suc, ◌<◌, ◌≤◌, List, [], ◌∷◌, length, Ok, refl, arith}
+-- Each move keeps a run sound, so all that an accepted run says derives.
+use Rattle.std.proofs.Common.{ℕ, suc, ◌<◌, ◌≤◌, List, [], ◌∷◌, length, refl, arith}
 use Rattle.std.specs.List.{AllByRecursion}
 use Rattle.article_spec.specs.Ascending.{Ascend}
-use Rattle.article_spec.specs.declared.commands.Command.{Command}
 use Rattle.hol_spec.specs.Derivations.{Derives}
 use Rattle.hol_spec.specs.Proofs.{steps_of, sequents_of, sequent_at, definitions_of, assumptions_of, Accepted}
 use Rattle.hol_spec.specs.Proofs as made
 use Rattle.hol_proof_laws.specs.ProofGrowth.{All-get}
 use Rattle.hol_proof_laws.specs.StepsDerive.{proof-derives}
 use Rattle.article_spec.specs.State.{State, initial}
-use Rattle.article_spec.specs.Step.{step, finish}
 use Rattle.article_spec.specs.Run.{accepted_state}
 use Rattle.article_spec.specs.SoundRuns.{IsDerived, IsSoundRun, RunsAreSound}
-use Rattle.article_laws.specs.KeptRuns.{any_item, initial-holds, step-keeps, finish-keeps, every_run}
+use Rattle.article_laws.specs.KeptRuns.{any_item, every_run}
 use Rattle.article_laws.specs.Moves.{Holds, Moves}
 use Rattle.article_laws.specs.SoundBuilding.{type_variable-sound, free-sound, app-sound, abstraction-sound, operator-sound, constant-sound}
 use Rattle.article_laws.specs.SoundDefining.{define_const-sound, define_const_list-sound, define_type_op-sound}
 use Rattle.article_laws.specs.SoundInference.{follows}
 use Rattle.article_laws.specs.SoundStates.{object-more, new-theorem, infer-more, at_step}
 use Rattle.article_laws.specs.SoundStating.{meet-sound, assume-sound, export-sound}
-use Rattle.article_laws.specs.Soundness.{IsSound, soundness, HasSoundRun, holds-IsSound, IsSound-holds}
+use Rattle.article_laws.specs.Soundness.{soundness, HasSoundRun}
 pub use Rattle.article_laws.specs.KeptRuns.{on_line}
 
 -- each move keeps a run sound
-sound_moves : Moves soundness
+pub sound_moves : Moves soundness
 sound_moves = record {
   more = object-more;
   new_step = new-theorem;
@@ -37,23 +35,14 @@ sound_moves = record {
   rule = λ s x g h l. let f = follows s g x h in infer-more s.made s.exports s.assumptions x g f.next f.inference l;
   define_const = λ s n t x g h k e l. define_const-sound s n t x g k e l;
   define_const_list = define_const_list-sound;
-  define_type_op = λ s names j x g h k e. define_type_op-sound s names j x g k e;
+  define_type_op = λ s names j x g h w k e. define_type_op-sound s names j x g k e;
   meet = meet-sound;
-  assume = assume-sound;
-  export = λ s j hs c x g h k n e l. export-sound s j hs c x g h k e l;
+  assume = λ s hs c x g h k e m l. assume-sound s hs c x g h k e l;
+  export = λ s j hs c x g h k n e m l. export-sound s j hs c x g h k e l;
 }
 
-pub step-sound : (s t : State) (c : Command) → IsSound s → step s c ≡ Ok t → IsSound t
-step-sound s t c g e = holds-IsSound t (step-keeps soundness sound_moves (λ s p g. g) s t c (IsSound-holds s g) (any_item c.item) e)
-
-pub finish-sound : (s t : State) → IsSound s → finish s ≡ Ok t → IsSound t
-finish-sound s t g e = holds-IsSound t (finish-keeps soundness sound_moves (λ s p g. g) s t (IsSound-holds s g) e)
-
-initial-run : HasSoundRun initial
+pub initial-run : HasSoundRun initial
 initial-run = record { proof = made.Each.empty; over = made.Each.empty; exports = omega arith; assumptions = refl }
-
-pub initial-sound : IsSound initial
-initial-sound = holds-IsSound initial (initial-holds soundness initial-run)
 
 -- numbers that ascend within bounds have ordered bounds
 pub Ascend-bounds : (low n : ℕ) (is : List ℕ) → Ascend low n is → low ≤ n
@@ -92,4 +81,4 @@ sound-run s h =
 
 -- The law of runs.
 pub runs_are_sound : RunsAreSound
-runs_are_sound articles a r = every_run soundness sound_moves (λ s p g. g) (λ m x. any_item x) IsSoundRun sound-run initial-run articles a r
+runs_are_sound articles a r = every_run soundness sound_moves (λ s p g. g) (λ s g. g) (λ m x. any_item x) IsSoundRun sound-run initial-run articles a r

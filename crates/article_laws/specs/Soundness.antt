@@ -1,8 +1,7 @@
 -- What is true of every state of a run: what was made is a proof, over the symbols that are taken and within the limits, and so is each object.
-use Rattle.std.specs.Prelude.{◌≡◌, ℕ, ℤ, ◌<◌, List, length, true, Some, is_some}
-use Rattle.std.specs.List.{AllByRecursion}
-use Rattle.std.specs.FinMap as entries
-use Rattle.hol_spec.specs.Terms.{Term, type_of}
+use Rattle.std.specs.Prelude.{◌≡◌, ℕ, ◌<◌, List, length, true, is_some}
+use Rattle.hol_spec.specs.Names.{Name}
+use Rattle.hol_spec.specs.Terms.{Term, Variable, type_of}
 use Rattle.hol_spec.specs.Limits.{TypeWithin, TermWithin}
 use Rattle.hol_spec.specs.Proofs.{Made, symbols_of, steps_of, IsProof}
 use Rattle.article_spec.specs.SoundRuns.{assumed_from}
@@ -10,7 +9,8 @@ use Rattle.article_spec.specs.Ascending.{Ascend}
 use Rattle.hol_spec.specs.Taken.{TypeTaken, TermTaken}
 use Rattle.hol_spec.specs.Over.{IsOver}
 use Rattle.article_spec.specs.State.{Object, State}
-use Rattle.article_laws.specs.Moves.{Invariant, RunHas, Holds}
+use Rattle.article_laws.specs.Moves.{Invariant, RunHas}
+use Rattle.article_laws.specs.OperandParts as operands
 use Rattle.article_laws.specs.Parts.{Parts, IsOf}
 
 -- A term that stands on its own: typed, over what is taken, within the limits.
@@ -28,16 +28,15 @@ sound_parts made = record {
   step = λ i. i < length (steps_of made);
 }
 
+-- the number of a step, and a name with a variable, as operands
+abbrev pub IsStepNumber : List Made → ℕ → Type 0
+IsStepNumber made i = (sound_parts made).step i
+
+abbrev pub IsConstantPair : List Made → Name × Variable → Type 0
+IsConstantPair made q = operands.IsConstantPair (sound_parts made) q
+
 abbrev pub IsObject : List Made → Object → Type 0
 IsObject made x = IsOf (sound_parts made) x
-
-pub record IsSound (s : State) : Type 0 where
-  pub proof : IsProof s.made
-  pub over : IsOver s.made
-  pub stack : AllByRecursion (IsObject s.made) s.stack
-  pub dictionary : (k : ℤ) (x : Object) → entries.get s.dictionary k ≡ Some x → IsObject s.made x
-  pub exports : Ascend 0 (length (steps_of s.made)) s.exports
-  pub assumptions : s.assumptions ≡ assumed_from 0 (steps_of s.made)
 
 -- of what was made, of the exports and of the assumptions, by their numbers
 pub record IsSoundlyMade (made : List Made) (is js : List ℕ) : Type 0 where
@@ -47,19 +46,8 @@ pub record IsSoundlyMade (made : List Made) (is js : List ℕ) : Type 0 where
   pub assumptions : js ≡ assumed_from 0 (steps_of made)
 
 abbrev pub soundness : Invariant
-soundness = record { parts = sound_parts; run = λ place made exports assumptions. IsSoundlyMade made exports assumptions }
+soundness = record { parts = sound_parts; run = λ place made exports assumptions pool. IsSoundlyMade made exports assumptions }
 
 -- the run of a state
 abbrev pub HasSoundRun : State → Type 0
 HasSoundRun s = RunHas soundness s
-
-pub holds-IsSound : (s : State) → Holds soundness s → IsSound s
-holds-IsSound s h =
-    let r = h.run in
-    record { proof = r.proof; over = r.over; stack = h.objects.stacked; dictionary = h.objects.kept; exports = r.exports; assumptions = r.assumptions }
-
-pub IsSound-holds : (s : State) → IsSound s → Holds soundness s
-IsSound-holds s g = record {
-  objects = record { stacked = g.stack; kept = g.dictionary };
-  run = record { proof = g.proof; over = g.over; exports = g.exports; assumptions = g.assumptions };
-}

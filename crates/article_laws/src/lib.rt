@@ -6,13 +6,13 @@
 //! |---|---|
 //! | `LineLaws`, `ReadingLaws` | each text has exactly one reading as the lines of an article |
 //! | `RunLaws` | each list of articles has exactly one outcome, by whatever way they are obeyed |
-//! | `Parts`, `OperandParts` | what is true of objects where it is said of their parts, and so of the operands of a command |
+//! | `Parts`, `OperandParts`, `PartsLaws` | what is true of objects where it is said of their parts, so of the operands of a command, and of weaker parts |
 //! | `Moves`, `Inferred` | what is true of every state of a run, and the moves that keep it: an object is made of parts, a symbol is taken or defined, a step is concluded, assumed or exported |
 //! | `KeptWords`, `KeptRuns` | each word, each command and each end of an article keeps what the moves keep, so it is true of every run |
 //! | `GrownRuns` | the moves where nothing is asked of objects but of their names, and each thing that is made has a property of its own |
 //! | `Binds` | what answered before the last answer of a row, and what is within the limits |
 //! | `Soundness` | what is true of every state of a run |
-//! | `SoundStates`, `SoundOperands`, `SoundInputs`, `SoundBuilding`, `SoundInference`, `SoundDefining`, `SoundStating`, `SoundSteps` | each move keeps it, so that all that a run says derives |
+//! | `SoundStates`, `SoundInputs`, `SoundBuilding`, `SoundInference`, `SoundDefining`, `SoundStating`, `SoundSteps` | each move keeps it, so that all that a run says derives |
 //! | `SecondWords` | a word as the second command is `version`, or stands in the body of an article of version 5 |
 //! | `PlacesKept` | a word of the body leaves the place of the machine |
 //! | `NoPhantoms` | the refusal of a term without a type never comes |

@@ -1,126 +1,128 @@
 -- Accepted runs are good: each has a history.
-use Rattle.std.proofs.Common.{◌≡◌, ℕ, ◌+◌, List, [], ◌∷◌, drop, Ok, refl, sym, ap, subst, ◌∙◌, inl, inr}
-use Rattle.hol_spec.specs.declared.Version.TheVariants.{Five, Six}
-use Rattle.hol_spec.specs.Proofs.{Accepted, IsProof}
+use Rattle.std.proofs.Common.{◌≡◌, ℕ, List, [], ◌∷◌, ◌++◌, length, None, Ok, refl, sym, subst}
+use Rattle.std.specs.List.{AllByRecursion}
+use Rattle.hol_spec.specs.Definitions.{TypeNames}
+use Rattle.hol_spec.specs.Rules.{Parameters}
+use Rattle.hol_spec.specs.Proofs.{Accepted, Made, Step, IsProof}
 use Rattle.hol_spec.specs.Over.{IsOver}
-use Rattle.article_spec.specs.declared.commands.Command.{Command}
-use Rattle.article_spec.specs.declared.commands.Item.{Item}
-use Rattle.article_spec.specs.declared.commands.Item.TheVariants as item
-use Rattle.article_spec.specs.declared.commands.Word.{Word}
-use Rattle.article_spec.specs.declared.commands.Word.TheVariants as word
-use Rattle.article_spec.specs.State.{State, Stage, initial, start, version, body}
-use Rattle.article_spec.specs.Step.{obey, in_body, obey_item, second_word, step_at, step, finish}
-use Rattle.article_spec.specs.Lines.{Lines, End, ended, refused}
-use Rattle.article_spec.specs.Run.{machine, at_line, obey_all, obey_article, accepted_state, Outcome, accepted, refused_at, RunsFrom, finished, passed, stopped, Run}
-use Rattle.article_laws.specs.Binds.{bound}
-use Rattle.article_laws.specs.KeptRuns.{initial-holds, step-keeps, finish-keeps}
-use Rattle.article_laws.specs.Moves.{Holds}
-use Rattle.article_laws.specs.SecondWords.{second_word-cases}
-use Rattle.article_laws.specs.Soundness.{IsSound}
-use Rattle.article_laws.specs.SoundSteps.{step-sound, finish-sound, initial-sound, on_line}
-use Rattle.article_write_laws.specs.Histories.{History}
+use Rattle.hol_laws.specs.Members.{All-each, All-weaker, IsIn-left}
+use Rattle.article_spec.specs.Lines.{ended}
+use Rattle.article_spec.specs.State.{State, initial, version_at}
+use Rattle.article_spec.specs.State as object
+use Rattle.article_spec.specs.Changes.{with_type, next_step, first_same}
+use Rattle.article_spec.specs.RuleSteps.{NewType, type_laws, stated}
+use Rattle.article_spec.specs.Run.{accepted_state, accepted, Run}
+use Rattle.article_laws.specs.KeptRuns.{Reads, run-has}
+use Rattle.article_laws.specs.Moves.{RunHas, Holds, Moves}
+use Rattle.article_laws.specs.PartsLaws.{Weakens, object-weaker, inferred-weaker}
+use Rattle.article_laws.specs.SoundDefining.{type_laws-made}
+use Rattle.article_laws.specs.SoundStates.{parts-more, new-theorem}
+use Rattle.article_laws.specs.SoundStating.{axiom_step-made, restate_step-made}
+use Rattle.article_laws.specs.SoundSteps.{sound_moves, initial-run}
+use Rattle.article_write_laws.specs.ItemLaws.{IsWritableName}
+use Rattle.article_write_laws.specs.Histories.{History, IsGood}
 use Rattle.article_write_laws.specs.Histories as histories
-use Rattle.article_write_laws.specs.GoodStates.{goodness, AreGoodObjects, IsTold, Tells, here}
-use Rattle.article_write_laws.specs.GoodBuilding.{good_moves, nil-told, cons-told, hd_tl-told, type_op-told, var_type-told, op_type-told, const-told, const_term-told, var-told, var_term-told, app_term-told, abs_term-told, def-told, ref-told, remove-told, drop-told}
-use Rattle.article_write_laws.specs.GoodWords.{rule-told, define_const-told, define_const_list-told, define_type_op-told, axiom-told, thm-told}
-use Rattle.article_write_laws.specs.GoodNames.{IsGoodItem, AreGoodCommands, lines-good}
+use Rattle.article_write_laws.specs.GoodStates.{told_parts, sound-parts, telling}
+use Rattle.article_write_laws.specs.GoodBuilding.{all-named, app-good, abstraction-good, constant-history, operator-history}
+use Rattle.article_write_laws.specs.GoodWords.{infers-good, constant-told, constants-told, stated-good, met-told, not-assumed}
+use Rattle.article_write_laws.specs.GoodNames.{lines-good}
 
-obey-told : (s : State) (w : Word) → IsSound s → AreGoodObjects s.stack → IsTold s → Tells (obey s w)
-obey-told s word.Version h k g = λ t e. absurd (cc)
-obey-told s word.Nil h k g = nil-told s g
-obey-told s word.Cons h k g = cons-told s g
-obey-told s word.HdTl h k g = hd_tl-told s g
-obey-told s word.TypeOp h k g = type_op-told s g
-obey-told s word.VarType h k g = var_type-told s g
-obey-told s word.OpType h k g = op_type-told s g
-obey-told s word.Const h k g = const-told s g
-obey-told s word.ConstTerm h k g = const_term-told s g
-obey-told s word.Var h k g = var-told s g
-obey-told s word.VarTerm h k g = var_term-told s g
-obey-told s word.AppTerm h k g = app_term-told s g
-obey-told s word.AbsTerm h k g = abs_term-told s g
-obey-told s word.Def h k g = def-told s g
-obey-told s word.Ref h k g = ref-told s g
-obey-told s word.Remove h k g = remove-told s g
-obey-told s word.Pop h k g = drop-told s g
-obey-told s word.Pragma h k g = drop-told s g
-obey-told s word.DefineConst h k g = define_const-told s k g
-obey-told s word.DefineConstList h k g = define_const_list-told s h k g
-obey-told s word.DefineTypeOp h k g = define_type_op-told s h k g
-obey-told s word.Axiom h k g = axiom-told s k g
-obey-told s word.Thm h k g = thm-told s k g
-obey-told s word.Refl h k g = rule-told s k g word.Refl (tt {0})
-obey-told s word.Assume h k g = rule-told s k g word.Assume (tt {0})
-obey-told s word.EqMp h k g = rule-told s k g word.EqMp (tt {0})
-obey-told s word.AbsThm h k g = rule-told s k g word.AbsThm (tt {0})
-obey-told s word.AppThm h k g = rule-told s k g word.AppThm (tt {0})
-obey-told s word.DeductAntisym h k g = rule-told s k g word.DeductAntisym (tt {0})
-obey-told s word.BetaConv h k g = rule-told s k g word.BetaConv (tt {0})
-obey-told s word.Sym h k g = rule-told s k g word.Sym (tt {0})
-obey-told s word.Trans h k g = rule-told s k g word.Trans (tt {0})
-obey-told s word.ProveHyp h k g = rule-told s k g word.ProveHyp (tt {0})
-obey-told s word.Subst h k g = rule-told s k g word.Subst (tt {0})
-
--- an article of version 5 in its body
-in_body-sound : (s : State) → IsSound s → IsSound (in_body Five s)
-in_body-sound s g = record { proof = g.proof; over = g.over; stack = g.stack; dictionary = g.dictionary; exports = g.exports; assumptions = g.assumptions }
-
-obey_item-told : (s : State) (i : Item) → IsSound s → AreGoodObjects s.stack → IsTold s → Tells (obey_item s i)
-obey_item-told s (item.Number z) h k g = here _ g
-obey_item-told s (item.Name m) h k g = here _ g
-obey_item-told s (item.Word w) h k g = obey-told s w h k g
-
-second_word-told : (s : State) (w : Word) → IsSound s → AreGoodObjects s.stack → IsTold s → Tells (second_word s w)
-second_word-told s w h k g t e = elim (second_word-cases s w) [
-  | inl f ↦
-      let k : second_word s word.Version ≡ Ok t = ap (second_word s) (sym f) ∙ e in
-      here (record s { stack = drop 1 s.stack; place = body Six }) g t k
-  | inr f ↦ obey-told (in_body Five s) w (in_body-sound s h) k g t (sym f ∙ e)
-]
-
-step_at-told : (s : State) (p : Stage) (i : Item) → IsSound s → AreGoodObjects s.stack → IsTold s → Tells (step_at p s i)
-step_at-told s (start v) (item.Number z) h k g = here _ g
-step_at-told s (start v) (item.Name m) h k g = obey_item-told (in_body Five s) (item.Name m) (in_body-sound s h) k g
-step_at-told s (start v) (item.Word w) h k g = obey_item-told (in_body Five s) (item.Word w) (in_body-sound s h) k g
-step_at-told s version (item.Number z) h k g = obey_item-told (in_body Five s) (item.Number z) (in_body-sound s h) k g
-step_at-told s version (item.Name m) h k g = obey_item-told (in_body Five s) (item.Name m) (in_body-sound s h) k g
-step_at-told s version (item.Word w) h k g = second_word-told s w h k g
-step_at-told s (body v) i h k g = obey_item-told s i h k g
-
-finish-told : (s : State) → IsTold s → Tells (finish s)
-finish-told s g = here _ (record { history = g.history; pool = λ i h. h })
-
--- Runs
-record IsKept (s : State) : Type 0 where
-  sound : IsSound s
-  good : Holds goodness s
-  told : IsTold s
-
-one-kept : (s t : State) (c : Command) → IsKept s → IsGoodItem c.item → step s c ≡ Ok t → IsKept t
-one-kept s t c h n e = record {
-  sound = step-sound s t c h.sound e;
-  good = step-keeps goodness good_moves (λ s p g. g) s t c h.good n e;
-  told = step_at-told s s.place c.item h.sound h.good.objects.stacked h.told t e;
-}
-
-all-kept : (commands : List Command) (s t : State) → IsKept s → AreGoodCommands commands → obey_all machine s commands ≡ Ok t → IsKept t
-all-kept [] s t h n e = let f : s ≡ t = cc in subst IsKept f h
-all-kept (c ∷ cs) s t h n e =
-    let next = bound (at_line c.line (step s c)) _ t e in
-    all-kept cs next.0 t (one-kept s next.0 c h n.0 (on_line c.line (step s c) next.0 next.1)) n.1 next.2
-
-article-kept : (s t : State) (text : List ℕ) (commands : List Command) (end : End) → IsKept s → Lines text commands end
-    → obey_article machine s commands end ≡ Ok t → IsKept t
-article-kept s t text commands (ended line) h l e =
-    let last = bound (obey_all machine s commands) _ t e in
-    let k = all-kept commands s last.0 h (lines-good text commands (ended line) l tt) last.1 in
-    let f = on_line line (finish last.0) t last.2 in
+told-more : (m ys : List Made) → Weakens (told_parts m) (told_parts (m ++ ys))
+told-more m ys =
+    let more = parts-more m ys in
     record {
-      sound = finish-sound last.0 t k.sound f;
-      good = finish-keeps goodness good_moves (λ s p g. g) last.0 t k.good f;
-      told = finish-told last.0 k.told t f;
+      names = λ n h. h;
+      types = λ t h. (more.types t h.0, h.1);
+      variables = λ v h. (more.variables v h.0, h.1);
+      terms = λ t h. (more.terms t h.0, h.1);
+      steps = λ i h. more.steps i h;
     }
-article-kept s t text commands (refused line kind) h l e = let last = bound (obey_all machine s commands) _ t e in absurd (let z = last.2 in cc)
+
+-- what is defined of a type operator
+type-told : (s : State) (names : TypeNames) (j : ℕ) (x : NewType) → History s.made s.assumptions s.exports
+    → IsWritableName names.operator × IsWritableName names.abstraction × IsWritableName names.representation
+    → AllByRecursion IsWritableName names.variables → (told_parts s.made).step j → type_laws (version_at s.place) s.made names j ≡ Ok x
+    → History (with_type s x).made s.assumptions s.exports
+type-told s names j x h o w k e =
+    let y = type_laws-made (version_at s.place) s.made names j x e in
+    subst (λ z. History (with_type s z).made s.assumptions s.exports) (sym y.is)
+    (histories.History.type j names y.c y.f (version_at s.place) h k (record { built = tt {0}; named = ((o.0, o.1), (o.2, w)) }) refl)
+
+-- each move keeps a run told
+told_moves : Moves telling
+told_moves = record {
+  more = λ m ys x h. object-weaker (told_parts m) (told_parts (m ++ ys)) (told-more m ys) x h;
+  new_step = new-theorem;
+  type_variable = λ m n h.
+      let sound = sound_moves.type_variable m n (tt {0}) in
+      (sound, record { within = sound.1; named = h });
+  variable = λ m v h k. (k.0, record { within = k.1.within; named = (h, k.1.named) });
+  free = λ m v h l. (sound_moves.free m v h.0 l, record { built = record { ty = v.1; typed = refl; built = l }; named = h.1.named });
+  app = λ m f x h k e l. (sound_moves.app m f x h.0 k.0 e l, app-good f x h.1 k.1 e l);
+  abstracted = λ m v t h k l. (sound_moves.abstracted m v t h.0 k.0 l, abstraction-good v t h.1 k.1 l);
+  operator = λ s n ts u g h k e l.
+      let sound = sound_moves.operator s n ts u g.sound (tt {0}) (All-weaker _ _ (λ t q. q.0) ts k) e l in
+      let good = All-weaker _ _ (λ t q. q.1) ts k in (
+        record { sound = sound.0; history = operator-history s.made s.assumptions s.exports n (length ts) g.history; pool = g.pool },
+        (sound.1, record { within = l; named = (h, all-named ts good) }),
+      );
+  constant = λ s n a u g h k e l.
+      let sound = sound_moves.constant s n a u g.sound (tt {0}) k.0 e l in (
+        record { sound = sound.0; history = constant-history s.made s.assumptions s.exports n g.history; pool = g.pool },
+        (sound.1, record { built = record { ty = a; typed = refl; built = l }; named = (h, k.1.named) }),
+      );
+  rule = λ s x g h l.
+      let k = infers-good s.made x h in
+      record {
+        sound = sound_moves.rule s x g.sound (inferred-weaker _ _ (sound-parts s.made) s.made x h) l;
+        history = histories.History.inferred x g.history k.kind k.given refl;
+        pool = g.pool;
+      };
+  define_const = λ s n t x g h k e l. record {
+    sound = sound_moves.define_const s n t x g.sound (tt {0}) k.0 e l;
+    history = constant-told s.made s.assumptions s.exports g.history n t x h k.1 e;
+    pool = g.pool;
+  };
+  define_const_list = λ s pairs j x g h k e l. record {
+    sound = sound_moves.define_const_list s pairs j x g.sound (All-weaker _ _ (λ q p. (tt {0}, p.1.0)) pairs h) k e l;
+    history = constants-told s.made s.assumptions s.exports g.history pairs j x h k e;
+    pool = g.pool;
+  };
+  define_type_op = λ s names j x g h w k e. record {
+    sound = sound_moves.define_type_op s names j x g.sound (tt {0}, tt {0}, tt {0}) (All-each _ names.variables (λ n q. tt {0})) k e;
+    history = type-told s names j x g.history h w k e;
+    pool = g.pool;
+  };
+  meet = λ s hs c x j g h k e m l.
+      let y = axiom_step-made hs c x e in
+      let good = subst (λ (z : Step). IsGood (Parameters.sequent z.sequent)) (sym y.is) (stated-good s.made hs c h k) in
+      record {
+        sound = sound_moves.meet s hs c x j g.sound (All-weaker _ _ (λ t q. q.0) hs h) k.0 e m l;
+        history = met-told s x.sequent j g.history g.pool good _ _ refl refl m;
+        pool = g.pool;
+      };
+  assume = λ s hs c x g h k e m l.
+      let y = axiom_step-made hs c x e in
+      let none = not-assumed _ _ m in
+      record {
+        sound = sound_moves.assume s hs c x g.sound (All-weaker _ _ (λ t q. q.0) hs h) k.0 e m l;
+        history =
+            subst (λ (z : Step). History (s.made ++ Made.step z ∷ []) (s.assumptions ++ next_step s ∷ []) s.exports) (sym y.is)
+            (histories.History.assumed (stated hs c) g.history (subst (λ (z : Step). first_same s s.assumptions z.sequent ≡ None) y.is none)
+            (stated-good s.made hs c h k) refl refl);
+        pool = g.pool;
+      };
+  export = λ s j hs c x g h k n e m l.
+      let y = restate_step-made s.made j hs c x e in
+      record {
+        sound = sound_moves.export s j hs c x g.sound (All-weaker _ _ (λ t q. q.0) hs h) k.0 n e m l;
+        history =
+            subst (λ (z : Step). History (s.made ++ Made.step z ∷ []) s.assumptions (s.exports ++ next_step s ∷ [])) (sym y.is)
+            (histories.History.exported (stated hs c) j g.history (subst (λ (z : Step). first_same s s.exports z.sequent ≡ None) y.is m)
+            (stated-good s.made hs c h k) refl refl);
+        pool = λ i q. IsIn-left s.exports (next_step s ∷ []) i (g.pool i q);
+      };
+}
 
 -- what an accepted run has
 pub record IsGoodRun (a : Accepted) : Type 0 where
@@ -128,26 +130,20 @@ pub record IsGoodRun (a : Accepted) : Type 0 where
   pub over : IsOver a.made
   pub history : History a.made a.assumptions a.exports
 
-the_accepted : Accepted → Outcome → Accepted
-the_accepted a (accepted b) = b
-the_accepted a (refused_at k line kind) = a
+good-run : (s : State) → Holds telling s → IsGoodRun (accepted_state s)
+good-run s h = record { proof = h.run.sound.proof; over = h.run.sound.over; history = h.run.history }
 
-good-run : (s : State) → IsKept s → IsGoodRun (accepted_state s)
-good-run s h = record { proof = h.sound.proof; over = h.sound.over; history = h.told.history }
+initial-told : RunHas telling initial
+initial-told = record { sound = initial-run; history = histories.History.empty; pool = λ i h. h }
 
-from-good : (k : ℕ) (s : State) (articles : List (List ℕ)) (o : Outcome) (a : Accepted) → IsKept s → o ≡ accepted a → RunsFrom machine k s articles o
-    → IsGoodRun a
-unfolding the_accepted
-from-good k s [] o a h e (finished f) = subst IsGoodRun (ap (the_accepted a) (sym f ∙ e)) (good-run s h)
-from-good k s (bytes ∷ rest) o a h e (passed {next = t} {commands = cs} {end = x} l p r) = from-good (k + 1) t rest o a (article-kept s t bytes cs x h l p) e r
-from-good k s (bytes ∷ rest) o a h e (stopped {line = n} {kind = m} l p f) = let g : accepted a ≡ refused_at k n m = sym e ∙ f in absurd (cc)
+-- at the end of an article all exports are in the pool
+ended-told : (s : State) → RunHas telling s → RunHas telling (record s { pool = s.exports })
+ended-told s g = record { sound = g.sound; history = g.history; pool = λ i h. h }
 
-initial-kept : IsKept initial
-initial-kept = record {
-  sound = initial-sound;
-  good = initial-holds goodness (tt {0});
-  told = record { history = histories.History.empty; pool = λ i h. h };
-}
+names-written : Reads (λ bytes. Unit {0}) IsWritableName
+names-written = record { commands = λ bytes cs line l h. lines-good bytes cs (ended line) l (tt {0}) }
 
 pub runs-good : (articles : List (List ℕ)) (a : Accepted) → Run articles (accepted a) → IsGoodRun a
-runs-good articles a r = from-good 1 initial articles (accepted a) a initial-kept refl r
+runs-good articles a r =
+    run-has telling told_moves (λ s p g. g) ended-told (λ bytes. Unit {0}) IsWritableName names-written (λ m x h. h) IsGoodRun good-run
+    articles a initial-told (All-each _ articles (λ bytes k. tt {0})) r

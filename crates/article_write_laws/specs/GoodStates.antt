@@ -1,17 +1,14 @@
--- What is true of each state of a run: each object was built from its parts and its names can be written; and how what was made came about.
-use Rattle.std.proofs.Common.{◌≡◌, ℕ, List, Result, Ok, subst}
-use Rattle.std.specs.List.{AllByRecursion}
-use Rattle.common.specs.declared.faults.Kind.{Kind}
+-- What is true of each state of a run: it is sound, each object was built from its parts and its names can be written; and how what was made came about.
+use Rattle.std.specs.Prelude.{ℕ, List}
 use Rattle.hol_spec.specs.Types.{HolType}
 use Rattle.hol_spec.specs.Limits.{TypeWithin}
 use Rattle.hol_spec.specs.Terms.{Term, Variable}
 use Rattle.hol_spec.specs.Lists.{IsIn}
 use Rattle.hol_spec.specs.Proofs.{Made}
-use Rattle.article_spec.specs.State.{Object, State}
-use Rattle.article_spec.specs.Results.{◌>>=◌, ◌>>◌}
-use Rattle.article_laws.specs.Binds.{bound, passed}
 use Rattle.article_laws.specs.Moves.{Invariant}
-use Rattle.article_laws.specs.Parts.{Parts, IsOf}
+use Rattle.article_laws.specs.Parts.{Parts}
+use Rattle.article_laws.specs.PartsLaws.{Weakens}
+use Rattle.article_laws.specs.Soundness.{sound_parts, IsSoundlyMade}
 use Rattle.article_write_laws.specs.ItemLaws.{IsWritableName}
 use Rattle.article_write_laws.specs.BuiltSteps.{IsBuiltTerm}
 use Rattle.article_write_laws.specs.WritableDrafts.{TypeNamed, VariableNamed, TermNamed}
@@ -29,33 +26,30 @@ pub record IsGoodTerm (t : Term) : Type 0 where
   pub built : IsBuiltTerm t
   pub named : TermNamed t
 
--- objects of such parts, and nothing of the run
-abbrev pub good_parts : Parts
-good_parts = record { name = IsWritableName; type = IsGoodType; variable = IsGoodVariable; term = IsGoodTerm; step = λ i. Unit {0} }
+-- of objects: that they are sound, and good
+abbrev pub told_parts : List Made → Parts
+told_parts made = record {
+  name = IsWritableName;
+  type = λ t. (sound_parts made).type t × IsGoodType t;
+  variable = λ v. (sound_parts made).variable v × IsGoodVariable v;
+  term = λ t. (sound_parts made).term t × IsGoodTerm t;
+  step = (sound_parts made).step;
+}
 
-abbrev pub goodness : Invariant
-goodness = record { parts = λ made. good_parts; run = λ place made exports assumptions. Unit {0} }
+pub sound-parts : (made : List Made) → Weakens (told_parts made) (sound_parts made)
+sound-parts made = record {
+  names = λ n h. tt {0};
+  types = λ t h. h.0;
+  variables = λ v h. h.0;
+  terms = λ t h. h.0;
+  steps = λ i h. h;
+}
 
-abbrev pub AreGoodObjects : List Object → Type 0
-AreGoodObjects stack = AllByRecursion (IsOf good_parts) stack
-
--- how what was made came about; what earlier articles exported are exports
-pub record HasHistory (made : List Made) (ax ex from : List ℕ) : Type 0 where
+-- of a run: that it is sound, how what was made came about, and that what earlier articles exported are exports
+pub record IsTold (made : List Made) (ex ax from : List ℕ) : Type 0 where
+  pub sound : IsSoundlyMade made ex ax
   pub history : History made ax ex
   pub pool : (i : ℕ) → IsIn from i → IsIn ex i
 
-abbrev pub IsTold : State → Type 0
-IsTold s = HasHistory s.made s.assumptions s.exports s.pool
-
--- so it is of the state that is answered
-abbrev pub Tells : Result State Kind → Type 0
-Tells r = (t : State) → r ≡ Ok t → IsTold t
-
-pub here : (s : State) → IsTold s → Tells (Ok s)
-here s g t e = let f : s ≡ t = cc in subst IsTold f g
-
-pub after : {A : Type 0} (r : Result A Kind) (f : A → Result State Kind) → ((a : A) → Tells (f a)) → Tells (r >>= f)
-after r f go t e = let b = bound r f t e in go b.0 t b.2
-
-pub past : {A : Type 0} (r : Result A Kind) (q : Result State Kind) → Tells q → Tells (r >> q)
-past r q go t e = go t (passed r q t e).2
+abbrev pub telling : Invariant
+telling = record { parts = told_parts; run = λ place made exports assumptions pool. IsTold made exports assumptions pool }

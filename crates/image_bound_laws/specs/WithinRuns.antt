@@ -29,5 +29,5 @@ grows = record {
 -- What an accepted run made is within the limits
 pub run-within : (articles : List (List ℕ)) (a : Accepted) → Run articles (accepted a) → AreWithin a.made
 run-within articles a r =
-    every_run (of_names (λ n. Unit {0}) within) (moves_of _ _ _ grows) (λ s p g. g) (λ m x. any_item x)
+    every_run (of_names (λ n. Unit {0}) within) (moves_of _ _ _ grows) (λ s p g. g) (λ s g. g) (λ m x. any_item x)
     (λ b. AreWithin b.made) (λ s h. h.run) (tt {0}) articles a r

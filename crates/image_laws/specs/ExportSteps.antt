@@ -70,7 +70,7 @@ grows = record {
 -- Each export of an accepted run restates a theorem
 pub exports-restated : (articles : List (List ℕ)) (a : Accepted) → Run articles (accepted a) → HaveRestated a.made a.exports
 exports-restated articles a r =
-    every_run (of_names (λ n. Unit {0}) restating) (moves_of _ _ _ grows) (λ s p g. g) (λ m x. any_item x)
+    every_run (of_names (λ n. Unit {0}) restating) (moves_of _ _ _ grows) (λ s p g. g) (λ s g. g) (λ m x. any_item x)
     (λ b. HaveRestated b.made b.exports) (λ s h. h.run) (tt {0}) articles a r
 
 one-restated : (a : Accepted) (is : List ℕ) → AllByRecursion (IsRestated a.made) is → (i : ℕ) → is_one_of i is ≡ true → IsRestated a.made i

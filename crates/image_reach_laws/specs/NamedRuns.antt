@@ -69,7 +69,7 @@ reads_bytes = record { commands = λ bytes cs line l h. lines-named bytes cs (en
 -- Every accepted run over articles of bytes has names
 pub run-has_names : (articles : List (List ℕ)) (run : Accepted) → AllByRecursion AreBytes articles → Run articles (accepted run) → HasNames run
 run-has_names articles run bytes r =
-    run-has (of_names IsName named) (moves_of _ _ _ grows) (λ s p g. g) AreBytes IsName reads_bytes (λ m x h. h)
+    run-has (of_names IsName named) (moves_of _ _ _ grows) (λ s p g. g) (λ s g. g) AreBytes IsName reads_bytes (λ m x h. h)
     HasNames (λ s h. record { symbols = symbols-named s.made h.run }) articles run (tt {0}) bytes r
 
 -- The law: the module of an accepted run over articles of bytes stands for it
