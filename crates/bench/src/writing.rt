@@ -112,24 +112,24 @@ fn no_bounds(alloc: Global, count: usize) -> Result<Vec<u128>, Memory>
 // Whether a module was made and written.
 fn is_written<S: Sink>(
     alloc: Global,
-    module: &mut Module,
+    target: &mut Module,
     count: usize,
     times: u32,
     sink: &mut S,
 ) -> Result<bool, Memory>
-    requires { IsHeld module.old }
+    requires { IsHeld target.old }
 {
-    push_nests(alloc, module, count)?;
-    let bounds = no_bounds(alloc, module.decls.len())?;
-    let mut path = Path::new(alloc, module)?;
-    Ok(write_often(module, &bounds, times, &mut path, sink).is_ok())
+    push_nests(alloc, target, count)?;
+    let bounds = no_bounds(alloc, target.decls.len())?;
+    let mut path = Path::new(alloc, target)?;
+    Ok(write_often(target, &bounds, times, &mut path, sink).is_ok())
 }
 
 // The same of a module of its own.
 fn run<S: Sink>(alloc: Global, count: usize, times: u32, sink: &mut S) -> Result<bool, Memory> {
-    let mut module = Module::new(alloc)?;
-    let written = is_written(alloc, &mut module, count, times, sink);
-    drop(module);
+    let mut target = Module::new(alloc)?;
+    let written = is_written(alloc, &mut target, count, times, sink);
+    drop(target);
     written
 }
 

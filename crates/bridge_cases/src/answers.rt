@@ -20,28 +20,40 @@ pub(crate) fn answer(
         "translate" => Ok(number_of(translate(alloc, words, false, shelf, out, note))),
         "show" => Ok(number_of(show(alloc, words, shelf, out, note))),
         "article" => Ok(number_of(article(alloc, words, shelf, out, note))),
-        by => answer_of_a_module(alloc, case, by, words, shelf, out, note),
+        "check" => check_answer(alloc, case, words, shelf, out, note),
+        "decode" => decode_answer(alloc, words, shelf, out, note),
+        _ => Err(Wrong("by")),
     }
 }
 
-// The same by a call for the file of a module.
-fn answer_of_a_module(
+// The same by `check`, for the file of a module and the budget of the case.
+fn check_answer(
     alloc: Global,
     case: &Case<'_>,
-    by: &str,
     words: &[String],
     shelf: &mut RecordedShelf,
     out: &mut MemSink,
     note: &mut MemSink,
 ) -> Result<u8, Wrong> {
-    match (by, words) {
-        ("check", [file]) => {
-            let budget = number(case, "budget")?;
-            Ok(number_of(check(alloc, file, budget, false, shelf, out, note)))
-        }
-        ("decode", [file]) => Ok(number_of(decode(alloc, file, shelf, out, note))),
-        _ => Err(Wrong("by")),
-    }
+    let [file] = words else {
+        return Err(Wrong("words"));
+    };
+    let budget = number(case, "budget")?;
+    Ok(number_of(check(alloc, file, budget, false, shelf, out, note)))
+}
+
+// The same by `decode`, for the file of a module.
+fn decode_answer(
+    alloc: Global,
+    words: &[String],
+    shelf: &mut RecordedShelf,
+    out: &mut MemSink,
+    note: &mut MemSink,
+) -> Result<u8, Wrong> {
+    let [file] = words else {
+        return Err(Wrong("words"));
+    };
+    Ok(number_of(decode(alloc, file, shelf, out, note)))
 }
 
 // The number of an answer, which is then let go.

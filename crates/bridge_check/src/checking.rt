@@ -37,9 +37,9 @@ pub fn checked<H: Shelf>(
     ensures count { H.faults shelf.old ≤ H.faults shelf.new }
 {
     match read_module(alloc, file, shelf) {
-        Ok(mut module) => {
-            let answer = answered(alloc, &mut module, budget, rechecks);
-            drop(module);
+        Ok(mut source) => {
+            let answer = answered(alloc, &mut source, budget, rechecks);
+            drop(source);
             answer
         }
         Err(Stop::Refused(place, kind)) => Answer::DkRefused(place, kind),
@@ -49,13 +49,13 @@ pub fn checked<H: Shelf>(
 }
 
 /// What is to be answered for a module, each declaration of which has the budget.
-fn answered(alloc: Global, module: &mut Module, budget: u64, rechecks: bool) -> Answer
-    requires held { IsHeld module.old }
-    requires is_module { IsModule (declarations_of module.old) }
-    ensures { IsAnswer rechecks (declarations_of module.old) budget result }
+fn answered(alloc: Global, source: &mut Module, budget: u64, rechecks: bool) -> Answer
+    requires held { IsHeld source.old }
+    requires is_module { IsModule (declarations_of source.old) }
+    ensures { IsAnswer rechecks (declarations_of source.old) budget result }
 {
-    match judged(alloc, module, budget, rechecks) {
-        Ok(Verdict::Accepted) => match counts(alloc, module) {
+    match judged(alloc, source, budget, rechecks) {
+        Ok(Verdict::Accepted) => match counts(alloc, source) {
             Ok(text) => Answer::Told(text),
             Err(Memory) => Answer::Memory,
         },
@@ -68,62 +68,62 @@ fn answered(alloc: Global, module: &mut Module, budget: u64, rechecks: bool) -> 
 /// The verdict on a module under one budget for each declaration.
 fn judged(
     alloc: Global,
-    module: &mut Module,
+    source: &mut Module,
     budget: u64,
     rechecks: bool,
 ) -> Result<Verdict, Memory>
-    requires held { IsHeld module.old }
-    requires is_module { IsModule (declarations_of module.old) }
-    ensures same { declarations_of module.new ≡ declarations_of module.old }
-    ensures judged { IfOk result (IsJudged rechecks (declarations_of module.old) budget) }
+    requires held { IsHeld source.old }
+    requires is_module { IsModule (declarations_of source.old) }
+    ensures same { declarations_of source.new ≡ declarations_of source.old }
+    ensures judged { IfOk result (IsJudged rechecks (declarations_of source.old) budget) }
 {
-    let budgets = vec![in alloc; u128::from(budget); module.decls.len()]?;
-    verdict_on(alloc, module, &budgets, rechecks)
+    let budgets = vec![in alloc; u128::from(budget); source.decls.len()]?;
+    verdict_on(alloc, source, &budgets, rechecks)
 }
 
 /// The verdict of the kernel, with rechecks of sorts or without.
 fn verdict_on(
     alloc: Global,
-    module: &mut Module,
+    source: &mut Module,
     budgets: &[u128],
     rechecks: bool,
 ) -> Result<Verdict, Memory>
-    requires held { IsHeld module.old }
-    requires is_module { IsModule (declarations_of module.old) }
-    requires budgets { length budgets.now ≡ length module.old.decls }
-    ensures grows { Grows module.old module.new }
-    ensures judged { IfOk result (is_judged_by rechecks (declarations_of module.old) budgets.now) }
-    ensures well_typed { IfOk result (λ v. v ≡ verdict.Accepted → WellTyped (declarations_of module.old)) }
+    requires held { IsHeld source.old }
+    requires is_module { IsModule (declarations_of source.old) }
+    requires budgets { length budgets.now ≡ length source.old.decls }
+    ensures grows { Grows source.old source.new }
+    ensures judged { IfOk result (is_judged_by rechecks (declarations_of source.old) budgets.now) }
+    ensures well_typed { IfOk result (λ v. v ≡ verdict.Accepted → WellTyped (declarations_of source.old)) }
 {
     if rechecks {
-        check_module(alloc, module, budgets)
+        check_module(alloc, source, budgets)
     } else {
-        check_fast(alloc, module, budgets)
+        check_fast(alloc, source, budgets)
     }
 }
 
 /// The line that counts the declarations of a module, and those without a body.
-fn counts(alloc: Global, module: &Module) -> Result<Vec<u8>, Memory>
-    ensures { IfOk result (λ text. text.items ≡ accepted_line (checked_of (declarations_of module.now))) }
+fn counts(alloc: Global, source: &Module) -> Result<Vec<u8>, Memory>
+    ensures { IfOk result (λ text. text.items ≡ accepted_line (checked_of (declarations_of source.now))) }
 {
     let mut declarations = Buffer::new();
     let mut unproved = Buffer::new();
     let mut text = Vec::new(alloc);
     text.extend_from_slice(b"accepted ")?;
-    text.extend_from_slice(declarations.format(module.decls.len()).as_bytes())?;
+    text.extend_from_slice(declarations.format(source.decls.len()).as_bytes())?;
     text.extend_from_slice(b", unproved ")?;
-    text.extend_from_slice(unproved.format(unproved_count(module)).as_bytes())?;
+    text.extend_from_slice(unproved.format(unproved_count(source)).as_bytes())?;
     text.extend_from_slice(b"\n")?;
     Ok(text)
 }
 
 /// How many declarations have no body.
-fn unproved_count(module: &Module) -> usize
-    ensures { result ≡ count_by (λ d. is_none d.body) (declarations_of module.now) }
+fn unproved_count(source: &Module) -> usize
+    ensures { result ≡ count_by (λ d. is_none d.body) (declarations_of source.now) }
 {
     let mut count = 0;
-    for i in 0..module.decls.len() {
-        if module.decls.get(i).body.is_none() {
+    for i in 0..source.decls.len() {
+        if source.decls.get(i).body.is_none() {
             count += 1;
         }
     }

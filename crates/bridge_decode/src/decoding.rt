@@ -23,9 +23,9 @@ pub fn decoded<H: Shelf>(alloc: Global, file: &str, shelf: &mut H) -> Answer
     ensures count { H.faults shelf.old ≤ H.faults shelf.new }
 {
     match read_module(alloc, file, shelf) {
-        Ok(module) => {
-            let answer = answered(alloc, &module);
-            let_go(module);
+        Ok(source) => {
+            let answer = answered(alloc, &source);
+            let_go(source);
             answer
         }
         Err(Stop::Refused(place, kind)) => Answer::DkRefused(place, kind),
@@ -35,11 +35,11 @@ pub fn decoded<H: Shelf>(alloc: Global, file: &str, shelf: &mut H) -> Answer
 }
 
 /// What is to be answered for a module.
-fn answered(alloc: Global, module: &Module) -> Answer
-    requires { IsHeld module.now }
-    ensures { IsAnswer (declarations_of module.now) result }
+fn answered(alloc: Global, source: &Module) -> Answer
+    requires { IsHeld source.now }
+    ensures { IsAnswer (declarations_of source.now) result }
 {
-    match exports_said(alloc, module) {
+    match exports_said(alloc, source) {
         Ok(Said::Lines(text)) => Answer::Told(text),
         Ok(Said::Nothing(i)) => Answer::NotSequent(i as u64),
         Err(Memory) => Answer::Memory,

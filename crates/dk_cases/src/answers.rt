@@ -66,9 +66,9 @@ fn add_asked(
     came: &mut Vec<u8>,
 ) -> Result<(), Wrong> {
     match read(alloc, limit, text) {
-        Ok(mut module) => {
-            let added = add_asked_of(alloc, case, by, &mut module, came);
-            drop(module);
+        Ok(mut source) => {
+            let added = add_asked_of(alloc, case, by, &mut source, came);
+            drop(source);
             added
         }
         Err(fault) => {
@@ -84,19 +84,19 @@ fn add_asked_of(
     alloc: Global,
     case: &Case<'_>,
     by: &str,
-    module: &mut Module,
+    source: &mut Module,
     came: &mut Vec<u8>,
 ) -> Result<(), Wrong>
-    requires held { IsHeld module.old }
-    requires is_module { IsModule (declarations_of module.old) }
+    requires held { IsHeld source.old }
+    requires is_module { IsModule (declarations_of source.old) }
 {
     match by {
-        "verdict" => add_verdict(alloc, case, module, false, came),
-        "fast" => add_verdict(alloc, case, module, true, came),
-        "step" => add_step(alloc, module, came),
-        "weigh" => add_weights(alloc, module, came),
-        "decode" => add_sequent(alloc, module, came),
-        "decodes" => add_whether(alloc, module, came),
-        by => add_written(alloc, case, by, module, came),
+        "verdict" => add_verdict(alloc, case, source, false, came),
+        "fast" => add_verdict(alloc, case, source, true, came),
+        "step" => add_step(alloc, source, came),
+        "weigh" => add_weights(alloc, source, came),
+        "decode" => add_sequent(alloc, source, came),
+        "decodes" => add_whether(alloc, source, came),
+        by => add_written(alloc, case, by, source, came),
     }
 }

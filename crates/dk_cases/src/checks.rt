@@ -36,22 +36,22 @@ fn add_check(
     left: u128,
     came: &mut Vec<u8>,
 ) -> Result<(), Wrong> {
-    let Ok(mut module) = read(alloc, limit, text) else {
+    let Ok(mut source) = read(alloc, limit, text) else {
         return Err(Wrong("text"));
     };
     let mut budget = Budget { left };
-    let answer = checked_last(alloc, &mut module, &mut budget);
-    drop(module);
+    let answer = checked_last(alloc, &mut source, &mut budget);
+    drop(source);
     add_answer(alloc, came, answer?, budget.left)
 }
 
 // The answer to the check of the last declaration.
-fn checked_last(alloc: Global, module: &mut Module, budget: &mut Budget) -> Result<Answer, Wrong>
-    requires held { IsHeld module.old }
-    requires is_module { IsModule (declarations_of module.old) }
+fn checked_last(alloc: Global, source: &mut Module, budget: &mut Budget) -> Result<Answer, Wrong>
+    requires held { IsHeld source.old }
+    requires is_module { IsModule (declarations_of source.old) }
 {
-    match module.decls.len().checked_sub(1) {
-        Some(last) => check_decl(alloc, module, last, budget).map_err(|_| Wrong("out of memory")),
+    match source.decls.len().checked_sub(1) {
+        Some(last) => check_decl(alloc, source, last, budget).map_err(|_| Wrong("out of memory")),
         None => Err(Wrong("text")),
     }
 }
@@ -81,15 +81,15 @@ fn answer_word(answer: Answer) -> &'static [u8] {
 pub(crate) fn add_verdict(
     alloc: Global,
     case: &Case<'_>,
-    module: &mut Module,
+    source: &mut Module,
     fast: bool,
     came: &mut Vec<u8>,
 ) -> Result<(), Wrong>
-    requires held { IsHeld module.old }
-    requires is_module { IsModule (declarations_of module.old) }
+    requires held { IsHeld source.old }
+    requires is_module { IsModule (declarations_of source.old) }
 {
     let budgets = budgets(alloc, case)?;
-    let verdict = verdict(alloc, module, fast, &budgets);
+    let verdict = verdict(alloc, source, fast, &budgets);
     drop(budgets);
     add_verdict_of(alloc, verdict?, came)
 }
@@ -115,20 +115,20 @@ fn add_budgets(numbers: &[u64], budgets: &mut Vec<u128>) -> Result<(), Wrong> {
 // The verdict under these budgets.
 fn verdict(
     alloc: Global,
-    module: &mut Module,
+    source: &mut Module,
     fast: bool,
     budgets: &[u128],
 ) -> Result<Verdict, Wrong>
-    requires held { IsHeld module.old }
-    requires is_module { IsModule (declarations_of module.old) }
+    requires held { IsHeld source.old }
+    requires is_module { IsModule (declarations_of source.old) }
 {
-    if budgets.len() != module.decls.len() {
+    if budgets.len() != source.decls.len() {
         return Err(Wrong("budgets"));
     }
     if fast {
-        check_fast(alloc, module, budgets).map_err(|_| Wrong("out of memory"))
+        check_fast(alloc, source, budgets).map_err(|_| Wrong("out of memory"))
     } else {
-        check_module(alloc, module, budgets).map_err(|_| Wrong("out of memory"))
+        check_module(alloc, source, budgets).map_err(|_| Wrong("out of memory"))
     }
 }
 

@@ -48,34 +48,34 @@ fn add_conversion(
     left: u128,
     came: &mut Vec<u8>,
 ) -> Result<(), Wrong> {
-    let Ok(mut module) = read(alloc, limit, text) else {
+    let Ok(mut source) = read(alloc, limit, text) else {
         return Err(Wrong("text"));
     };
     let mut budget = Budget { left };
-    let answer = converted(alloc, &mut module, &mut budget);
-    drop(module);
+    let answer = converted(alloc, &mut source, &mut budget);
+    drop(source);
     add_answer(alloc, came, answer?, budget.left)
 }
 
 // Whether the two trees are convertible.
-fn converted(alloc: Global, module: &mut Module, budget: &mut Budget) -> Result<Answer, Wrong>
-    requires { IsHeld module.old }
+fn converted(alloc: Global, source: &mut Module, budget: &mut Budget) -> Result<Answer, Wrong>
+    requires { IsHeld source.old }
 {
-    match (body(module, b"l"), body(module, b"r")) {
+    match (body(source, b"l"), body(source, b"r")) {
         (Some(expected), Some(found)) => {
-            conv(alloc, module, expected, found, budget).map_err(|_| Wrong("out of memory"))
+            conv(alloc, source, expected, found, budget).map_err(|_| Wrong("out of memory"))
         }
         _ => Err(Wrong("text")),
     }
 }
 
 /// Adds where the head step of the left tree goes.
-pub(crate) fn add_step(alloc: Global, module: &mut Module, came: &mut Vec<u8>) -> Result<(), Wrong>
-    requires { IsHeld module.old }
+pub(crate) fn add_step(alloc: Global, source: &mut Module, came: &mut Vec<u8>) -> Result<(), Wrong>
+    requires { IsHeld source.old }
 {
-    match (body(module, b"l"), body(module, b"r")) {
+    match (body(source, b"l"), body(source, b"r")) {
         (Some(from), Some(to)) => {
-            came.extend_from_slice(step_word(step(alloc, module, from)?, to))?;
+            came.extend_from_slice(step_word(step(alloc, source, from)?, to))?;
             Ok(())
         }
         _ => Err(Wrong("text")),
@@ -83,11 +83,11 @@ pub(crate) fn add_step(alloc: Global, module: &mut Module, came: &mut Vec<u8>) -
 }
 
 // The head step of a tree.
-fn step(alloc: Global, module: &mut Module, from: LpId) -> Result<Option<LpId>, Wrong>
-    requires held { IsHeld module.old }
-    requires from { from.0 < length module.old.table }
+fn step(alloc: Global, source: &mut Module, from: LpId) -> Result<Option<LpId>, Wrong>
+    requires held { IsHeld source.old }
+    requires from { from.0 < length source.old.table }
 {
-    head_step(alloc, module, from).map_err(|_| Wrong("out of memory"))
+    head_step(alloc, source, from).map_err(|_| Wrong("out of memory"))
 }
 
 // Where a step goes, if there is one.

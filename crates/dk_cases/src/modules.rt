@@ -50,9 +50,9 @@ pub(crate) fn read(alloc: Global, limit: Limit, text: &[u8]) -> Result<Module, D
 }
 
 /// Adds the declarations of a module, each by its form and its name.
-pub(crate) fn add_declarations(text: &mut Vec<u8>, module: &Module) -> Result<(), Wrong> {
-    for i in 0..module.decls.len() {
-        add_declaration(text, module.decls.get(i))?;
+pub(crate) fn add_declarations(text: &mut Vec<u8>, source: &Module) -> Result<(), Wrong> {
+    for i in 0..source.decls.len() {
+        add_declaration(text, source.decls.get(i))?;
     }
     Ok(())
 }

@@ -33,7 +33,7 @@ fn add_module(
     came: &mut Vec<u8>,
 ) -> Result<(), Wrong> {
     match answer {
-        Ok(module) => add_declarations(came, module),
+        Ok(source) => add_declarations(came, source),
         Err(fault) => add_refusal(alloc, case, fault, came),
     }
 }
@@ -227,11 +227,11 @@ pub(crate) fn add_finds(
 ) -> Result<(), Wrong>
     requires { 0 < reading.size }
 {
-    let Ok(module) = read_in_pieces(alloc, reading, text) else {
+    let Ok(source) = read_in_pieces(alloc, reading, text) else {
         return Err(Wrong("text"));
     };
-    let added = add_found_of(alloc, case, &module, came);
-    drop(module);
+    let added = add_found_of(alloc, case, &source, came);
+    drop(source);
     added
 }
 
@@ -239,29 +239,29 @@ pub(crate) fn add_finds(
 fn add_found_of(
     alloc: Global,
     case: &Case<'_>,
-    module: &Module,
+    source: &Module,
     came: &mut Vec<u8>,
 ) -> Result<(), Wrong> {
-    add_found(alloc, module, listed(case, "names")?, came)
+    add_found(alloc, source, listed(case, "names")?, came)
 }
 
 // Adds the symbols of these names.
 fn add_found(
     alloc: Global,
-    module: &Module,
+    source: &Module,
     names: &[Value],
     came: &mut Vec<u8>,
 ) -> Result<(), Wrong> {
     for name in names {
-        add_symbol(alloc, module, word_of(name, "names")?, came)?;
+        add_symbol(alloc, source, word_of(name, "names")?, came)?;
     }
     Ok(())
 }
 
 // Adds the symbol of a name.
-fn add_symbol(alloc: Global, module: &Module, name: &str, came: &mut Vec<u8>) -> Result<(), Wrong> {
+fn add_symbol(alloc: Global, source: &Module, name: &str, came: &mut Vec<u8>) -> Result<(), Wrong> {
     add_comma(came)?;
-    match module.find(name.as_bytes()) {
+    match source.find(name.as_bytes()) {
         Some(symbol) => add_number(alloc, came, symbol as u128),
         None => {
             came.extend_from_slice(b"none")?;

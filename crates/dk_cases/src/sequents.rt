@@ -10,11 +10,11 @@ use holide_sig::Module;
 use std::alloc::Global;
 
 /// Adds the closed sequent for which the type of the last declaration stands, or that it stands for none.
-pub(crate) fn add_sequent(alloc: Global, module: &Module, came: &mut Vec<u8>) -> Result<(), Wrong>
-    requires { IsHeld module.now }
+pub(crate) fn add_sequent(alloc: Global, source: &Module, came: &mut Vec<u8>) -> Result<(), Wrong>
+    requires { IsHeld source.now }
 {
-    match module.decls.len().checked_sub(1) {
-        Some(last) => match decode(alloc, module, last) {
+    match source.decls.len().checked_sub(1) {
+        Some(last) => match decode(alloc, source, last) {
             Ok(Some(closed)) => {
                 let added = append_closed(alloc, came, &closed);
                 drop(closed);
@@ -31,12 +31,12 @@ pub(crate) fn add_sequent(alloc: Global, module: &Module, came: &mut Vec<u8>) ->
 }
 
 /// Adds whether the type of the last declaration stands for a closed sequent.
-pub(crate) fn add_whether(alloc: Global, module: &Module, came: &mut Vec<u8>) -> Result<(), Wrong>
-    requires { IsHeld module.now }
+pub(crate) fn add_whether(alloc: Global, source: &Module, came: &mut Vec<u8>) -> Result<(), Wrong>
+    requires { IsHeld source.now }
 {
-    match module.decls.len().checked_sub(1) {
+    match source.decls.len().checked_sub(1) {
         Some(last) => {
-            came.extend_from_slice(whether(alloc, module, last)?)?;
+            came.extend_from_slice(whether(alloc, source, last)?)?;
             Ok(())
         }
         None => Err(Wrong("text")),
@@ -44,11 +44,11 @@ pub(crate) fn add_whether(alloc: Global, module: &Module, came: &mut Vec<u8>) ->
 }
 
 // Whether the type of this declaration stands for one, as a word.
-fn whether(alloc: Global, module: &Module, last: usize) -> Result<&'static [u8], Wrong>
-    requires held { IsHeld module.now }
-    requires last { last < length module.now.decls }
+fn whether(alloc: Global, source: &Module, last: usize) -> Result<&'static [u8], Wrong>
+    requires held { IsHeld source.now }
+    requires last { last < length source.now.decls }
 {
-    match decode(alloc, module, last) {
+    match decode(alloc, source, last) {
         Ok(closed) => Ok(if closed.is_some() { b"some" } else { b"none" }),
         Err(Memory) => Err(Wrong("out of memory")),
     }

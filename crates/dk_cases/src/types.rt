@@ -41,27 +41,27 @@ fn found(
     left: u128,
     text: &[u8],
 ) -> Result<&'static [u8], Wrong> {
-    let Ok(mut module) = read(alloc, limit, text) else {
+    let Ok(mut source) = read(alloc, limit, text) else {
         return Err(Wrong("text"));
     };
     let mut budget = Budget { left };
-    let found = found_in(alloc, &mut module, bound, &mut budget);
-    drop(module);
+    let found = found_in(alloc, &mut source, bound, &mut budget);
+    drop(source);
     found
 }
 
 // What is found in a module.
 fn found_in(
     alloc: Global,
-    module: &mut Module,
+    source: &mut Module,
     bound: bool,
     budget: &mut Budget,
 ) -> Result<&'static [u8], Wrong>
-    requires { IsHeld module.old }
+    requires { IsHeld source.old }
 {
-    match (last_of(module), declared_of(module)) {
+    match (last_of(source), declared_of(source)) {
         (Some(last), Some(declared)) => {
-            let found = type_inside(alloc, module, last, bound, budget)?;
+            let found = type_inside(alloc, source, last, bound, budget)?;
             Ok(found_word(found, declared.inside))
         }
         _ => Err(Wrong("text")),
@@ -106,59 +106,59 @@ fn under_two(table: &LpTable, id: LpId) -> Option<Under>
 }
 
 // The body of the last declaration.
-fn last_body(module: &Module) -> Option<LpId>
-    requires { IsHeld module.now }
-    ensures { IsKnownIf module.now.table result }
+fn last_body(source: &Module) -> Option<LpId>
+    requires { IsHeld source.now }
+    ensures { IsKnownIf source.now.table result }
 {
-    let last = module.decls.len().checked_sub(1)?;
-    module.decls.get(last).body
+    let last = source.decls.len().checked_sub(1)?;
+    source.decls.get(last).body
 }
 
 // Its type.
-fn last_type(module: &Module) -> Option<LpId>
-    requires { IsHeld module.now }
-    ensures { IsKnownIf module.now.table result }
+fn last_type(source: &Module) -> Option<LpId>
+    requires { IsHeld source.now }
+    ensures { IsKnownIf source.now.table result }
 {
-    let last = module.decls.len().checked_sub(1)?;
-    Some(module.decls.get(last).ty)
+    let last = source.decls.len().checked_sub(1)?;
+    Some(source.decls.get(last).ty)
 }
 
 // The body of the last declaration, under its two binders.
-fn last_of(module: &Module) -> Option<Under>
-    requires { IsHeld module.now }
-    ensures { IfSome result (λ parts. AreKnown module.now.table (parts.inner ∷ parts.outer ∷ parts.inside ∷ [])) }
+fn last_of(source: &Module) -> Option<Under>
+    requires { IsHeld source.now }
+    ensures { IfSome result (λ parts. AreKnown source.now.table (parts.inner ∷ parts.outer ∷ parts.inside ∷ [])) }
 {
-    under_two(&module.table, last_body(module)?)
+    under_two(&source.table, last_body(source)?)
 }
 
 // Its type, under its two binders.
-fn declared_of(module: &Module) -> Option<Under>
-    requires { IsHeld module.now }
+fn declared_of(source: &Module) -> Option<Under>
+    requires { IsHeld source.now }
 {
-    under_two(&module.table, last_type(module)?)
+    under_two(&source.table, last_type(source)?)
 }
 
 // The type of what stands under two binders, in their context or in none.
 fn type_inside(
     alloc: Global,
-    module: &mut Module,
+    source: &mut Module,
     last: Under,
     bound: bool,
     budget: &mut Budget,
 ) -> Result<Inferred, Wrong>
-    requires held { IsHeld module.old }
-    requires last { AreKnown module.old.table (last.inner ∷ last.outer ∷ last.inside ∷ []) }
+    requires held { IsHeld source.old }
+    requires last { AreKnown source.old.table (last.inner ∷ last.outer ∷ last.inside ∷ []) }
 {
     let answer = if bound {
         infer(
             alloc,
-            module,
+            source,
             &[last.inner, last.outer],
             last.inside,
             budget,
         )
     } else {
-        infer(alloc, module, &[], last.inside, budget)
+        infer(alloc, source, &[], last.inside, budget)
     };
     answer.map_err(|_| Wrong("out of memory"))
 }

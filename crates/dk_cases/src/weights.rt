@@ -9,24 +9,24 @@ use lp_weight::{bound, bound_fast, weight};
 use std::alloc::Global;
 
 /// Adds the weight of each declaration, its bound, and its bound without rechecks of sorts.
-pub(crate) fn add_weights(alloc: Global, module: &Module, came: &mut Vec<u8>) -> Result<(), Wrong>
-    requires { IsHeld module.now }
+pub(crate) fn add_weights(alloc: Global, source: &Module, came: &mut Vec<u8>) -> Result<(), Wrong>
+    requires { IsHeld source.now }
 {
-    for i in 0..module.decls.len() {
-        add_weight(alloc, module, i, came)?;
+    for i in 0..source.decls.len() {
+        add_weight(alloc, source, i, came)?;
     }
     Ok(())
 }
 
 // Adds those of this declaration.
-fn add_weight(alloc: Global, module: &Module, i: usize, came: &mut Vec<u8>) -> Result<(), Wrong>
-    requires held { IsHeld module.now }
-    requires i { i < length module.now.decls }
+fn add_weight(alloc: Global, source: &Module, i: usize, came: &mut Vec<u8>) -> Result<(), Wrong>
+    requires held { IsHeld source.now }
+    requires i { i < length source.now.decls }
 {
     let numbers = (
-        weight(alloc, module, i),
-        bound(alloc, module, i),
-        bound_fast(alloc, module, i),
+        weight(alloc, source, i),
+        bound(alloc, source, i),
+        bound_fast(alloc, source, i),
     );
     match numbers {
         (Ok(weighs), Ok(takes), Ok(fast)) => add_numbers(alloc, came, weighs, takes, fast),

@@ -11,18 +11,25 @@ use dk_write::{Path, write, write_decl, write_prelude};
 use holide_sig::Module;
 use std::alloc::Global;
 
+// A module and the bounds that are written with it.
+#[derive(Clone, Copy)]
+struct Bounded<'a> {
+    source: &'a Module,
+    bounds: &'a [u128],
+}
+
 /// Adds what comes of a module that is written, with the budgets of the case as bounds.
 pub(crate) fn add_written(
     alloc: Global,
     case: &Case<'_>,
     by: &str,
-    module: &Module,
+    source: &Module,
     came: &mut Vec<u8>,
 ) -> Result<(), Wrong>
-    requires { IsHeld module.now }
+    requires { IsHeld source.now }
 {
     let bounds = budgets(alloc, case)?;
-    let added = add_bounded(alloc, case, by, module, &bounds, came);
+    let added = add_bounded(alloc, case, by, source, &bounds, came);
     drop(bounds);
     added
 }
@@ -32,19 +39,19 @@ fn add_bounded(
     alloc: Global,
     case: &Case<'_>,
     by: &str,
-    module: &Module,
+    source: &Module,
     bounds: &[u128],
     came: &mut Vec<u8>,
 ) -> Result<(), Wrong>
-    requires { IsHeld module.now }
+    requires { IsHeld source.now }
 {
-    if bounds.len() != module.decls.len() {
+    if bounds.len() != source.decls.len() {
         return Err(Wrong("budgets"));
     }
-    let Ok(mut path) = Path::new(alloc, module) else {
+    let Ok(mut path) = Path::new(alloc, source) else {
         return Err(Wrong("out of memory"));
     };
-    let added = add_by(alloc, case, by, module, bounds, &mut path, came);
+    let added = add_by(alloc, case, by, Bounded { source, bounds }, &mut path, came);
     drop(path);
     added
 }
@@ -54,20 +61,19 @@ fn add_by(
     alloc: Global,
     case: &Case<'_>,
     by: &str,
-    module: &Module,
-    bounds: &[u128],
+    bounded: Bounded<'_>,
     path: &mut Path,
     came: &mut Vec<u8>,
 ) -> Result<(), Wrong>
-    requires held { IsHeld module.now }
-    requires bounds { length bounds.now ≡ length module.now.decls }
-    requires room { AreWithin path.old.room module.now.table module.now.decls }
+    requires held { IsHeld bounded.source.now }
+    requires bounds { length bounded.bounds.now ≡ length bounded.source.now.decls }
+    requires room { AreWithin path.old.room bounded.source.now.table bounded.source.now.decls }
 {
     match by {
-        "write" => add_text(alloc, case, module, bounds, path, came),
-        "pieces" => add_pieces(alloc, module, bounds, path, came),
-        "last" => add_last(alloc, module, bounds, path, came),
-        "discard" => add_discarded(module, bounds, path, came),
+        "write" => add_text(alloc, case, bounded, path, came),
+        "pieces" => add_pieces(alloc, bounded, path, came),
+        "last" => add_last(alloc, bounded, path, came),
+        "discard" => add_discarded(bounded, path, came),
         _ => Err(Wrong("by")),
     }
 }
@@ -76,18 +82,17 @@ fn add_by(
 fn add_text(
     alloc: Global,
     case: &Case<'_>,
-    module: &Module,
-    bounds: &[u128],
+    bounded: Bounded<'_>,
     path: &mut Path,
     came: &mut Vec<u8>,
 ) -> Result<(), Wrong>
-    requires held { IsHeld module.now }
-    requires bounds { length bounds.now ≡ length module.now.decls }
-    requires room { AreWithin path.old.room module.now.table module.now.decls }
+    requires held { IsHeld bounded.source.now }
+    requires bounds { length bounded.bounds.now ≡ length bounded.source.now.decls }
+    requires room { AreWithin path.old.room bounded.source.now.table bounded.source.now.decls }
 {
     let failing = vec![in alloc; number(case, "fails")?]?;
     let mut sink = MemSink::new(Vec::new(alloc), failing);
-    let answer = write(module, bounds, path, &mut sink);
+    let answer = write(bounded.source, bounded.bounds, path, &mut sink);
     let added = add_held(answer, &sink, came);
     drop(sink);
     added
@@ -105,20 +110,19 @@ fn add_held(answer: Result<(), Failed>, sink: &MemSink, came: &mut Vec<u8>) -> R
 // Adds how many bytes each piece has that a sink gets.
 fn add_pieces(
     alloc: Global,
-    module: &Module,
-    bounds: &[u128],
+    bounded: Bounded<'_>,
     path: &mut Path,
     came: &mut Vec<u8>,
 ) -> Result<(), Wrong>
-    requires held { IsHeld module.now }
-    requires bounds { length bounds.now ≡ length module.now.decls }
-    requires room { AreWithin path.old.room module.now.table module.now.decls }
+    requires held { IsHeld bounded.source.now }
+    requires bounds { length bounded.bounds.now ≡ length bounded.source.now.decls }
+    requires room { AreWithin path.old.room bounded.source.now.table bounded.source.now.decls }
 {
     let mut sink = Sizes {
         sizes: Vec::new(alloc),
         lacks: false,
     };
-    let answer = write(module, bounds, path, &mut sink);
+    let answer = write(bounded.source, bounded.bounds, path, &mut sink);
     let added = add_sizes(alloc, answer, &sink, came);
     drop(sink);
     added
@@ -166,65 +170,58 @@ impl Sink for Sizes {
 // Adds the prelude, and then what the last declaration adds to a sink that was cleared.
 fn add_last(
     alloc: Global,
-    module: &Module,
-    bounds: &[u128],
+    bounded: Bounded<'_>,
     path: &mut Path,
     came: &mut Vec<u8>,
 ) -> Result<(), Wrong>
-    requires held { IsHeld module.now }
-    requires bounds { length bounds.now ≡ length module.now.decls }
-    requires room { AreWithin path.old.room module.now.table module.now.decls }
+    requires held { IsHeld bounded.source.now }
+    requires bounds { length bounded.bounds.now ≡ length bounded.source.now.decls }
+    requires room { AreWithin path.old.room bounded.source.now.table bounded.source.now.decls }
 {
     let mut sink = MemSink::new(Vec::new(alloc), Vec::new(alloc));
-    let added = add_last_of(module, bounds, path, &mut sink, came);
+    let added = add_last_of(bounded, path, &mut sink, came);
     drop(sink);
     added
 }
 
 // Adds them by this sink.
 fn add_last_of(
-    module: &Module,
-    bounds: &[u128],
+    bounded: Bounded<'_>,
     path: &mut Path,
     sink: &mut MemSink,
     came: &mut Vec<u8>,
 ) -> Result<(), Wrong>
-    requires held { IsHeld module.now }
-    requires bounds { length bounds.now ≡ length module.now.decls }
-    requires room { AreWithin path.old.room module.now.table module.now.decls }
+    requires held { IsHeld bounded.source.now }
+    requires bounds { length bounded.bounds.now ≡ length bounded.source.now.decls }
+    requires room { AreWithin path.old.room bounded.source.now.table bounded.source.now.decls }
 {
-    let Some(last) = bounds.len().checked_sub(1) else {
+    let Some(last) = bounded.bounds.len().checked_sub(1) else {
         return Err(Wrong("text"));
     };
     let first = write_prelude(sink);
     add_held(first, sink, came)?;
     sink.clear();
-    let second = write_decl(module, bounds, last, path, sink);
+    let second = write_decl(bounded.source, bounded.bounds, last, path, sink);
     add_held(second, sink, came)
 }
 
 // Drops the text of a module: where no write fails, none is answered.
-fn discard(module: &Module, bounds: &[u128], path: &mut Path) -> Result<(), Failed>
-    requires held { IsHeld module.now }
-    requires bounds { length bounds.now ≡ length module.now.decls }
-    requires room { AreWithin path.old.room module.now.table module.now.decls }
+fn discard(bounded: Bounded<'_>, path: &mut Path) -> Result<(), Failed>
+    requires held { IsHeld bounded.source.now }
+    requires bounds { length bounded.bounds.now ≡ length bounded.source.now.decls }
+    requires room { AreWithin path.old.room bounded.source.now.table bounded.source.now.decls }
     ensures { IsOk result }
 {
-    write(module, bounds, path, &mut QuietSink)
+    write(bounded.source, bounded.bounds, path, &mut QuietSink)
 }
 
 // Adds whether the text of a module can be dropped.
-fn add_discarded(
-    module: &Module,
-    bounds: &[u128],
-    path: &mut Path,
-    came: &mut Vec<u8>,
-) -> Result<(), Wrong>
-    requires held { IsHeld module.now }
-    requires bounds { length bounds.now ≡ length module.now.decls }
-    requires room { AreWithin path.old.room module.now.table module.now.decls }
+fn add_discarded(bounded: Bounded<'_>, path: &mut Path, came: &mut Vec<u8>) -> Result<(), Wrong>
+    requires held { IsHeld bounded.source.now }
+    requires bounds { length bounded.bounds.now ≡ length bounded.source.now.decls }
+    requires room { AreWithin path.old.room bounded.source.now.table bounded.source.now.decls }
 {
-    let word: &[u8] = match discard(module, bounds, path) {
+    let word: &[u8] = match discard(bounded, path) {
         Ok(()) => b"written",
         Err(Failed) => b"failed",
     };

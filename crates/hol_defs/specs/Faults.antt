@@ -1,6 +1,6 @@
 -- What is judged of a definition, in order: the first condition that fails names the refusal.
 -- Source: the OpenTheory article file format, version 6, `defineConst`, `defineConstList` and `defineTypeOp`; HOL Light's kernel, `new_basic_definition` and `new_basic_type_definition`.
-use Rattle.std.specs.Prelude.{◌≡◌, List, [], ◌∷◌, Bool, not, ◌||◌, if◌then◌else◌, nat_le, Option, None, Some, unwrap_or}
+use Rattle.std.specs.Prelude.{◌≡◌, ℕ, List, length, [], ◌∷◌, Bool, not, ◌||◌, if◌then◌else◌, nat_le, Option, None, Some, unwrap_or}
 use Rattle.std.specs.List.{list_all, list_any}
 use Rattle.hol_spec.specs.Names.{Name}
 use Rattle.hol_spec.specs.NameEquality.{name_eq}
@@ -15,6 +15,8 @@ use Rattle.hol_spec.specs.DefinitionLists.{ConstantPairs, names_of, defining_equ
 use Rattle.hol_spec.specs.NewTypes.{new_type, abstraction_type, representation_type}
 use Rattle.hol_spec.specs.TypeDefinitions.{are_type_variables_of}
 use Rattle.hol_spec.specs.Symbols.{Symbol, is_taken_constant, is_taken_operator}
+use Rattle.hol_type.specs.declared.table.TypeId.{TypeId}
+use Rattle.hol_type.specs.Tables.{tree_at}
 use Rattle.common.specs.declared.faults.Fault.{Fault}
 use Rattle.common.specs.declared.faults.Fault.TheVariants.{Refused, Memory}
 use Rattle.common.specs.declared.faults.Kind.{Kind}
@@ -67,3 +69,8 @@ list_fault symbols pairs one =
 abbrev pub Refuses : Fault → Option Kind → Type 0
 Refuses (Refused kind) judged = judged ≡ Some kind
 Refuses Memory judged = Unit {0}
+
+-- the limits refuse what a definition makes, with whatever names of so many variables
+abbrev pub RefusesMade : List HolType → ℕ → TypeId → Fault → Type 0
+RefusesMade types count whole fault =
+    (names : TypeNames) → length names.variables ≡ count → Refuses fault (limit_fault (types_made names (tree_at types whole.0)))

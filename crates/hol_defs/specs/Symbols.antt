@@ -16,6 +16,7 @@ use Rattle.hol_type.specs.declared.table.TypeId.{TypeId}
 use Rattle.hol_type.specs.Tables.{tree_at}
 use Rattle.hol_term.specs.declared.TermId.{TermId}
 use Rattle.hol_term.specs.Tables.{Trees, term_at, type_at}
+use Rattle.hol_defs.specs.declared.operators.NewNames.{NewNames}
 
 pub data Taken : Type 0 where
   input_constant : Name → Taken
@@ -44,6 +45,9 @@ pub record IsConstantKnown (trees : Trees) (t : TermId) (a : TypeId) : Type 0 wh
 -- the names that a definition of a type operator gives
 abbrev pub named : Name → Name → Name → List Name → TypeNames
 named op abs rep names = record { operator = op; abstraction = abs; representation = rep; variables = names }
+
+abbrev pub named_by : NewNames → TypeNames
+named_by names = named names.op.now names.abs.now names.rep.now names.variables.now
 
 -- these types have the numbers of the generic types of an operator's constants
 pub record AreConstantTypes (types : List HolType) (names : TypeNames) (c : HolType) (abs rep : TypeId) : Type 0 where

@@ -12,10 +12,10 @@ ghost use Rattle.hol_spec.specs.Types.{HolType, variable, operator, types_of};
 ghost use Rattle.hol_spec.specs.Terms.{Term, HasType, app};
 ghost use Rattle.hol_type.specs.Tables as type;
 ghost use Rattle.hol_term.specs.Tables.{Trees, term_at, type_at, IsTermAt, Keeps};
-ghost use Rattle.hol_defs.specs.Faults.{are_new as are_new_names, operator_fault, limit_fault, types_made, Refuses};
+ghost use Rattle.hol_defs.specs.Faults.{are_new as are_new_names, operator_fault, limit_fault, types_made, Refuses, RefusesMade};
 ghost use Rattle.hol_defs.specs.Indexes.{arities_of, generics_of, taken_of};
-ghost use Rattle.hol_defs.specs.Symbols.{named, symbols_at, AreConstantTypes, AreKnownSymbols, TakesOperator};
-ghost use Rattle.hol_defs.specs.Views.{operator_of_view};
+ghost use Rattle.hol_defs.specs.Symbols.{named, named_by, symbols_at, AreConstantTypes, AreKnownSymbols, TakesOperator};
+ghost use Rattle.hol_defs.specs.Views.{constants_of_view, operator_of_view};
 
 use crate::entry::{Entry, NewType};
 use crate::judging::{are_among, copied, is_closed};
@@ -27,6 +27,15 @@ use hol_spec::{GREATEST_DEPTH, GREATEST_SIZE};
 use hol_term::{TermId, TermTable, TermView};
 use hol_type::{TypeId, TypeTable};
 use std::alloc::Global;
+
+/// The names that the definition of a type operator gives.
+#[derive(Clone, Copy)]
+struct NewNames<'a> {
+    op: &'a Name,
+    abs: &'a Name,
+    rep: &'a Name,
+    variables: &'a [Name],
+}
 
 /// The numbers of the types of two constants.
 #[derive(Clone, Copy)]
@@ -78,7 +87,13 @@ impl Symbols {
             Ok(()) => {}
             Err(fault) => return Err(fault),
         }
-        self.take_op(table, op, abs, rep, names, whole, predicate)?;
+        let given = NewNames {
+            op,
+            abs,
+            rep,
+            variables: names,
+        };
+        self.take_op(table, given, whole, predicate)?;
         Ok(())
     }
 
@@ -129,29 +144,26 @@ impl Symbols {
     fn take_op(
         &mut self,
         table: &mut TermTable,
-        op: &Name,
-        abs: &Name,
-        rep: &Name,
-        names: &[Name],
+        given: NewNames<'_>,
         whole: TypeId,
         predicate: TermId,
     ) -> Result<(), Memory>
-        requires abs { lookup (name_eq abs.now) (generics_of self.old) ≡ None }
-        requires rep { lookup (name_eq rep.now) (generics_of self.old) ≡ None }
-        requires apart { name_eq rep.now abs.now ≡ false }
-        requires op { lookup (name_eq op.now) (arities_of self.old) ≡ None }
+        requires abs { lookup (name_eq given.abs.now) (generics_of self.old) ≡ None }
+        requires rep { lookup (name_eq given.rep.now) (generics_of self.old) ≡ None }
+        requires apart { name_eq given.rep.now given.abs.now ≡ false }
+        requires op { lookup (name_eq given.op.now) (arities_of self.old) ≡ None }
         requires whole { whole.0 < length table.old.types }
-        ensures takes { OnOk result (TakesOperator table.new.types self.old self.new
-            (named op.now abs.now rep.now names.now) (type_at table.old whole.0) whole predicate) }
+        ensures takes { OnOk result
+            (TakesOperator table.new.types self.old self.new (named_by given.entry) (type_at table.old whole.0) whole predicate) }
         ensures unchanged { OnErr result (self.new ≡ self.old) }
         ensures keeps { Keeps table.old table.new }
     {
-        let types = constant_types(self.alloc, table, op, names, whole)?;
+        let types = constant_types(self.alloc, table, given, whole)?;
         self.push_op(TypeOpView {
-            op,
-            abs,
-            rep,
-            names,
+            op: given.op,
+            abs: given.abs,
+            rep: given.rep,
+            names: given.variables,
             whole,
             predicate,
             abs_type: types.abs,
@@ -213,8 +225,7 @@ fn add_operator(
     requires rep { lookup (name_eq definition.rep.now) generics.old ≡ None }
     requires apart { name_eq definition.rep.now definition.abs.now ≡ false }
     requires op { lookup (name_eq definition.op.now) arities.old ≡ None }
-    ensures generics { OnOk result (generics.new ≡ generics.old
-        ++ (definition.entry.abs.now, definition.entry.abs_type) ∷ (definition.entry.rep.now, definition.entry.rep_type) ∷ []) }
+    ensures generics { OnOk result (generics.new ≡ generics.old ++ constants_of_view definition.entry) }
     ensures arities { OnOk result (arities.new ≡ arities.old ++ (definition.entry.op.now, length definition.entry.names.now) ∷ []) }
     ensures no_generics { OnErr result (generics.new ≡ generics.old) }
     ensures no_arity { OnErr result (arities.new ≡ arities.old) }
@@ -235,8 +246,7 @@ fn add_constants(generics: &mut Generics, definition: TypeOpView) -> Result<(), 
     requires abs { lookup (name_eq definition.abs.now) generics.old ≡ None }
     requires rep { lookup (name_eq definition.rep.now) generics.old ≡ None }
     requires apart { name_eq definition.rep.now definition.abs.now ≡ false }
-    ensures added { OnOk result (generics.new ≡ generics.old
-        ++ (definition.entry.abs.now, definition.entry.abs_type) ∷ (definition.entry.rep.now, definition.entry.rep_type) ∷ []) }
+    ensures added { OnOk result (generics.new ≡ generics.old ++ constants_of_view definition.entry) }
     ensures unchanged { OnErr result (generics.new ≡ generics.old) }
 {
     let count = generics.len();
@@ -337,8 +347,7 @@ fn none_of(one: bool, two: bool, three: bool, four: bool) -> bool
 fn within_limits(types: &TypeTable, count: usize, whole: TypeId) -> Result<(), Fault>
     requires { whole.0 < length types.now }
     ensures fits { OnOk result ((names : TypeNames) → length names.variables ≡ count → limit_fault (types_made names (type.tree_at types.now whole.0)) ≡ None) }
-    ensures refusal { IfErr result (λ fault. (names : TypeNames) → length names.variables ≡ count →
-        Refuses fault (limit_fault (types_made names (type.tree_at types.now whole.0)))) }
+    ensures refusal { IfErr result (RefusesMade types.now count whole) }
 {
     let count = count as u64;
     let size = types.size(whole).saturating_add(count).saturating_add(2);
@@ -357,16 +366,15 @@ fn within_limits(types: &TypeTable, count: usize, whole: TypeId) -> Result<(), F
 fn constant_types(
     alloc: Global,
     table: &mut TermTable,
-    op: &Name,
-    names: &[Name],
+    given: NewNames<'_>,
     whole: TypeId,
 ) -> Result<ConstantTypes, Memory>
     requires { whole.0 < length table.old.types }
-    ensures types { IfOk result (λ types. (abs rep : AName) →
-        AreConstantTypes table.new.types (named op.now abs rep names.now) (type_at table.old whole.0) types.abs types.rep) }
+    ensures types { IfOk result (λ types.
+        AreConstantTypes table.new.types (named_by given.entry) (type_at table.old whole.0) types.abs types.rep) }
     ensures keeps { Keeps table.old table.new }
 {
-    let part = part_type(alloc, table, op, names)?;
+    let part = part_type(alloc, table, given.op, given.variables)?;
     let abs = function_type(alloc, table, whole, part)?;
     let rep = function_type(alloc, table, part, whole)?;
     Ok(ConstantTypes { abs, rep })

@@ -10,7 +10,7 @@ returns-clause-same c = declarations_of-Grows _ _ c.verdict_on.ensures.grows c.r
 
 pub returns-clause-judged : goal.returns-clause-judged
 returns-clause-judged c =
-    let m = c.args.module.now in
+    let m = c.args.source.now in
     let copies : c.deref.result.now ≡ replicate c.len.result c.from.result = c.deref.ensures.value ∙ c.in_ok-budgets.ensures.items_if_clones_equal (λ y e. e) in
     let count : c.len.result ≡ length (declarations_of m) = c.len.ensures.count ∙ sym (length-map m.decls (declaration_in m.table)) in
     judged-all c.args.rechecks (declarations_of m) c.args.budget _ c.verdict_on.result

@@ -11,7 +11,7 @@ returns-clause-takes c = record {
   abstraction = c.in_ok-types.types.abs;
   representation = c.in_ok-types.types.rep;
   is = c.in_ok-push_op.ensures.takes;
-  constants = c.in_ok-types.ensures.types c.args.abs.now c.args.rep.now;
+  constants = c.in_ok-types.ensures.types;
 }
 
 pub returns-clause-keeps : goal.returns-clause-keeps
