@@ -1,17 +1,11 @@
 -- Lines, cut at a byte.
-use Rattle.std.proofs.Common.{◌≡◌, ◌≢◌, ℕ, zero, suc, ◌<◌, ◌+◌, List, [], ◌∷◌, ◌++◌, length, take, drop, get_or, refl, sym, ap, ◌∙◌, append_assoc, arith}
-use Rattle.std.proofs.lemmas.List.{take_more, take_all}
+use Rattle.std.proofs.Common.{◌≡◌, ◌≢◌, ℕ, zero, suc, ◌<◌, List, [], ◌∷◌, ◌++◌, length, refl, ap, arith}
 use Rattle.article_spec.specs.Lines.{newline, IsLine}
-use Rattle.article_laws.specs.LineLaws.{IsLine-push}
 
 -- a line and a part of it
 pub IsLine-append : (line part : List ℕ) → IsLine line → IsLine part → IsLine (line ++ part)
 IsLine-append [] part h k = k
 IsLine-append (b ∷ line) part h k = (h.0, IsLine-append line part h.1 k)
-
--- a further byte that is no newline
-pub IsLine-take : (text : List ℕ) (i : ℕ) → i < length text → get_or text i 0 ≢ newline → IsLine (take i text) → IsLine (take (i + 1) text)
-IsLine-take text i h other line = rw (take_more text i 0 h) (IsLine-push (get_or text i 0) other (take i text) line)
 
 -- a part of a line about the byte behind so many
 pub record CutAt (part : List ℕ) (count : ℕ) : Type 0 where

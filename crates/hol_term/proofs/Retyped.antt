@@ -30,7 +30,7 @@ module _ (a b : List HolType) (k : type.Keeps a b) (es : List Entry) (t : IsTabl
     lower = λ i e at. PartsBelow-more (omega arith) k.longer e.node (t.lower i e at);
     distinct = subst IsDistinct same_terms t.distinct;
     measured = λ i e u at held. let m = t.measured i e u at (ap (λ l. slice_get l i) same_terms ∙ held) in record
-        { measures = m.measures; typed = IsTypeNumber-Keeps k e.ty (type_of u) m.typed };
+        { measures = m.measures; typed = IsTypeNumber-Keeps k e.facts.ty (type_of u) m.typed };
   }
 
   pub retyped_keeps : Keeps (over a (terms_of a es)) (over b (terms_of b es))
@@ -63,7 +63,7 @@ pub owned : (types : List HolType) (es : List Entry) → IsTable types es → Ha
 owned types es t = record {
   heads = λ i u held. let e = entry i u held in subst (HasHeadTypes types) (same_Some _ _ (sym (terms_of-Some types es i e.0 (t.lower i e.0 e.1) e.1) ∙ held))
       (head_types (over types (terms_of types es)) i e.0.node (t.lower i e.0 e.1));
-  typed = λ i u a held typed. let e = entry i u held in numbered types e.0.ty (type_of u) a (t.measured i e.0 u e.1 held).typed typed;
+  typed = λ i u a held typed. let e = entry i u held in numbered types e.0.facts.ty (type_of u) a (t.measured i e.0 u e.1 held).typed typed;
 }
   where
     entry : (i : ℕ) (u : Term) → slice_get (terms_of types es) i ≡ Some u → (e : Entry) × (slice_get es i ≡ Some e)
@@ -134,7 +134,7 @@ module _ (types : List HolType) (es : List Entry) (t : IsTable types es) (before
         distinct = subst IsDistinct (sym same_front) c.distinct;
         measured = λ i e u at held.
             let m = c.measured i e u at (ap (λ l. slice_get l i) (sym same_front) ∙ held) in
-            record { measures = m.measures; typed = fewer_types e.ty i u (ap (λ l. slice_get l i) (sym terms_before) ∙ held) m.typed };
+            record { measures = m.measures; typed = fewer_types e.facts.ty i u (ap (λ l. slice_get l i) (sym terms_before) ∙ held) m.typed };
       }
 
   pub cut_table : IsTable (take mark.types types) (take mark.terms es)

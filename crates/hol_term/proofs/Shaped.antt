@@ -6,7 +6,7 @@ use Rattle.hol_spec.specs.NameEquality.{name_eq}
 use Rattle.hol_laws.specs.NameEqualityLaws.{name_eq-Decides}
 use Rattle.hol_spec.specs.Names.{Name}
 use Rattle.hol_spec.specs.Types.{HolType, variable, operator, none, more}
-use Rattle.hol_spec.specs.Primitives.{bool, function, function_parts, arrow_name}
+use Rattle.hol_spec.specs.Primitives.{bool, function, function_parts, arrow_name, equality_type}
 use Rattle.hol_type.specs.declared.table.TypeId.{TypeId}
 use Rattle.hol_type.specs.Tables.{tree_at, two_at}
 use Rattle.hol_term.specs.Shapes.{IsRelation}
@@ -49,6 +49,10 @@ module _ (types : List HolType) (ty : TypeId) where
   module _ (d p : TypeId) (parts : option_map (two_at types) (Some (d, p)) ≡ function_parts (tree_at types ty.0)) where
     both : (r : IsRelation (tree_at types ty.0)) → ◌≡◌ {A = HolType × HolType} (tree_at types d.0, tree_at types p.0) (r.0, function r.0 bool)
     both r = first_of_pair (parts ∙ ap function_parts r.1)
+
+    -- relations whose type has this domain are over it
+    pub relation_over : IsRelation (tree_at types ty.0) → tree_at types ty.0 ≡ equality_type (tree_at types d.0)
+    relation_over r = r.1 ∙ ap equality_type (sym (ap (λ (x : HolType × HolType). x.0) (both r)))
 
     pub not_relation_below : option_map (two_at types) None ≡ function_parts (tree_at types p.0) → IsRelation (tree_at types ty.0) → ⊥
     not_relation_below e r = none_some (r.0, bool) (e ∙ ap function_parts (ap (λ (x : HolType × HolType). x.1) (both r)))

@@ -18,6 +18,7 @@ use Rattle.hol_type.specs.Tables as type
 use Rattle.hol_type.specs.TableLaws as type_law
 use Rattle.hol_term.specs.declared.node.Node.{Node}
 use Rattle.hol_term.specs.declared.node.Measures.{Measures}
+use Rattle.hol_term.specs.declared.node.Facts.{Facts}
 use Rattle.hol_term.specs.Tables.{Trees, term_at, type_at, Keeps, IsTypeNumber}
 use Rattle.hol_term.specs.TableLaws.{term_in-Stays, tree_of_node-Stays, IsTypeNumber-Keeps}
 use Rattle.hol_term.specs.Nodes.{tree_of_node, PartsBelow, AreMeasures, IsMeasured}
@@ -124,9 +125,14 @@ in_lam a b d binders binders' id ty part inner r k lt e same hb step =
     (subst (λ t. IsTypeNumber d.types r (option_map (function t) (type_in a (ty ∷ binders) part))) (sym (type_law.tree_at-Stays k.types.stays ty.0 lt)) s)
 
 -- an entry that is made has the measures and the type of its tree
-pub made_entry : (a b : Trees) (n : Node) (m : Measures) (ty : Option TypeId) → Keeps a b → PartsBelow (length a.terms) (length a.types) n
+pub made_entry : (a b : Trees) (n : Node) (m : Measures) (ty : Option TypeId) (facts : Facts) → facts ≡ record { measures = m; ty = ty } → Keeps a b
+    → PartsBelow (length a.terms) (length a.types) n
     → AreMeasures m (tree_of_node a n) → IsTypeNumber b.types ty (type_of (tree_of_node a n))
-    → IsMeasured b.types (record { node = n; measures = m; ty = ty }) (tree_of_node b n)
-made_entry a b n m ty k p am h =
+    → IsMeasured b.types (record { node = n; facts = facts }) (tree_of_node b n)
+made_entry a b n m ty facts same k p am h =
     let e = tree_of_node-Stays a b k.types.stays k.stays n p in
-    record { measures = subst (AreMeasures m) e am; typed = subst (λ t. IsTypeNumber b.types ty (type_of t)) e h }
+    record {
+      measures = subst (λ (f : Facts). AreMeasures f.measures (tree_of_node b n)) (sym same) (subst (AreMeasures m) e am);
+      typed = subst (λ (f : Facts). IsTypeNumber b.types f.ty (type_of (tree_of_node b n))) (sym same)
+          (subst (λ t. IsTypeNumber b.types ty (type_of t)) e h);
+    }

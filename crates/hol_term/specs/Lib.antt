@@ -1,6 +1,7 @@
 pub mod Tables
 pub mod TableLaws
 pub mod Masks
+pub mod Packed
 pub mod Nodes
 pub mod Indexed
 pub mod Keys

@@ -38,8 +38,8 @@ pub record AreMeasures (measures : Measures) (tree : Term) : Type 0 where
 
 -- the entry has the measures of the tree, and the number of its type if it has one
 pub record IsMeasured (types : List HolType) (entry : Entry) (tree : Term) : Type 0 where
-  pub measures : AreMeasures entry.measures tree
-  pub typed : IsTypeNumber types entry.ty (type_of tree)
+  pub measures : AreMeasures entry.facts.measures tree
+  pub typed : IsTypeNumber types entry.facts.ty (type_of tree)
 
 -- the terms, and those of the entries after them
 abbrev pub terms_from : List HolType → List Term → List Entry → List Term

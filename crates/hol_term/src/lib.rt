@@ -30,6 +30,7 @@ ghost use Rattle.hol_term.specs.Owned.{HasItsTypes, IsEarlier};
 mod absent;
 mod binding;
 mod entries;
+mod equalities;
 mod makers;
 mod masks;
 mod memo;
@@ -119,6 +120,8 @@ pub struct TermTable {
     alloc: Global,
     types: TypeTable,
     entries: Entries,
+    // For types by their numbers, guesses at the number of the constant of equality over each. A guess is looked at before it is believed.
+    equalities: Vec<TermId>,
 }
 
 impl Model for TermTable {
@@ -144,6 +147,7 @@ impl TermTable {
             alloc,
             types: TypeTable::new(alloc),
             entries: Entries::new(alloc),
+            equalities: Vec::new(alloc),
         }
     }
 
@@ -178,7 +182,7 @@ impl TermTable {
     {
         match &self.entry(id).node {
             Node::Free(..) | Node::Const(..) => Parts::Leaf,
-            Node::Bound(n) => Parts::Bound(*n),
+            Node::Bound(n) => Parts::Bound(*n as u128),
             Node::App(f, x) => Parts::App(*f, *x),
             Node::Lam(ty, body) => Parts::Lam(*ty, *body),
         }
@@ -197,7 +201,7 @@ impl TermTable {
         ensures typed { IsTypeNumber self.now.types result (the_type (term_at self.now id.0)) }
         ensures one_each { type.IsDistinct self.now.types }
     {
-        self.entry(id).ty
+        self.entry(id).facts.ty()
     }
 
     // The measures of a tree.
@@ -205,7 +209,7 @@ impl TermTable {
         requires { id.0 < length self.now.terms }
         ensures { AreMeasures result (term_at self.now id.0) }
     {
-        self.entry(id).measures
+        self.entry(id).facts.measures()
     }
 
     // The tree of this entry's node, which has a number already, or else gets the next one.

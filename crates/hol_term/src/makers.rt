@@ -306,33 +306,6 @@ impl TermTable {
         self.add(Node::App(left, r))
     }
 
-    // The constant of equality over a type.
-    fn equality(&mut self, ty: TypeId) -> Result<TermId, Memory>
-        requires { ty.0 < length self.old.types }
-        ensures known { IfOk result (λ id. id.0 < length self.new.terms) }
-        ensures made { IfOk result (λ id. Holds self.new id.0 (constant_tree equality_name (equality_type (type_at self.old ty.0)))) }
-        ensures keeps { Keeps self.old self.new }
-    {
-        let Ok(name) = Name::single(self.alloc, b"=") else {
-            return Err(Memory);
-        };
-        let relation = self.relation_type(ty)?;
-        self.add(Node::Const(name, relation))
-    }
-
-    // The type of equality over a type. No term is made.
-    fn relation_type(&mut self, ty: TypeId) -> Result<TypeId, Memory>
-        requires { ty.0 < length self.old.types }
-        ensures known { IfOk result (λ id. id.0 < length self.new.types) }
-        ensures made { IfOk result (λ id. type_at self.new id.0 ≡ equality_type (type_at self.old ty.0)) }
-        ensures terms { self.new.terms ≡ self.old.terms }
-        ensures keeps { Keeps self.old self.new }
-    {
-        let truth = self.bool_type()?;
-        let predicate = self.function_type(ty, truth)?;
-        self.function_type(ty, predicate)
-    }
-
     // What a change with these arguments makes of a tree.
     pub(crate) fn changed(
         &mut self,

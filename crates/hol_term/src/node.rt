@@ -1,15 +1,17 @@
 //! Nodes of a table of terms, and their measures.
-ghost use Rattle.std.specs.Prelude.{◌≡◌, ◌≤◌, ◌+◌, ◌-◌, ◌^◌, min, max, OnOk, IfErr};
+ghost use Rattle.std.specs.Prelude.{◌≡◌, ◌≤◌, ◌+◌, ◌-◌, ◌^◌, min, max, IfOk, OnOk, IfErr};
 ghost use Rattle.std.specs.Int.Bits.{bit_or};
 ghost use Rattle.common.specs.declared.faults.Fault.TheVariants as the_fault;
 ghost use Rattle.hol_spec.specs.Limits.{greatest_size, greatest_depth};
 ghost use Rattle.hol_type.specs.Refusals.{Refuses};
+ghost use Rattle.hol_term.specs.Packed.{type_numbered};
 
 use crate::TermId;
-use common::{Fault, Kind};
+use common::{Fault, Kind, Memory};
 use hol_name::Name;
 use hol_spec::{GREATEST_DEPTH, GREATEST_SIZE};
 use hol_type::TypeId;
+use std::marker::Model;
 
 /// The head of a tree, with the numbers of its parts.
 #[derive(PartialEq, Eq, PartialOrd, Ord, Drop)]
@@ -17,7 +19,7 @@ pub(crate) enum Node {
     /// A free variable.
     Free(Name, TypeId),
     /// A variable that a binder binds: the number of binders between it and its own.
-    Bound(u128),
+    Bound(u64),
     /// A constant.
     Const(Name, TypeId),
     /// A function and its argument.
@@ -36,13 +38,45 @@ pub(crate) struct Measures {
     pub(crate) mask: u64,
 }
 
-/// A node with the measures of its tree, and the number of its type if it is a term.
-#[derive(Drop)]
-pub(crate) struct Entry {
-    pub(crate) node: Node,
+/// The measures of a tree, and the number of its type if it is a term.
+#[derive(Clone, Copy)]
+pub(crate) struct Facts {
     pub(crate) measures: Measures,
     pub(crate) ty: Option<TypeId>,
 }
+
+// The number of no type.
+const NO_TYPE: u32 = u32::MAX;
+
+/// The facts of a tree in little room.
+#[derive(Drop)]
+pub(crate) struct Packed {
+    size: u64,
+    mask: u64,
+    depth: u32,
+    loose: u32,
+    ty: u32,
+}
+
+impl Model for Packed {
+    ghost use Rattle.hol_term.specs.declared.node.Facts.{Facts as TheFacts};
+
+    ghost Value = { TheFacts };
+
+    ghost use Rattle.hol_term.specs.Packed.{type_numbered};
+
+    ghost view = { λ p. record { measures = record { size = p.size; depth = p.depth; loose = p.loose; mask = p.mask }; ty = type_numbered p.ty } };
+}
+
+/// A node with the facts of its tree.
+#[derive(Drop)]
+pub(crate) struct Entry {
+    pub(crate) node: Node,
+    pub(crate) facts: Packed,
+}
+
+// Most of the memory of a large table is its entries.
+const _: () = prove!(size_of::<Entry>() == 56);
 
 impl Measures {
     // Refuses what passes a limit: for its size, or else for its depth.
@@ -102,5 +136,65 @@ impl Measures {
             loose: self.loose.saturating_sub(1),
             ..self
         }
+    }
+}
+
+impl Packed {
+    /// These facts in little room. A depth, a loose number or the number of a type of 2^32 or more is want of memory.
+    pub(crate) fn of(facts: Facts) -> Result<Packed, Memory>
+        ensures { IfOk result (λ packed. packed ≡ facts) }
+    {
+        Ok(Packed {
+            size: facts.measures.size,
+            mask: facts.measures.mask,
+            depth: narrow(facts.measures.depth as u128)?,
+            loose: narrow(facts.measures.loose)?,
+            ty: narrow_type(facts.ty)?,
+        })
+    }
+
+    /// The measures of the tree.
+    pub(crate) fn measures(&self) -> Measures
+        ensures { result ≡ self.now.measures }
+    {
+        Measures {
+            size: self.size,
+            depth: self.depth as u64,
+            loose: self.loose as u128,
+            mask: self.mask,
+        }
+    }
+
+    /// The number of the tree's type, if it is a term.
+    pub(crate) fn ty(&self) -> Option<TypeId>
+        ensures { result ≡ self.now.ty }
+    {
+        if self.ty == NO_TYPE {
+            None
+        } else {
+            Some(TypeId(self.ty as usize))
+        }
+    }
+}
+
+// The number in 32 bits, if they are enough.
+fn narrow(number: u128) -> Result<u32, Memory>
+    ensures { IfOk result (λ n. n ≡ number) }
+{
+    u32::try_from(number).map_err(|_| Memory)
+}
+
+// The number of a type in 32 bits, or that of no type.
+fn narrow_type(ty: Option<TypeId>) -> Result<u32, Memory>
+    ensures { IfOk result (λ n. type_numbered n ≡ ty) }
+{
+    let Some(id) = ty else {
+        return Ok(NO_TYPE);
+    };
+    let number = narrow(id.0 as u128)?;
+    if number < NO_TYPE {
+        Ok(number)
+    } else {
+        Err(Memory)
     }
 }

@@ -36,7 +36,7 @@ impl TermTable {
     {
         match &self.entry(id).node {
             Node::Free(name, ty) => TermView::Free(name, *ty),
-            Node::Bound(n) => TermView::Bound(*n),
+            Node::Bound(n) => TermView::Bound(*n as u128),
             Node::Const(name, ty) => TermView::Const(name, *ty),
             Node::App(f, x) => TermView::App(*f, *x),
             Node::Lam(ty, body) => TermView::Lam(*ty, *body),
@@ -95,7 +95,7 @@ impl TermTable {
     }
 
     // Whether a type is that of the relations over some type: `a -> a -> bool`.
-    fn is_relation(&self, ty: TypeId) -> bool
+    pub(crate) fn is_relation(&self, ty: TypeId) -> bool
         requires { ty.0 < length self.now.types }
         ensures { IsTrue result ↔ IsRelation (type_at self.now ty.0) }
     {

@@ -17,7 +17,7 @@ ghost use Rattle.hol_term.specs.Typing.{seat_type, AreTypings, IsSeat};
 ghost use Rattle.hol_term.specs.Inferring.{IsInferring, count};
 
 use crate::masks::bit_mask;
-use crate::node::{Entry, Measures, Node};
+use crate::node::{Entry, Facts, Measures, Node, Packed};
 use crate::scopes::NO_BINDERS;
 use crate::seats::{Found, Seat, Step, Typings};
 use crate::{Parts, TermId, TermTable};
@@ -34,7 +34,8 @@ impl TermTable {
     {
         let measures = self.measures(&node);
         let ty = self.type_of_node(&node)?;
-        self.insert(Entry { node, measures, ty })
+        let facts = Packed::of(Facts { measures, ty })?;
+        self.insert(Entry { node, facts })
     }
 
     // The measures of this node.
@@ -44,7 +45,7 @@ impl TermTable {
     {
         match node {
             Node::Free(name, ty) => self.leaf_measures(*ty, bit_mask(name)),
-            Node::Bound(n) => Measures::leaf(0, 0, n + 1, 0),
+            Node::Bound(n) => Measures::leaf(0, 0, *n as u128 + 1, 0),
             Node::Const(_, ty) => self.leaf_measures(*ty, 0),
             Node::App(f, x) => self.measures_of(*f).joined(self.measures_of(*x)),
             Node::Lam(ty, body) => {

@@ -1,6 +1,6 @@
 //! The walk that lifts a tree, puts trees into it, or closes it over a free variable. It comes once to each place, and keeps a stack of its
 //! own of what it is still to do.
-ghost use Rattle.hol_spec.specs.Terms.{Term};
+ghost use Rattle.hol_spec.specs.Terms.{Term, bound};
 ghost use Rattle.hol_term.specs.declared.TermId.{TermId as AnId};
 ghost use Rattle.hol_term.specs.declared.memo.Place.{Place as APlace};
 ghost use Rattle.hol_term.specs.declared.walk.Task.TheVariants as the_task;
@@ -181,7 +181,7 @@ impl TermTable {
             }
             Parts::Bound(n) => match replaced(args, place, n)? {
                 Replacement::Renamed(n) => {
-                    let id = self.add(Node::Bound(n))?;
+                    let id = self.add_bound(n)?;
                     walk.keep(place, id)
                 }
                 Replacement::Argument(id) => {
@@ -264,11 +264,23 @@ impl TermTable {
         ensures keeps { Keeps self.old self.new }
     {
         if is_closed_over(args, place) {
-            self.add(Node::Bound(place.depth))
+            self.add_bound(place.depth)
         } else {
             let _distinct = self.mark();
             Ok(place.id)
         }
+    }
+
+    // A bound number. One of 2^64 or more is want of memory.
+    fn add_bound(&mut self, n: u128) -> Result<TermId, Memory>
+        ensures known { IfOk result (λ id. id.0 < length self.new.terms) }
+        ensures made { IfOk result (λ id. Holds self.new id.0 (bound n)) }
+        ensures keeps { Keeps self.old self.new }
+    {
+        let Ok(number) = u64::try_from(n) else {
+            return Err(Memory);
+        };
+        self.add(Node::Bound(number))
     }
 
     // The tree of a place, if the change leaves it alone or it is made already.

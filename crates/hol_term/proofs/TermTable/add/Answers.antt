@@ -8,7 +8,8 @@ pub insert-requires-clause-parts : goal.insert-requires-clause-parts
 insert-requires-clause-parts c = PartsBelow-more c.type_of_node.ensures.keeps.longer c.type_of_node.ensures.keeps.types.longer c.args.node c.requires
 
 pub insert-requires-clause-measured : goal.insert-requires-clause-measured
-insert-requires-clause-measured c = made_entry _ _ c.args.node _ _ c.type_of_node.ensures.keeps c.requires c.measures-measures.ensures c.in_ok-ty.ensures.typed
+insert-requires-clause-measured c =
+    made_entry _ _ c.args.node _ _ _ c.in_ok-facts.ensures c.type_of_node.ensures.keeps c.requires c.measures-measures.ensures c.in_ok-ty.ensures.typed
 
 pub returns-clause-made : goal.returns-clause-made
 returns-clause-made c =

@@ -6,8 +6,8 @@ use Rattle.hol_term.proofs.TermTable.remade_leaf.Goals as goal
 pub returns-then-is_closed_over-clause-made : goal.returns-then-is_closed_over-clause-made
 returns-then-is_closed_over-clause-made c =
     let h = c.is_closed_over.ensures.0 c.if-is_closed_over.true in
-    IfOk-weaker c.add.result _ _ (λ id e. leaf_closed c.args.self.now c.add.new.self c.args.args.now c.args.place id c.requires.closing h.0 h.1 e)
-    c.add.ensures.made
+    IfOk-weaker c.add_bound.result _ _ (λ id e. leaf_closed c.args.self.now c.add_bound.new.self c.args.args.now c.args.place id c.requires.closing h.0 h.1 e)
+    c.add_bound.ensures.made
 
 pub returns-else-is_closed_over-clause-keeps : goal.returns-else-is_closed_over-clause-keeps
 returns-else-is_closed_over-clause-keeps c = Keeps-refl c.args.self.now

@@ -27,9 +27,9 @@ returns-in_ok-id-in-Renamed-clause-walk c =
     let keep = c.keep-in-Renamed.new.self in
     let is = subst (IsReplaced c.args.args.now c.args.place c.in-Bound.n) c.in-Renamed.is c.in_ok-n-in-Bound.ensures in
     OnOk-map2 c.keep-in-Renamed.result (λ made noted from root w.
-    same_walk from c.add.new.self root c.args.args.now walk.tasks keep.tasks (c.in_ok-id-in-Renamed.id ∷ walk.made) keep.made keep.memo keep.memo
+    same_walk from c.add_bound.new.self root c.args.args.now walk.tasks keep.tasks (c.in_ok-id-in-Renamed.id ∷ walk.made) keep.made keep.memo keep.memo
     c.keep-in-Renamed.ensures.tasks made refl
-    (walk_bound from c.args.self.now root c.args.args.now c.args.place walk.tasks walk.made walk.memo w c.add.new.self c.add.ensures.keeps keep.memo
+    (walk_bound from c.args.self.now root c.args.args.now c.args.place walk.tasks walk.made walk.memo w c.add_bound.new.self c.add_bound.ensures.keeps keep.memo
     c.in_ok-id-in-Renamed.id noted c.in-Bound.n c.in-Renamed.n c.in-Bound.ensures.is is c.in_ok-id-in-Renamed.ensures.made))
     c.keep-in-Renamed.ensures.made c.keep-in-Renamed.ensures.noted
 
