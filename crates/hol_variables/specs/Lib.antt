@@ -1,4 +1,5 @@
 pub mod Lists
+pub mod Packed
 pub mod Noted
 pub mod NotedLaws
 pub mod Variables

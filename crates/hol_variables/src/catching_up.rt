@@ -9,6 +9,7 @@ ghost use Rattle.hol_variables.specs.Noted.{AreNoted, AreTypesNoted, IsOwn};
 ghost use Rattle.hol_variables.specs.Variables.{AreNames};
 
 use crate::lists::{ListId, Lists};
+use crate::packed::Packed;
 use crate::{Own, ParamMemo};
 use common::Memory;
 use hol_term::{TermId, TermTable, TermView};
@@ -52,7 +53,8 @@ impl ParamMemo {
         while self.terms.len() < terms.count() {
             let id = TermId(self.terms.len());
             let own = self.own(terms, id)?;
-            self.terms.push(own)?;
+            let packed = Packed::of(own)?;
+            self.terms.push(packed)?;
         }
         Ok(())
     }
@@ -84,14 +86,14 @@ impl ParamMemo {
                 variables: Some(self.variables.nothing()),
             }),
             TermView::App(f, x) => {
-                let f = self.terms[f.0];
-                let x = self.terms[x.0];
+                let f = self.terms[f.0].own();
+                let x = self.terms[x.0].own();
                 let names = self.names.unite(f.names, x.names)?;
                 let variables = self.variables.unite(f.variables, x.variables)?;
                 Ok(Own { names, variables })
             }
             TermView::Lam(ty, body) => {
-                let body = self.terms[body.0];
+                let body = self.terms[body.0].own();
                 let names = self.names.unite(self.types[ty.0], body.names)?;
                 Ok(Own {
                     names,

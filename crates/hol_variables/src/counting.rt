@@ -78,7 +78,7 @@ impl ParamMemo {
         if id.0 >= self.terms.len() {
             return None;
         }
-        let own = self.terms[id.0];
+        let own = self.terms[id.0].own();
         let (Some(names), Some(variables)) = (own.names, own.variables) else {
             return None;
         };
@@ -133,7 +133,7 @@ impl ParamMemo {
         requires known { id.0 < length terms.now.terms }
         ensures { IfSome result (λ free. free ≡ is_in variable_eq (variable_view terms.now variable.now) (free_places (term_at terms.now id.0))) }
     {
-        match self.terms[id.0].variables {
+        match self.terms[id.0].own().variables {
             Some(list) => Some(is_among(terms, variable, self.variables.list(list).numbers())),
             None => None,
         }

@@ -19,6 +19,7 @@
 //! |---|---|
 //! | `numbers` | sets of numbers, in order of coming |
 //! | `lists` | lists of numbers, each under a number, and their unions |
+//! | `packed` | the lists of a term, in eight bytes |
 //! | `catching_up` | what is noted of each type and term |
 //! | `counting` | the count of a sequent's parameters, by what is noted |
 //! | `reading` | the parameters of a sequent, by what is noted |
@@ -40,10 +41,12 @@ mod catching_up;
 mod counting;
 mod lists;
 mod numbers;
+mod packed;
 mod reading;
 mod walking;
 
 use crate::lists::{ListId, Lists};
+use crate::packed::Packed;
 use crate::walking::{is_walked, walked};
 use common::Memory;
 use hol_term::{TermId, TermTable, Variable};
@@ -57,7 +60,7 @@ pub struct ParamMemo {
     names: Lists,
     variables: Lists,
     types: Vec<Option<ListId>>,
-    terms: Vec<Own>,
+    terms: Vec<Packed>,
 }
 
 /// The lists of a term's type variables and of its free variables, where they are kept.

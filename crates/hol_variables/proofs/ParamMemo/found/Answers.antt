@@ -11,8 +11,8 @@ pub returns-in-Some : goal.returns-in-Some
 returns-in-Some c =
     let trees = c.args.terms.now in
     let memo = c.args.self.now in
-    let own = c.index.result.now in
-    let w = term_noted trees memo.names memo.variables memo.terms.items c.requires.noted.terms c.args.id.0 _ own c.index.ensures
+    let own = c.own.result in
+    let w = term_noted trees memo.names memo.variables memo.terms.items c.requires.noted.terms c.args.id.0 _ own (c.own.ensures ∙ c.index.ensures)
     (omega (arith, c.requires.known, c.requires.all_terms)) in
     c.is_among.ensures
     ∙ found_free trees (variable_view trees c.args.variable.now) c.args.id.0 c.numbers.result.now
