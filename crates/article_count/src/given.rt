@@ -40,15 +40,10 @@ impl TermCount {
             Parameters::Sequent(sequent) => self.count_sequent(terms, sequent),
             Parameters::Const(name, id) => self.count_named(terms, name, *id),
             Parameters::List(pairs) => self.count_constants(terms, pairs),
-            Parameters::TypeOp {
-                op,
-                abs,
-                rep,
-                names,
-                ..
-            } => {
-                self.count_three(op, abs, rep);
-                self.count_names(names);
+            Parameters::TypeOp(given) => {
+                let new = given.get();
+                self.count_three(&new.op, &new.abs, &new.rep);
+                self.count_names(&new.names);
                 Ok(())
             }
         }

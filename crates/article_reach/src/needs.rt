@@ -62,7 +62,7 @@ impl Walk {
         ensures { OnOk result (WalksOn proof.now (given_found (parameters_view proof.now.trees given.now)) self.old self.new) }
     {
         match given {
-            Parameters::Nothing | Parameters::TypeOp { .. } => Ok(()),
+            Parameters::Nothing | Parameters::TypeOp(_) => Ok(()),
             Parameters::Term(term) => self.want_term(proof, *term),
             Parameters::Variable(variable) => self.want_variable(proof, variable),
             Parameters::Subst(put) => {

@@ -49,8 +49,11 @@ impl Walk {
         match given {
             Parameters::Const(name, _) => self.constants.has(name),
             Parameters::List(pairs) => self.is_constant_wanted(pairs),
-            Parameters::TypeOp { op, abs, rep, .. } => {
-                self.operators.has(op) || self.constants.has(abs) || self.constants.has(rep)
+            Parameters::TypeOp(given) => {
+                let new = given.get();
+                self.operators.has(&new.op)
+                    || self.constants.has(&new.abs)
+                    || self.constants.has(&new.rep)
             }
             _ => false,
         }

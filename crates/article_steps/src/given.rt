@@ -67,18 +67,13 @@ pub(crate) fn write_given<S: Sink>(
             write_constant(terms, number, constant, keys, room, sink)
         }
         Parameters::List(pairs) => write_constant_pairs(terms, pairs, keys, room, sink),
-        Parameters::TypeOp {
-            op,
-            abs,
-            rep,
-            names,
-            ..
-        } => {
+        Parameters::TypeOp(given) => {
+            let new = given.get();
             let operator = Operator {
-                op,
-                abs,
-                rep,
-                names,
+                op: &new.op,
+                abs: &new.abs,
+                rep: &new.rep,
+                names: &new.names,
             };
             write_operator(terms, operator, keys, room, sink)
         }

@@ -75,10 +75,7 @@ fn is_of_version(version: Version, given: &Parameters) -> bool
     ensures { (trees : Trees) → result ≡ is_of_version_by version (parameters_view trees given.now) }
 {
     match given {
-        Parameters::TypeOp {
-            version: made_in,
-            ..
-        } => *made_in == version,
+        Parameters::TypeOp(given) => given.get().version == version,
         _ => true,
     }
 }

@@ -52,7 +52,7 @@ module _ {a b : Trees} (k : Keeps a b) where
   AreParametersKnown-Keeps (parameters.Sequent s) h = IsKnown-Keeps s h
   AreParametersKnown-Keeps (parameters.Const n t) h = omega (arith, k.longer, h)
   AreParametersKnown-Keeps (parameters.List pairs) h = ArePairsKnown-Keeps pairs.items h
-  AreParametersKnown-Keeps (parameters.TypeOp op abs rep names version) h = tt
+  AreParametersKnown-Keeps (parameters.TypeOp o) h = tt
 
   pub parameters_view-Keeps : (p : Parameters) → AreParametersKnown a p → parameters_view a p ≡ parameters_view b p
   parameters_view-Keeps parameters.Nothing h = refl
@@ -63,7 +63,7 @@ module _ {a b : Trees} (k : Keeps a b) where
   parameters_view-Keeps (parameters.Sequent s) h = ap rule.Parameters.sequent (sequent_at-Keeps s h)
   parameters_view-Keeps (parameters.Const n t) h = ap (rule.Parameters.constant n) (table_law.term_in-Stays k.stays t.0 h)
   parameters_view-Keeps (parameters.List pairs) h = ap rule.Parameters.constants (pairs_at-Keeps pairs.items h)
-  parameters_view-Keeps (parameters.TypeOp op abs rep names version) h = refl
+  parameters_view-Keeps (parameters.TypeOp o) h = refl
 
   pub step_view-Keeps : (x : Step) → IsStepKnown a x → step_view a x ≡ step_view b x
   step_view-Keeps x h = ap₂ (λ p s. record { kind = x.inference.kind; premises = x.inference.premises; parameters = p; sequent = s })

@@ -37,7 +37,7 @@ parameters_view trees (parameters.Subst s) = rule.Parameters.substitution (type.
 parameters_view trees (parameters.Sequent s) = rule.Parameters.sequent (sequent_at trees s)
 parameters_view trees (parameters.Const n t) = rule.Parameters.constant n (term_at trees t.0)
 parameters_view trees (parameters.List pairs) = rule.Parameters.constants (pairs_at trees pairs.items)
-parameters_view trees (parameters.TypeOp op abs rep names version) = rule.Parameters.type_operator (named op abs rep names.items) version
+parameters_view trees (parameters.TypeOp o) = rule.Parameters.type_operator (named o.op o.abs o.rep o.names.items) o.version
 
 abbrev pub step_view : Trees → Step → proof.Step
 step_view trees x = record {
@@ -117,7 +117,7 @@ AreParametersKnown trees (parameters.Subst s) = AreKnownPairs trees s.types.item
 AreParametersKnown trees (parameters.Sequent s) = IsKnown trees s
 AreParametersKnown trees (parameters.Const n t) = t.0 < length trees.terms
 AreParametersKnown trees (parameters.List pairs) = ArePairsKnown trees pairs.items
-AreParametersKnown trees (parameters.TypeOp op abs rep names version) = Unit {0}
+AreParametersKnown trees (parameters.TypeOp o) = Unit {0}
 
 pub record IsStepKnown (trees : Trees) (x : Step) : Type 0 where
   pub parameters : AreParametersKnown trees x.parameters

@@ -58,5 +58,5 @@ mod substitution;
 mod terms;
 mod type_definitions;
 
-pub use made::{Made, Parameters, Put, StepId, Substitution};
+pub use made::{GivenOperator, Made, NewOperator, Parameters, Put, StepId, Substitution};
 pub use proof::Proof;

@@ -104,18 +104,55 @@ pub enum Parameters {
     /// Constants, each with the variable for which it is put.
     List(Vec<(Name, Variable)>),
     /// A type operator.
-    TypeOp {
-        /// The operator.
-        op: Name,
-        /// The constant to the new type.
-        abs: Name,
-        /// The constant from the new type.
-        rep: Name,
-        /// The operator's type variables, in their order.
-        names: Vec<Name>,
-        /// The version of the article, by which the laws are stated.
-        version: Version,
-    },
+    TypeOp(GivenOperator),
+}
+
+/// A new type operator, as the rule that defines it was given it.
+#[derive(Drop)]
+pub struct NewOperator {
+    /// The operator.
+    pub op: Name,
+    /// The constant to the new type.
+    pub abs: Name,
+    /// The constant from the new type.
+    pub rep: Name,
+    /// The operator's type variables, in their order.
+    pub names: Vec<Name>,
+    /// The version of the article, by which the laws are stated.
+    pub version: Version,
+}
+
+/// A new type operator in a place of its own: few steps were given one. Contracts see the operator.
+#[derive(Drop)]
+pub struct GivenOperator {
+    operator: Rc<NewOperator>,
+}
+
+impl Model for GivenOperator {
+    ghost use Rattle.hol_rules.specs.declared.made.NewOperator.{NewOperator as AnOperator};
+
+    ghost Value = { AnOperator };
+
+    ghost view = { λ given. given.operator.value };
+}
+
+impl GivenOperator {
+    /// The operator.
+    pub fn get(&self) -> &NewOperator
+        ensures { result.now ≡ self.now }
+    {
+        self.operator.as_ref()
+    }
+
+    // The operator, in a place of its own.
+    pub(crate) fn new(alloc: Global, operator: NewOperator) -> Result<GivenOperator, Memory>
+        ensures { IfOk result (λ given. given ≡ operator) }
+    {
+        match Rc::new(alloc, operator) {
+            Ok(operator) => Ok(GivenOperator { operator }),
+            Err(_) => Err(Memory),
+        }
+    }
 }
 
 /// One thing that a proof made.
@@ -142,4 +179,4 @@ pub(crate) struct Step {
 }
 
 // A long proof has hundreds of thousands of steps.
-const _: () = prove!(size_of::<Step>() <= 112);
+const _: () = prove!(size_of::<Step>() <= 80);

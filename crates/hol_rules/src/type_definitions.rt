@@ -22,7 +22,7 @@ ghost use Rattle.hol_rules.specs.Views.{parameters_view, AreParametersKnown};
 
 use crate::inference::Inference;
 use crate::laws::{NewNames, first_law, new_part, second_law};
-use crate::made::{Made, Parameters, Step, StepId};
+use crate::made::{GivenOperator, Made, NewOperator, Parameters, Step, StepId};
 use crate::proof::Proof;
 use common::{Fault, Kind, Memory};
 use hol_defs::Symbols;
@@ -394,13 +394,15 @@ fn law_parameters(
     let op = names.op.clone()?;
     let abs = names.abs.clone()?;
     let rep = names.rep.clone()?;
-    Ok(Parameters::TypeOp {
+    let operator = NewOperator {
         op,
         abs,
         rep,
         names: variables,
         version,
-    })
+    };
+    let given = GivenOperator::new(alloc, operator)?;
+    Ok(Parameters::TypeOp(given))
 }
 
 // The laws of a new type, whose types are within the limits.

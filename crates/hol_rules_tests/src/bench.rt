@@ -634,7 +634,7 @@ impl Bench {
             return false;
         }
         match self.proof.params(id) {
-            Parameters::TypeOp { version: own, .. } => *own == version,
+            Parameters::TypeOp(given) => given.get().version == version,
             _ => false,
         }
     }

@@ -191,17 +191,12 @@ impl Walk {
                 Ok(())
             }
             Parameters::List(pairs) => self.want_pairs(proof, items, pairs),
-            Parameters::TypeOp {
-                op,
-                abs,
-                rep,
-                names,
-                ..
-            } => {
-                let item = items.index.operator(op, names.len())?;
+            Parameters::TypeOp(given) => {
+                let new = given.get();
+                let item = items.index.operator(&new.op, new.names.len())?;
                 mark(&mut self.marks, item);
-                mark(&mut self.marks, items.index.constant(abs));
-                mark(&mut self.marks, items.index.constant(rep));
+                mark(&mut self.marks, items.index.constant(&new.abs));
+                mark(&mut self.marks, items.index.constant(&new.rep));
                 Ok(())
             }
             Parameters::Nothing

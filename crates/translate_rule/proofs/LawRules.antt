@@ -1,7 +1,6 @@
 -- The laws of a type definition, by what the rules of their steps say.
-use Rattle.std.proofs.Common.{◌≡◌, ℕ, refl, sym, ap, subst, ◌∙◌, [], ◌∷◌, Vec, Global}
+use Rattle.std.proofs.Common.{◌≡◌, ℕ, refl, sym, ap, subst, ◌∙◌, [], ◌∷◌}
 use Rattle.hol_spec.specs.Definitions.{TypeNames}
-use Rattle.hol_spec.specs.Names.{Name}
 use Rattle.hol_spec.specs.Proofs.{sequent_at}
 use Rattle.hol_spec.specs.Rules.{Rule, Parameters}
 use Rattle.hol_spec.specs.Rules as rule
@@ -12,6 +11,7 @@ use Rattle.hol_spec.specs.Types.{HolType}
 use Rattle.hol_spec.specs.declared.StepKind.TheVariants as kinds
 use Rattle.hol_spec.specs.declared.Version.{Version}
 use Rattle.hol_spec.specs.declared.Version.TheVariants.{Five, Six}
+use Rattle.hol_rules.specs.declared.made.NewOperator.{NewOperator}
 use Rattle.hol_rules.specs.declared.made.Parameters.{Parameters as Given}
 use Rattle.hol_rules.specs.declared.made.Parameters.TheVariants as given
 use Rattle.hol_rules.specs.Kept.{Kept}
@@ -86,7 +86,7 @@ module _ (k : Kept) (id one : ℕ) where
 
 -- what such a step was given, by its numbers
 pub operator-given : (trees : Trees) (p : Given) (names : TypeNames) (version : Version) → parameters_view trees p ≡ Parameters.type_operator names version
-    → ((op abs rep : Name) (ns : Vec Name Global) (v : Version) → p ≡ given.TypeOp op abs rep ns v → ⊥) → ⊥
+    → ((o : NewOperator) → p ≡ given.TypeOp o → ⊥) → ⊥
 operator-given trees given.Nothing names version e other = absurd (cc)
 operator-given trees (given.Term t) names version e other = absurd (cc)
 operator-given trees (given.Variable v) names version e other = absurd (cc)
@@ -94,4 +94,4 @@ operator-given trees (given.Sequent q) names version e other = absurd (cc)
 operator-given trees (given.Subst x) names version e other = absurd (cc)
 operator-given trees (given.Const n t) names version e other = absurd (cc)
 operator-given trees (given.List ps) names version e other = absurd (cc)
-operator-given trees (given.TypeOp op abs rep ns v) names version e other = other op abs rep ns v refl
+operator-given trees (given.TypeOp o) names version e other = other o refl

@@ -45,4 +45,4 @@ list-given trees p g one s (rule.define_const_list {pairs = ps} d l e) is other 
     go (given.Subst x) e o = absurd (cc)
     go (given.Const n t) e o = absurd (cc)
     go (given.List x) e o = o x refl
-    go (given.TypeOp op abs rep ns v) e o = absurd (cc)
+    go (given.TypeOp new) e o = absurd (cc)

@@ -37,4 +37,4 @@ subst-given trees p g one s (rule.subst {types = ps} {terms = ts} f e) is other 
     go (given.Subst x) e o = o x refl
     go (given.Const n t) e o = absurd (cc)
     go (given.List ps) e o = absurd (cc)
-    go (given.TypeOp op abs rep ns v) e o = absurd (cc)
+    go (given.TypeOp new) e o = absurd (cc)

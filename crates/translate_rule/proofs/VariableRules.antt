@@ -37,4 +37,4 @@ variable-given trees p g one s (rule.abs_thm {v = w} e f i) is other = go p is o
     go (given.Subst x) e o = absurd (cc)
     go (given.Const n t) e o = absurd (cc)
     go (given.List ps) e o = absurd (cc)
-    go (given.TypeOp op abs rep ns v) e o = absurd (cc)
+    go (given.TypeOp new) e o = absurd (cc)

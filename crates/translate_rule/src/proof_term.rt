@@ -181,10 +181,10 @@ fn law_version(proof: &Proof, id: StepId) -> Version
     requires operator { (version : AVersion) × IsOperatorStep version proof.now id }
     ensures { IsOperatorStep result proof.now id }
 {
-    let Parameters::TypeOp { version, .. } = proof.params(id) else {
+    let Parameters::TypeOp(given) = proof.params(id) else {
         unreachable!()
     };
-    *version
+    given.get().version
 }
 
 // That of the first law of a type definition, as the law is in the version of its article.

@@ -44,9 +44,10 @@ returns-in-List g c =
 pub returns-in-TypeOp : goal.returns-in-TypeOp
 returns-in-TypeOp g c =
     adds-same c.args.terms.now
-    (λ d. write_list say_name c.deref-in-TypeOp.result.now (say_name c.in-TypeOp.rep (say_name c.in-TypeOp.abs (say_name c.in-TypeOp.op d)))) _ _ _ _ _ _ _
+    (λ d. write_list say_name c.deref-in-TypeOp.result.now (say_name c.get-new.result.now.rep (say_name c.get-new.result.now.abs (say_name c.get-new.result.now.op d)))) _ _ _ _ _ _ _
     _ _
-    (λ d. ap (λ ns. write_list say_name ns (say_name c.in-TypeOp.rep (say_name c.in-TypeOp.abs (say_name c.in-TypeOp.op d)))) c.deref-in-TypeOp.ensures.value
+    (λ d. ap (λ ns. write_list say_name ns (say_name c.get-new.result.now.rep (say_name c.get-new.result.now.abs (say_name c.get-new.result.now.op d)))) c.deref-in-TypeOp.ensures.value
+    ∙ ap (λ o. write_list say_name o.names.items (say_name o.rep (say_name o.abs (say_name o.op d)))) c.get-new.ensures
     ∙ ap (λ x. write_given c.args.number (parameters_view c.args.terms.now x) d) (sym c.in-TypeOp.is)) c.write_operator.ensures
 
 pub write_term-requires-clause-known : goal.write_term-requires-clause-known

@@ -32,7 +32,8 @@ returns-in-List c =
 pub returns-in-TypeOp : goal.returns-in-TypeOp
 returns-in-TypeOp c = λ steps q m h.
     let trees = c.args.terms.now in
-    let three = name_length c.in-TypeOp.op + name_length c.in-TypeOp.abs + name_length c.in-TypeOp.rep in
-    rw c.in-TypeOp.is
+    let new = c.get-new.result.now in
+    let three = name_length new.op + name_length new.abs + name_length new.rep in
+    rw (c.in-TypeOp.is, ← c.get-new.ensures)
     (subst (λ l. IsTermTally trees steps q c.count_names.new.self (count_list (λ n. add (name_length n)) l (add three m))) c.deref-in-TypeOp.ensures.value
     (c.count_names.ensures trees steps q (add three m) (c.count_three.ensures trees steps q m h)))

@@ -1,6 +1,7 @@
 use Rattle.std.proofs.Common.{◌≡◌, [], ◌∷◌, length, arith, refl, sym, ap, subst, ◌∙◌}
 use Rattle.std.proofs.Math.Path.{ap₂}
 use Rattle.hol_rules.specs.Views.{parameters_view}
+use Rattle.hol_rules.specs.declared.made.Parameters.TheVariants as given
 use Rattle.translate_spec.specs.Reach.{constant_key, operator_key, given_keys}
 use Rattle.translate_reach.specs.declared.walk.Walk.{Walk}
 use Rattle.translate_reach.specs.Indexes.{found}
@@ -33,14 +34,14 @@ mark-requires-in-TypeOp c =
     let p = c.args.proof.now in
     rw c.in_ok-item-in-TypeOp.ensures
     (found-below (made_items p.made) c.args.items.now.index c.args.self.now.marks.items c.requires.items.index c.requires.walk.marks
-    (operator_key c.in-TypeOp.op c.len.result))
+    (operator_key c.get-new.result.now.op c.len.result))
 
 pub mark-requires-in-TypeOp-2 : goal.mark-requires-in-TypeOp-2
 mark-requires-in-TypeOp-2 c =
     let p = c.args.proof.now in
     let count = ap length c.mark-in-TypeOp.ensures ∙ length-marked c.args.self.now.marks.items c.in_ok-item-in-TypeOp.item ∙ c.requires.walk.marks in
     rw c.constant-in-TypeOp.ensures
-    (found-below (made_items p.made) c.args.items.now.index c.mark-in-TypeOp.new.marks.items c.requires.items.index count (constant_key c.in-TypeOp.abs))
+    (found-below (made_items p.made) c.args.items.now.index c.mark-in-TypeOp.new.marks.items c.requires.items.index count (constant_key c.get-new.result.now.abs))
 
 pub mark-requires-in-TypeOp-3 : goal.mark-requires-in-TypeOp-3
 mark-requires-in-TypeOp-3 c =
@@ -48,17 +49,17 @@ mark-requires-in-TypeOp-3 c =
     let count = ap length c.mark-in-TypeOp.ensures ∙ length-marked c.args.self.now.marks.items c.in_ok-item-in-TypeOp.item ∙ c.requires.walk.marks in
     let more = ap length c.mark-in-TypeOp-2.ensures ∙ length-marked c.mark-in-TypeOp.new.marks.items c.constant-in-TypeOp.result ∙ count in
     rw c.constant-in-TypeOp-2.ensures
-    (found-below (made_items p.made) c.args.items.now.index c.mark-in-TypeOp-2.new.marks.items c.requires.items.index more (constant_key c.in-TypeOp.rep))
+    (found-below (made_items p.made) c.args.items.now.index c.mark-in-TypeOp-2.new.marks.items c.requires.items.index more (constant_key c.get-new.result.now.rep))
 
 pub returns-in_ok-item-in-TypeOp-clause-walk : goal.returns-in_ok-item-in-TypeOp-clause-walk
 returns-in_ok-item-in-TypeOp-clause-walk c =
     let p = c.args.proof.now in
     let w = c.args.self.now in
     let v : Walk = record { marks = c.mark-in-TypeOp-3.new.marks; types = w.types; terms = w.terms; tasks = w.tasks } in
-    let own = operator_key c.in-TypeOp.op (length c.in-TypeOp.names.items) ∷ constant_key c.in-TypeOp.abs ∷ constant_key c.in-TypeOp.rep ∷ [] in
-    let arity : c.len.result ≡ length c.in-TypeOp.names.items = omega (arith, c.len.ensures, c.in-TypeOp.names.ok.0) in
+    let own = operator_key c.get-new.result.now.op (length c.get-new.result.now.names.items) ∷ constant_key c.get-new.result.now.abs ∷ constant_key c.get-new.result.now.rep ∷ [] in
+    let arity : c.len.result ≡ length c.get-new.result.now.names.items = omega (arith, c.len.ensures, c.get-new.result.now.names.ok.0) in
     let one = c.mark-in-TypeOp.ensures ∙ ap (marked w.marks.items)
-    (c.in_ok-item-in-TypeOp.ensures ∙ ap (λ k. found c.args.items.now.index (operator_key c.in-TypeOp.op k)) arity) in
+    (c.in_ok-item-in-TypeOp.ensures ∙ ap (λ k. found c.args.items.now.index (operator_key c.get-new.result.now.op k)) arity) in
     let two = c.mark-in-TypeOp-2.ensures ∙ ap₂ marked one c.constant-in-TypeOp.ensures in
     let three = c.mark-in-TypeOp-3.ensures ∙ ap₂ marked two c.constant-in-TypeOp-2.ensures in
     gains-IsWalk p.trees (made_items p.made) w v own [] c.requires.walk
@@ -69,12 +70,12 @@ returns-in_ok-item-in-TypeOp-clause-wants c =
     let p = c.args.proof.now in
     let w = c.args.self.now in
     let v : Walk = record { marks = c.mark-in-TypeOp-3.new.marks; types = w.types; terms = w.terms; tasks = w.tasks } in
-    let own = operator_key c.in-TypeOp.op (length c.in-TypeOp.names.items) ∷ constant_key c.in-TypeOp.abs ∷ constant_key c.in-TypeOp.rep ∷ [] in
-    let arity : c.len.result ≡ length c.in-TypeOp.names.items = omega (arith, c.len.ensures, c.in-TypeOp.names.ok.0) in
+    let own = operator_key c.get-new.result.now.op (length c.get-new.result.now.names.items) ∷ constant_key c.get-new.result.now.abs ∷ constant_key c.get-new.result.now.rep ∷ [] in
+    let arity : c.len.result ≡ length c.get-new.result.now.names.items = omega (arith, c.len.ensures, c.get-new.result.now.names.ok.0) in
     let one = c.mark-in-TypeOp.ensures ∙ ap (marked w.marks.items)
-    (c.in_ok-item-in-TypeOp.ensures ∙ ap (λ k. found c.args.items.now.index (operator_key c.in-TypeOp.op k)) arity) in
+    (c.in_ok-item-in-TypeOp.ensures ∙ ap (λ k. found c.args.items.now.index (operator_key c.get-new.result.now.op k)) arity) in
     let two = c.mark-in-TypeOp-2.ensures ∙ ap₂ marked one c.constant-in-TypeOp.ensures in
     let three = c.mark-in-TypeOp-3.ensures ∙ ap₂ marked two c.constant-in-TypeOp-2.ensures in
-    subst (λ g. WantsOf p (given_keys (parameters_view p.trees g)) w v) (sym c.in-TypeOp.is)
+    subst (λ g. WantsOf p (given_keys (parameters_view p.trees g)) w v) (ap given.TypeOp c.get-new.ensures ∙ sym c.in-TypeOp.is)
     (gains-Wants p.trees (made_items p.made) w v own [] c.requires.walk
     (keys-Gains p c.args.items.now c.requires.items w v c.requires.walk own (tt {0}, (tt {0}, (tt {0}, tt {0}))) [] (tt {0}) three refl refl refl))
