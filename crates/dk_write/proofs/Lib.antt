@@ -1,4 +1,5 @@
 pub mod GainedLaws
+mod NodeLaws
 pub mod FrameTexts
 pub mod DeclarationTexts
 mod Told

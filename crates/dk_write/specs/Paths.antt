@@ -1,16 +1,17 @@
 -- What is left of a tree that is being written.
-use Rattle.std.specs.Prelude.{ℕ, Option, take, suc, ◌+◌, ◌*◌, ◌<◌, ◌≤◌, Bool, not, if◌then◌else◌, List, [], ◌∷◌, ◌++◌, length, codes}
+use Rattle.std.specs.Prelude.{ℕ, Option, suc, ◌+◌, ◌*◌, ◌<◌, ◌≤◌, Bool, not, if◌then◌else◌, List, [], ◌∷◌, ◌++◌, length, codes}
 use Rattle.lp_spec.specs.Trees.{Tree, size, depth}
-use Rattle.lp_spec.specs.ShortNames.{shortened}
 use Rattle.lp_spec.specs.Text.{binder_name, enclosed, is_word, tree_text}
 use Rattle.lp_term.specs.declared.LpId.{LpId}
 use Rattle.lp_term.specs.Tables.{tree_at}
 use Rattle.holide_sig.specs.declared.module.Module.{Module}
 use Rattle.holide_sig.specs.Modules.{declarations_of}
+use Rattle.dk_write.specs.Nodes.{written_tree, IsWritten}
 use Rattle.dk_write.specs.Writing.{Gained}
 use Rattle.dk_write.specs.declared.path.Place.{Place}
 use Rattle.dk_write.specs.declared.path.Frame.{Frame}
 use Rattle.dk_write.specs.declared.path.Frame.TheVariants.{Close, Argument, Abstracted, Produced}
+use Rattle.dk_write.specs.declared.tree.Seen.{Seen}
 use Rattle.dk_write.specs.declared.tree.Turn.{Turn}
 use Rattle.dk_write.specs.declared.tree.Turn.TheVariants.{Write, Leave}
 
@@ -30,13 +31,14 @@ abbrev pub AreFrames : ℕ → List Tree → List Frame → Type 0
 AreFrames most trees [] = Unit {0}
 AreFrames most trees (frame ∷ frames) = IsFrame most trees (length frames) frame × AreFrames most trees frames
 
-abbrev pub IsTurn : ℕ → List Tree → List Frame → Turn → Type 0
-IsTurn most trees frames (Write p) = IsPlace most trees (length frames) p
-IsTurn most trees frames Leave = Unit {0}
+-- so is the place, and the node is that of its tree as it is written after so many declarations
+pub record IsSeen (most : ℕ) (m : Module) (n open_frames : ℕ) (s : Seen) : Type 0 where
+  pub place : IsPlace most m.table open_frames s.place
+  pub written : IsWritten m n s.place.id s.node
 
--- the tree of a number as it is written after so many declarations
-abbrev pub written_tree : Module → ℕ → LpId → Tree
-written_tree m n id = shortened (take n (declarations_of m)) (tree_at m.table id.0)
+abbrev pub IsTurn : ℕ → Module → ℕ → List Frame → Turn → Type 0
+IsTurn most m n frames (Write s) = IsSeen most m n (length frames) s
+IsTurn most m n frames Leave = Unit {0}
 
 abbrev pub place_text : Module → ℕ → Place → List ℕ
 place_text m n p = tree_text (declarations_of m) p.depth (written_tree m n p.id)
@@ -57,7 +59,7 @@ frames_text m n (frame ∷ frames) = frame_text m n frame ++ frames_text m n fra
 
 -- what is left to write
 abbrev pub left_text : Module → ℕ → Turn → List Frame → List ℕ
-left_text m n (Write p) frames = place_text m n p ++ frames_text m n frames
+left_text m n (Write s) frames = place_text m n s.place ++ frames_text m n frames
 left_text m n Leave frames = frames_text m n frames
 
 -- how many turns there are left, at most
@@ -76,7 +78,7 @@ frames_work trees [] = 0
 frames_work trees (frame ∷ frames) = frame_work trees frame + frames_work trees frames
 
 abbrev pub work : List Tree → Turn → List Frame → ℕ
-work trees (Write p) frames = place_work trees p + frames_work trees frames
+work trees (Write s) frames = place_work trees s.place + frames_work trees frames
 work trees Leave frames = 1 + frames_work trees frames
 
 -- the text of a tree under no binder, and what stands before its domain in a binder

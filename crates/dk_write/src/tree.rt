@@ -1,13 +1,14 @@
 //! Writing a tree, with what follows its parts in the place of a recursion.
-ghost use Rattle.std.specs.Prelude.{◌≡◌, None, take, ◌+◌, ◌-◌, ◌<◌, ◌≤◌, ◌^◌, [], ◌∷◌, ◌++◌, length, codes, IfOk, OnOk, OnErr, if◌then◌else◌};
+ghost use Rattle.std.specs.Prelude.{◌≡◌, take, ◌+◌, ◌-◌, ◌<◌, ◌≤◌, ◌^◌, [], ◌∷◌, ◌++◌, length, codes, IfOk, OnOk, OnErr, if◌then◌else◌};
 ghost use Rattle.bridge_base.specs.Outside.{GainsFront, HasCause};
 ghost use Rattle.lp_spec.specs.Trees.{depth as depth_of};
-ghost use Rattle.lp_spec.specs.Text.{is_binder as is_binder_tree, is_word as is_word_tree};
+ghost use Rattle.lp_spec.specs.Text.{binder_name};
 ghost use Rattle.lp_spec.specs.Modules.{symbol_name as name_of};
 ghost use Rattle.lp_term.specs.Tables.{tree_at};
 ghost use Rattle.lp_spec.specs.ShortNames.{short};
 ghost use Rattle.holide_sig.specs.Modules.{declarations_of, IsHeld};
-ghost use Rattle.dk_write.specs.Paths.{binder_text, root_text, GoesOn, IsPlace, IsTurn, AreFrames, IsFrame, left_text, written_tree, work};
+ghost use Rattle.dk_write.specs.Nodes.{is_binder_node, is_word_node, IsWritten};
+ghost use Rattle.dk_write.specs.Paths.{binder_text, root_text, GoesOn, IsSeen, IsTurn, AreFrames, IsFrame, left_text, work};
 ghost use Rattle.dk_write.specs.Writing.{WritesTo};
 
 use crate::gathered::Gathered;
@@ -17,11 +18,18 @@ use holide_sig::{Module, SIGNATURE};
 use itoa::Buffer;
 use lp_term::{LpId, LpNode};
 
+/// A place with its tree's node as it is written: a tree for which a name is short is that symbol.
+#[derive(Clone, Copy)]
+pub(crate) struct Seen {
+    pub(crate) place: Place,
+    pub(crate) node: LpNode,
+}
+
 /// What is done next.
 #[derive(Clone, Copy)]
 pub(crate) enum Turn {
     /// The tree is written.
-    Write(Place),
+    Write(Seen),
     /// It is written, and what follows it comes next.
     Leave,
 }
@@ -45,10 +53,12 @@ pub(crate) fn write_tree<S: Sink>(
     ensures room { frames.new.room ≡ frames.old.room }
     ensures writes { WritesTo S.got S.faults sink.old gathered.old (root_text source.now before id) sink.new gathered.new result }
 {
-    let mut turn = Turn::Write(Place { id, depth: 0 });
+    let node = written_node(source, before, id);
+    let place = Place { id, depth: 0 };
+    let mut turn = Turn::Write(Seen { place, node });
     loop {
         turn = match turn {
-            Turn::Write(place) => write_place(source, before, place, frames, gathered, sink)?,
+            Turn::Write(seen) => write_seen(source, before, seen, frames, gathered, sink)?,
             Turn::Leave => match frames.pop() {
                 Some(frame) => write_frame(source, before, frame, frames, gathered, sink)?,
                 None => return Ok(()),
@@ -57,62 +67,30 @@ pub(crate) fn write_tree<S: Sink>(
     }
 }
 
-// Writes the name that is short for a tree; or its front, as far as its first part, or all of it where it has none.
-fn write_place<S: Sink>(
+// Writes the front of a tree as it is written, as far as its first part, or all of it where it has none.
+fn write_seen<S: Sink>(
     source: &Module,
     before: usize,
-    place: Place,
+    seen: Seen,
     frames: &mut Frames,
     gathered: &mut Gathered,
     sink: &mut S,
 ) -> Result<Turn, Failed>
     requires held { IsHeld source.now }
     requires before { before ≤ length source.now.decls }
-    requires place { IsPlace frames.old.room source.now.table (length frames.old.frames) place }
+    requires seen { IsSeen frames.old.room source.now before (length frames.old.frames) seen }
     requires frames { AreFrames frames.old.room source.now.table frames.old.frames }
     requires small { frames.old.room < 2 ^ 64 }
-    ensures turn { IfOk result (IsTurn frames.new.room source.now.table frames.new.frames) }
+    ensures turn { IfOk result (IsTurn frames.new.room source.now before frames.new.frames) }
     ensures frames { IfOk result (λ _. AreFrames frames.new.room source.now.table frames.new.frames) }
     ensures room { frames.new.room ≡ frames.old.room }
-    ensures less { IfOk result (λ turn. work source.now.table turn frames.new.frames < work source.now.table (Turn.Write place) frames.old.frames) }
-    ensures ok { IfOk result (GoesOn S.got source.now before sink.old gathered.old (Turn.Write place) frames.old.frames sink.new gathered.new frames.new.frames) }
-    ensures err { OnErr result (GainsFront (S.got sink.old) (gathered.old ++ left_text source.now before (Turn.Write place) frames.old.frames) (S.got sink.new)) }
+    ensures less { IfOk result (λ turn. work source.now.table turn frames.new.frames < work source.now.table (Turn.Write seen) frames.old.frames) }
+    ensures ok { IfOk result (GoesOn S.got source.now before sink.old gathered.old (Turn.Write seen) frames.old.frames sink.new gathered.new frames.new.frames) }
+    ensures err { OnErr result (GainsFront (S.got sink.old) (gathered.old ++ left_text source.now before (Turn.Write seen) frames.old.frames) (S.got sink.new)) }
     ensures cause { HasCause (S.faults sink.old) (S.faults sink.new) result }
 {
-    match short_name(source, before, place.id) {
-        Some(symbol) => {
-            gathered.write(symbol_name(source, symbol), sink)?;
-            Ok(Turn::Leave)
-        }
-        None => write_parts(source, before, place, frames, gathered, sink),
-    }
-}
-
-// Writes the front of a tree for which no name is short, as far as its first part, or all of it where it has none.
-fn write_parts<S: Sink>(
-    source: &Module,
-    before: usize,
-    place: Place,
-    frames: &mut Frames,
-    gathered: &mut Gathered,
-    sink: &mut S,
-) -> Result<Turn, Failed>
-    requires held { IsHeld source.now }
-    requires before { before ≤ length source.now.decls }
-    requires place { IsPlace frames.old.room source.now.table (length frames.old.frames) place }
-    requires frames { AreFrames frames.old.room source.now.table frames.old.frames }
-    requires small { frames.old.room < 2 ^ 64 }
-    requires long { short (take before (declarations_of source.now)) (tree_at source.now.table place.id.0) ≡ None }
-    ensures turn { IfOk result (IsTurn frames.new.room source.now.table frames.new.frames) }
-    ensures frames { IfOk result (λ _. AreFrames frames.new.room source.now.table frames.new.frames) }
-    ensures room { frames.new.room ≡ frames.old.room }
-    ensures less { IfOk result (λ turn. work source.now.table turn frames.new.frames < work source.now.table (Turn.Write place) frames.old.frames) }
-    ensures ok { IfOk result (GoesOn S.got source.now before sink.old gathered.old (Turn.Write place) frames.old.frames sink.new gathered.new frames.new.frames) }
-    ensures err { OnErr result (GainsFront (S.got sink.old) (gathered.old ++ left_text source.now before (Turn.Write place) frames.old.frames) (S.got sink.new)) }
-    ensures cause { HasCause (S.faults sink.old) (S.faults sink.new) result }
-{
-    let depth = place.depth;
-    match source.table.view(place.id) {
+    let depth = seen.place.depth;
+    match seen.node {
         LpNode::SortType => {
             gathered.write(b"Type", sink)?;
             Ok(Turn::Leave)
@@ -123,13 +101,13 @@ fn write_parts<S: Sink>(
             Ok(Turn::Leave)
         }
         LpNode::Var(number) => {
-            let mut buffer = Buffer::new();
             let binder = u128::from(depth).saturating_sub(number).saturating_sub(1);
-            gathered.write_words(&[b"v", buffer.format(binder).as_bytes()], sink)?;
+            write_name(binder, gathered, sink)?;
             Ok(Turn::Leave)
         }
         LpNode::App(function, argument) => {
-            let closes = is_binder(source, before, function);
+            let node = written_node(source, before, function);
+            let closes = is_binder(node);
             frames.push(Frame::Argument(
                 Place {
                     id: argument,
@@ -138,13 +116,15 @@ fn write_parts<S: Sink>(
                 closes,
             ));
             open_part(closes, gathered, sink)?;
-            Ok(Turn::Write(Place {
+            let place = Place {
                 id: function,
                 depth,
-            }))
+            };
+            Ok(Turn::Write(Seen { place, node }))
         }
         LpNode::Lam(domain, body) => {
-            let closes = is_binder(source, before, domain);
+            let node = written_node(source, before, domain);
+            let closes = is_binder(node);
             frames.push(Frame::Abstracted(
                 Place {
                     id: body,
@@ -153,10 +133,12 @@ fn write_parts<S: Sink>(
                 closes,
             ));
             write_binder(depth, closes, gathered, sink)?;
-            Ok(Turn::Write(Place { id: domain, depth }))
+            let place = Place { id: domain, depth };
+            Ok(Turn::Write(Seen { place, node }))
         }
         LpNode::Pi(domain, body) => {
-            let closes = is_binder(source, before, domain);
+            let node = written_node(source, before, domain);
+            let closes = is_binder(node);
             frames.push(Frame::Produced(
                 Place {
                     id: body,
@@ -165,7 +147,8 @@ fn write_parts<S: Sink>(
                 closes,
             ));
             write_binder(depth, closes, gathered, sink)?;
-            Ok(Turn::Write(Place { id: domain, depth }))
+            let place = Place { id: domain, depth };
+            Ok(Turn::Write(Seen { place, node }))
         }
     }
 }
@@ -181,6 +164,17 @@ fn open_part<S: Sink>(wanted: bool, gathered: &mut Gathered, sink: &mut S) -> Re
     }
 }
 
+// Writes the name of the binder under so many others.
+fn write_name<S: Sink>(number: u128, gathered: &mut Gathered, sink: &mut S) -> Result<(), Failed>
+    ensures { WritesTo S.got S.faults sink.old gathered.old (binder_name number) sink.new gathered.new result }
+{
+    if number < 10 {
+        return gathered.write(&[b'v', b'0' + number as u8], sink);
+    }
+    let mut buffer = Buffer::new();
+    gathered.write_words(&[b"v", buffer.format(number).as_bytes()], sink)
+}
+
 // Writes the name of a binder and what stands before its domain.
 fn write_binder<S: Sink>(
     depth: u64,
@@ -190,9 +184,8 @@ fn write_binder<S: Sink>(
 ) -> Result<(), Failed>
     ensures { WritesTo S.got S.faults sink.old gathered.old (binder_text depth opens) sink.new gathered.new result }
 {
-    let mut buffer = Buffer::new();
-    let number = buffer.format(depth).as_bytes();
-    gathered.write_words(&[b"v", number, b" : ", opening(opens)], sink)
+    write_name(depth as u128, gathered, sink)?;
+    gathered.write(to_domain(opens), sink)
 }
 
 // Writes what stands between a part of a tree and the next.
@@ -210,7 +203,7 @@ fn write_frame<S: Sink>(
     requires frames { AreFrames frames.old.room source.now.table frames.old.frames }
     requires small { frames.old.room < 2 ^ 64 }
     requires room { length frames.old.frames < frames.old.room }
-    ensures turn { IfOk result (IsTurn frames.new.room source.now.table frames.new.frames) }
+    ensures turn { IfOk result (IsTurn frames.new.room source.now before frames.new.frames) }
     ensures frames { IfOk result (λ _. AreFrames frames.new.room source.now.table frames.new.frames) }
     ensures room { frames.new.room ≡ frames.old.room }
     ensures less { IfOk result (λ turn. work source.now.table turn frames.new.frames < work source.now.table Turn.Leave (frame ∷ frames.old.frames)) }
@@ -224,20 +217,23 @@ fn write_frame<S: Sink>(
             Ok(Turn::Leave)
         }
         Frame::Argument(place, closes) => {
-            let opens = !is_word(source, before, place.id);
+            let node = written_node(source, before, place.id);
+            let opens = !is_word(node);
             gathered.write(between(closes, opens), sink)?;
             if opens {
                 frames.push(Frame::Close);
             }
-            Ok(Turn::Write(place))
+            Ok(Turn::Write(Seen { place, node }))
         }
         Frame::Abstracted(place, closes) => {
             gathered.write(to_body(closes), sink)?;
-            Ok(Turn::Write(place))
+            let node = written_node(source, before, place.id);
+            Ok(Turn::Write(Seen { place, node }))
         }
         Frame::Produced(place, closes) => {
             gathered.write(to_target(closes), sink)?;
-            Ok(Turn::Write(place))
+            let node = written_node(source, before, place.id);
+            Ok(Turn::Write(Seen { place, node }))
         }
     }
 }
@@ -273,39 +269,41 @@ fn short_name(source: &Module, before: usize, id: LpId) -> Option<usize>
     }
 }
 
-// Whether a tree is written as an abstraction or a product.
-fn is_binder(source: &Module, before: usize, id: LpId) -> bool
+// The node of a tree as it is written.
+fn written_node(source: &Module, before: usize, id: LpId) -> LpNode
     requires held { IsHeld source.now }
     requires before { before ≤ length source.now.decls }
     requires known { id.0 < length source.now.table }
-    ensures { result ≡ is_binder_tree (written_tree source.now before id) }
+    ensures { IsWritten source.now before id result }
 {
     match short_name(source, before, id) {
-        Some(_) => false,
-        None => matches!(source.table.view(id), LpNode::Lam(_, _) | LpNode::Pi(_, _)),
+        Some(symbol) => LpNode::Sym(symbol),
+        None => source.table.view(id),
     }
 }
 
-// Whether a tree is written as a single word.
-fn is_word(source: &Module, before: usize, id: LpId) -> bool
-    requires held { IsHeld source.now }
-    requires before { before ≤ length source.now.decls }
-    requires known { id.0 < length source.now.table }
-    ensures { result ≡ is_word_tree (written_tree source.now before id) }
+// Whether a node is that of an abstraction or a product.
+fn is_binder(node: LpNode) -> bool
+    ensures { result ≡ is_binder_node node }
 {
-    match short_name(source, before, id) {
-        Some(_) => true,
-        None => !matches!(
-            source.table.view(id),
-            LpNode::App(_, _) | LpNode::Lam(_, _) | LpNode::Pi(_, _)
-        ),
-    }
+    matches!(node, LpNode::Lam(_, _) | LpNode::Pi(_, _))
 }
 
-fn opening(wanted: bool) -> &'static [u8]
-    ensures { result.now ≡ (if wanted then codes "(" else []) }
+// Whether a node is written as a single word.
+fn is_word(node: LpNode) -> bool
+    ensures { result ≡ is_word_node node }
 {
-    if wanted { b"(" } else { b"" }
+    !matches!(
+        node,
+        LpNode::App(_, _) | LpNode::Lam(_, _) | LpNode::Pi(_, _)
+    )
+}
+
+// What stands between the name of a binder and its domain.
+fn to_domain(opens: bool) -> &'static [u8]
+    ensures { result.now ≡ codes " : " ++ (if opens then codes "(" else []) }
+{
+    if opens { b" : (" } else { b" : " }
 }
 
 // What stands between a function and its argument: the parenthesis that ends the one, and the one before the other.

@@ -2,6 +2,7 @@ use Rattle.std.proofs.Common.{◌≡◌, ap, refl, sym, ◌∙◌, ◌∷◌, �
 use Rattle.dk_write.specs.declared.path.Frame.TheVariants.{Close}
 use Rattle.dk_write.specs.Paths.{frame_text, frames_text}
 use Rattle.dk_write.proofs.GainedLaws.{gained_part, on_err_front}
+use Rattle.dk_write.proofs.NodeLaws.{is_word-written}
 use Rattle.dk_write.proofs.FrameTexts.{argument_parts, abstracted_parts, produced_parts}
 use Rattle.dk_write.proofs.tree.write_frame.Goals as goal
 
@@ -10,7 +11,8 @@ returns-in_err-write-in-Argument-clause-err g c =
     let m = c.args.source.now in let n = c.args.before in let fs = c.args.frames.now.frames in
     on_err_front _ _ _ _ _ _ _
     (ap (λ f. frame_text m n f ++ frames_text m n fs) c.in-Argument.is
-    ∙ argument_parts m n fs c.in-Argument.place c.in-Argument.closes _ _ _ c.between.ensures (ap not c.is_word-opens.ensures) refl)
+    ∙ argument_parts m n fs c.in-Argument.place c.in-Argument.closes _ _ _ c.between.ensures
+    (ap not (is_word-written m n c.in-Argument.place.id _ _ c.written_node-node.ensures c.is_word-opens.ensures)) refl)
     c.in_err-write-in-Argument.ensures.err
 
 pub returns-then-opens-clause-ok : goal.returns-then-opens-clause-ok
@@ -20,7 +22,8 @@ returns-then-opens-clause-ok g c =
     ap (λ b. if not b then Close ∷ fs else fs) c.if-opens.true ∙ sym c.push.ensures.frames in
     gained_part _ _ _ _ _ _ _
     (ap (λ f. frame_text m n f ++ frames_text m n fs) c.in-Argument.is
-    ∙ argument_parts m n fs c.in-Argument.place c.in-Argument.closes _ _ _ c.between.ensures (ap not c.is_word-opens.ensures) closing)
+    ∙ argument_parts m n fs c.in-Argument.place c.in-Argument.closes _ _ _ c.between.ensures
+    (ap not (is_word-written m n c.in-Argument.place.id _ _ c.written_node-node.ensures c.is_word-opens.ensures)) closing)
     c.in_ok-write-in-Argument.ensures.ok
 
 pub returns-in_err-write-in-Abstracted-clause-err : goal.returns-in_err-write-in-Abstracted-clause-err

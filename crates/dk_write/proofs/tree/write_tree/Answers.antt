@@ -24,7 +24,7 @@ loop-turn-preserved-in_ok-turn-in-Write g c =
     record {
       turn = c.in_ok-turn-in-Write.ensures.turn;
       frames = c.in_ok-turn-in-Write.ensures.frames;
-      room = c.write_place.ensures.room ∙ c.loop-turn.invariant.room;
+      room = c.write_seen.ensures.room ∙ c.loop-turn.invariant.room;
       text = gained_both _ _ _ _ _ _ before c.in_ok-turn-in-Write.ensures.ok;
       later = omega (arith, c.loop-turn.invariant.later, c.in_ok-turn-in-Write.ensures.cause.later);
     }
