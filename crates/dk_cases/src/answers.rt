@@ -7,7 +7,7 @@ use crate::checks::{add_checks, add_verdict};
 use crate::conversions::{add_conversions, add_step};
 use crate::faults::add_fault;
 use crate::modules::{Reading, read};
-use crate::readings::{add_cuts, add_feeding, add_finds, add_reading, add_steps};
+use crate::readings::{add_again, add_cuts, add_feeding, add_finds, add_reading, add_steps};
 use crate::sequents::{add_sequent, add_whether};
 use crate::types::add_types;
 use crate::weights::add_weights;
@@ -44,6 +44,7 @@ fn add_answer(
 {
     match word(case, "by")? {
         "read" => add_reading(alloc, case, reading, text, came),
+        "again" => add_again(alloc, case, reading.limit, text, came),
         "feed" => add_feeding(alloc, case, reading, text, came),
         "steps" => add_steps(alloc, case, reading.limit, came),
         "cuts" => add_cuts(alloc, reading, text, came),

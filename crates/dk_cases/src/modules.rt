@@ -5,7 +5,7 @@ ghost use Rattle.holide_sig.specs.Modules.{declarations_of, IsHeld};
 
 use crate::faults::add_comma;
 use case_files::Wrong;
-use dk_read::{DkFault, Limit, Reader};
+use dk_read::{DkFault, Limit, Reader, SharingReader};
 use holide_sig::{Decl, Form, Module};
 use std::alloc::Global;
 
@@ -47,6 +47,27 @@ pub(crate) fn read(alloc: Global, limit: Limit, text: &[u8]) -> Result<Module, D
     let mut reader = Reader::new(alloc, limit);
     let _fed = reader.feed(text);
     reader.finish()
+}
+
+/// The module of a text behind the signature's own, read over the table of another module.
+pub(crate) fn read_over(alloc: Global, source: Module, text: &[u8]) -> Result<Module, DkFault>
+    requires held { IsHeld source }
+{
+    let Module { table, decls } = source;
+    drop(decls);
+    let Ok(mut reader) = SharingReader::new(alloc) else {
+        drop(table);
+        return Err(DkFault::Memory);
+    };
+    let mut table = table;
+    match reader.feed(&mut table, text) {
+        Ok(()) => reader.finish(table),
+        Err(fault) => {
+            drop(reader);
+            drop(table);
+            Err(fault)
+        }
+    }
 }
 
 /// Adds the declarations of a module, each by its form and its name.

@@ -2,10 +2,10 @@
 ghost use Rattle.std.specs.Prelude.{◌<◌};
 
 use crate::faults::{add_comma, add_fault, add_number};
-use crate::modules::{Reading, add_declarations, feed, read_in_pieces};
+use crate::modules::{Reading, add_declarations, feed, read, read_in_pieces, read_over};
 use case_files::{Case, Sort, Wrong, items, joined, listed, number, value, word_of};
 use dk_read::{DkFault, DkKind, Limit, Reader};
-use holide_sig::Module;
+use holide_sig::{Module, PRELUDE};
 use std::alloc::Global;
 use toml::Value;
 
@@ -23,6 +23,53 @@ pub(crate) fn add_reading(
     let added = add_module(alloc, case, &answer, came);
     drop(answer);
     added
+}
+
+/// Adds how many trees a text makes that is read a second time, over the table of the module that it reads as, and its declarations.
+pub(crate) fn add_again(
+    alloc: Global,
+    case: &Case<'_>,
+    limit: Limit,
+    text: &[u8],
+    came: &mut Vec<u8>,
+) -> Result<(), Wrong> {
+    match read(alloc, limit, text) {
+        Ok(source) => {
+            let before = source.table.count();
+            let answer = read_over(alloc, source, behind_prelude(text));
+            let added = add_new(alloc, case, before, &answer, came);
+            drop(answer);
+            added
+        }
+        Err(fault) => {
+            let added = add_refusal(alloc, case, &fault, came);
+            drop(fault);
+            added
+        }
+    }
+}
+
+// The bytes behind as many as the signature's text has.
+fn behind_prelude(text: &[u8]) -> &[u8] {
+    if text.len() < PRELUDE.len() {
+        return text;
+    }
+    &text[PRELUDE.len()..]
+}
+
+// Adds how many trees a table has that had so many, and the declarations of the module over it.
+fn add_new(
+    alloc: Global,
+    case: &Case<'_>,
+    before: usize,
+    answer: &Result<Module, DkFault>,
+    came: &mut Vec<u8>,
+) -> Result<(), Wrong> {
+    if let Ok(source) = answer {
+        let made = source.table.count().saturating_sub(before);
+        add_number(alloc, came, made as u128)?;
+    }
+    add_module(alloc, case, answer, came)
 }
 
 // Adds the declarations of a module, or the fault in its place.

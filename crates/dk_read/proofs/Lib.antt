@@ -1,6 +1,7 @@
 pub mod Named
 pub mod Places
 pub mod Grown
+pub mod Kept
 pub mod Meanings
 pub mod Bindings
 pub mod Symbols
@@ -15,3 +16,4 @@ pub mod Openings
 pub mod Ended
 pub mod Unlimited
 pub mod Answered
+pub mod Sharings

@@ -12,6 +12,9 @@ use Rattle.dk_read.specs.declared.text.Text.{Text}
 use Rattle.dk_read.specs.Names.{Named}
 use Rattle.dk_read.specs.States.{before, state_of, refused_by, OnRefusal, Becomes, IsReading, token_in}
 use Rattle.dk_read.proofs.Bytes.{OnRefusal-map}
+use Rattle.lp_term.specs.Tables.{Keeps}
+use Rattle.lp_term.specs.TableLaws.{Keeps-trans}
+use Rattle.dk_read.proofs.Kept.{kept_same}
 use Rattle.dk_read.specs.declared.terms.Token.{Token}
 use Rattle.dk_read.specs.Texts.{run, inside, pending_in, TakesSome, TookSome, Passed, Signs}
 use Rattle.dk_read.proofs.Signs.{token_in-sign}
@@ -38,6 +41,7 @@ passed_blanks old new piece n parser place r p q e = record {
       ∙ ap (λ d. reading.read_bytes d (drop n piece)) (sym (inside_with new (old.place + n) pending.Nothing new.word.items old.parser place q refl parser));
   place = place;
   reading = subst IsReading (sym parser) r;
+  keeps = kept_same (ap (λ (q : Parser). q.module.table) parser);
 }
 
 drop-none : (m : ℕ) → drop {A = ℕ} m [] ≡ []
@@ -61,12 +65,16 @@ took_more old mid new piece n m t p = record {
   taken = t.taken ∙ p.taken ∙ ap (reading.read_bytes (inside new)) (drop-more n m piece);
   place = omega (arith, t.place, p.place);
   reading = p.reading;
+  keeps = Keeps-trans t.keeps p.keeps;
 }
 
 module _ (old new : Text) (piece : List ℕ) (n : ℕ) (some : 1 ≤ n) (parser : new.parser ≡ old.parser) (place : new.place ≡ old.place + n)
     (r : IsReading old.parser) where
   going_on : IsReading new.parser
   going_on = subst IsReading (sym parser) r
+
+  kept : Keeps old.parser.module.table new.parser.module.table
+  kept = kept_same (ap (λ (q : Parser). q.module.table) parser)
 
   -- bytes of a word that is open
   pub took_word : (first : ℕ) → old.pending ≡ pending.InWord first → new.pending ≡ pending.InWord first → n ≡ run tokens.is_word_byte piece → new.word.items
@@ -84,12 +92,13 @@ module _ (old new : Text) (piece : List ℕ) (n : ℕ) (some : 1 ≤ n) (parser 
         (sym (inside_with new (old.place + n) (pending.InWord first) (old.word.items ++ take n piece) old.parser place q w parser));
     place = place;
     reading = going_on;
+    keeps = kept;
   }
 
   -- blanks
   pub took_blanks : old.pending ≡ pending.Nothing → new.pending ≡ pending.Nothing → n ≡ run tokens.is_space piece → TookSome old piece new n
   took_blanks p q e = let b = passed_blanks old new piece n parser place r p q e in record
-      { some = some; within = b.within; taken = b.taken; place = place; reading = going_on }
+      { some = some; within = b.within; taken = b.taken; place = place; reading = going_on; keeps = kept }
 
   -- bytes of a comment
   pub took_comment : (first : ℕ) → old.pending ≡ pending.InComment first → new.pending ≡ pending.InComment first → n ≡ run (λ b. not (b == 59)) piece
@@ -107,6 +116,7 @@ module _ (old new : Text) (piece : List ℕ) (n : ℕ) (some : 1 ≤ n) (parser 
         (sym (inside_with new (old.place + n) (pending.InComment first) new.word.items old.parser place q refl parser));
     place = place;
     reading = going_on;
+    keeps = kept;
   }
 
   -- a piece that is the front of a word
@@ -129,6 +139,7 @@ module _ (old new : Text) (piece : List ℕ) (n : ℕ) (some : 1 ≤ n) (parser 
         ∙ ap (λ d. reading.read_bytes d (drop n piece)) (sym (inside_with new (old.place + n) (pending.InWord old.place) piece old.parser place q w parser));
     place = place;
     reading = going_on;
+    keeps = kept;
   }
 
 -- a word that ends inside the piece
@@ -146,8 +157,8 @@ module _ (old : Text) (piece : List ℕ) (n : ℕ) (p : old.pending ≡ pending.
 
   pub ended_word : (new : Text) → reading.advance (before old.parser) (state_of old.parser) old.place (tokens.word_token (take n piece))
       ≡ reading.Goes (before new.parser) (state_of new.parser) → new.pending ≡ pending.Nothing → new.place ≡ old.place + n → IsReading new.parser
-      → TookSome old piece new n
-  ended_word new goes q place r = record {
+      → Keeps old.parser.module.table new.parser.module.table → TookSome old piece new n
+  ended_word new goes q place r k = record {
     some = begun.some;
     within = omega (arith, within);
     taken =
@@ -156,6 +167,7 @@ module _ (old : Text) (piece : List ℕ) (n : ℕ) (p : old.pending ≡ pending.
         ∙ ap (λ d. reading.read_bytes d (drop n piece)) (sym (inside_with new (old.place + n) pending.Nothing new.word.items new.parser place q refl refl));
     place = place;
     reading = r;
+    keeps = k;
   }
 
   pub failed_word : (new : Text) (q : Parser) (f : Stop) → new.parser.names ≡ q.names
@@ -179,8 +191,8 @@ module _ (old : Text) (piece : List ℕ) (n : ℕ) (t : Token) (p : old.pending 
 
   pub took_sign : (new : Text) → reading.advance (before old.parser) (state_of old.parser) old.place (token_in old.parser.names t)
       ≡ reading.Goes (before new.parser) (state_of new.parser) → new.pending ≡ pending.Nothing → new.place ≡ old.place + n → IsReading new.parser
-      → TookSome old piece new n
-  took_sign new goes q place r = record {
+      → Keeps old.parser.module.table new.parser.module.table → TookSome old piece new n
+  took_sign new goes q place r k = record {
     some = signs.some;
     within = signs.within;
     taken =
@@ -189,6 +201,7 @@ module _ (old : Text) (piece : List ℕ) (n : ℕ) (t : Token) (p : old.pending 
         ∙ ap (λ d. reading.read_bytes d (drop n piece)) (sym (inside_with new (old.place + n) pending.Nothing new.word.items new.parser place q refl refl));
     place = place;
     reading = r;
+    keeps = k;
   }
 
   pub failed_sign : (new : Text) (q : Parser) (f : Stop) → new.parser.names ≡ q.names

@@ -5,6 +5,7 @@ use Rattle.holide_sig.specs.declared.module.Module.{Module}
 use Rattle.holide_sig.specs.Modules.{declarations_of, IsHeld}
 use Rattle.lp_spec.specs.declared.fault_kind.DkKind.{DkKind}
 use Rattle.lp_spec.specs.Tokens as tokens
+use Rattle.lp_term.specs.Tables.{Keeps}
 use Rattle.lp_spec.specs.ReadingFaults as reading
 use Rattle.dk_read.specs.declared.faults.DkFault.{DkFault}
 use Rattle.dk_read.specs.declared.faults.DkFault.TheVariants as fault
@@ -70,6 +71,7 @@ pub record TookSome (old : Text) (piece : List ℕ) (new : Text) (n : ℕ) : Typ
   pub taken : reading.read_bytes (inside old) piece ≡ reading.read_bytes (inside new) (drop n piece)
   pub place : new.place ≡ old.place + n
   pub reading : IsReading new.parser
+  pub keeps : Keeps old.parser.module.table new.parser.module.table
 
 -- the first n bytes of a piece, if any, have been read
 pub record Passed (old : Text) (piece : List ℕ) (new : Text) (n : ℕ) : Type 0 where
@@ -77,6 +79,7 @@ pub record Passed (old : Text) (piece : List ℕ) (new : Text) (n : ℕ) : Type 
   pub taken : reading.read_bytes (inside old) piece ≡ reading.read_bytes (inside new) (drop n piece)
   pub place : new.place ≡ old.place + n
   pub reading : IsReading new.parser
+  pub keeps : Keeps old.parser.module.table new.parser.module.table
 
 -- some bytes of a piece have been read, or one of them shows a fault
 abbrev pub TakesSome : Text → List ℕ → Text → Result ℕ Stop → Type 0

@@ -3,6 +3,7 @@ ghost use Rattle.std.specs.Prelude.{◌≡◌, ◌<◌, [], length, Some, OnOk};
 ghost use Rattle.lp_spec.specs.ModuleOrder.{MayFollow};
 ghost use Rattle.lp_spec.specs.ReadingFaults as reading;
 ghost use Rattle.dk_laws.specs.ReadingOrder.{IsState};
+ghost use Rattle.lp_term.specs.Tables.{Keeps};
 ghost use Rattle.holide_sig.specs.Modules.{declaration_in, IsKnown};
 ghost use Rattle.dk_read.specs.declared.terms.State.TheVariants as state;
 ghost use Rattle.dk_read.specs.Names.{name_at};
@@ -27,6 +28,7 @@ impl Parser {
         requires follows { MayFollow (declared self.old) (declaration_in self.old.module.table decl) }
         ensures becomes { Becomes (reading.unless_deep (tree_of self.old tree) place (goes_after self.old decl)) self.new result }
         ensures ready { OnOk result (IsReady self.new) }
+        ensures keeps { OnOk result (Keeps self.old.module.table self.new.module.table) }
     {
         if self.module.table.depth(tree) > MAX_DEPTH {
             return Err(Stop::TooDeep(place));
@@ -46,6 +48,7 @@ impl Parser {
         requires ordered { IsState (before self.old) (state_in self.old (state.InApplication (Some body))) }
         ensures becomes { Becomes (reading.declares (before self.old) (head_of self.old) (whole_of self.old body) place) self.new result }
         ensures ready { OnOk result (IsReady self.new) }
+        ensures keeps { OnOk result (Keeps self.old.module.table self.new.module.table) }
     {
         let Some(tree) = self.whole(body)? else {
             return Err(Stop::BadText(place));
@@ -83,6 +86,7 @@ impl Parser {
         requires body { body.0 < length self.old.module.table }
         ensures becomes { Becomes (reading.assigns (before self.old) (head_of self.old) (whole_of self.old body) place) self.new result }
         ensures ready { OnOk result (IsReady self.new) }
+        ensures keeps { OnOk result (Keeps self.old.module.table self.new.module.table) }
     {
         let Some(tree) = self.whole(body)? else {
             return Err(Stop::BadText(place));

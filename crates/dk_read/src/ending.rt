@@ -1,6 +1,7 @@
 //! The end of a text, and the token that is open where it is cut.
-ghost use Rattle.std.specs.Prelude.{◌≡◌, ◌<◌, ◌^◌, Err, OnOk, IfErr};
+ghost use Rattle.std.specs.Prelude.{◌≡◌, ◌<◌, ◌^◌, Err, IfOk, OnOk, IfErr};
 ghost use Rattle.lp_spec.specs.Tokens as tokens;
+ghost use Rattle.lp_term.specs.Tables.{Keeps};
 ghost use Rattle.lp_spec.specs.ReadingFaults as reading;
 ghost use Rattle.dk_read.specs.States.{before, state_of, IsReading, MayBreak};
 ghost use Rattle.dk_read.specs.Texts.{pending_of, answer_at_end, inside, EndsTokens, Closes, Ends};
@@ -30,6 +31,7 @@ impl Text {
         requires reading { IsReading self.old.parser }
         ensures ends { EndsTokens (answer_at_end self.old) self.new result }
         ensures reading { OnOk result (IsReading self.new.parser) }
+        ensures keeps { OnOk result (Keeps self.old.parser.module.table self.new.parser.module.table) }
         ensures place { OnOk result (self.new.place ≡ self.old.place) }
     {
         match self.pending {
@@ -49,6 +51,7 @@ impl Text {
         requires reading { IsReading self.parser }
         requires few { self.place < 2 ^ 64 }
         ensures ends { Ends (reading.read_end (inside self)) result }
+        ensures keeps { IfOk result (λ m. Keeps self.parser.module.table m.table) }
     {
         let mut text = self;
         match text.close() {
@@ -66,6 +69,7 @@ impl Text {
         requires few { self.old.place < 2 ^ 64 }
         ensures reads { OnOk result (reading.read_end (inside self.old) ≡ reading.reads (before self.new.parser)) }
         ensures reading { OnOk result (IsReading self.new.parser) }
+        ensures keeps { OnOk result (Keeps self.old.parser.module.table self.new.parser.module.table) }
         ensures refuses { IfErr result (λ f. Ends (reading.read_end (inside self.old)) (Err f)) }
     {
         match self.close_between() {
@@ -79,6 +83,7 @@ impl Text {
         requires reading { IsReading self.old.parser }
         ensures closes { Closes (reading.read_end (inside self.old)) self.new result }
         ensures reading { OnOk result (IsReading self.new.parser) }
+        ensures keeps { OnOk result (Keeps self.old.parser.module.table self.new.parser.module.table) }
     {
         match self.end_tokens() {
             Ok(()) => self.rest_between(),
@@ -91,6 +96,7 @@ impl Text {
         requires reading { IsReading self.old.parser }
         ensures closes { Closes (reading.answers (reading.Goes (before self.old.parser) (state_of self.old.parser)) (tokens.ended self.old.place)) self.new result }
         ensures reading { OnOk result (IsReading self.new.parser) }
+        ensures keeps { OnOk result (Keeps self.old.parser.module.table self.new.parser.module.table) }
     {
         match self.parser.state {
             State::Between => Ok(()),

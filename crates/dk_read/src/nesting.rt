@@ -1,6 +1,7 @@
 //! What is open in a term, and what ends it.
 ghost use Rattle.std.specs.Prelude.{◌≡◌, ◌<◌, [], ◌∷◌, length, IfOk, IfSome, IfNone, OnOk, IfErr};
 ghost use Rattle.lp_spec.specs.ReadingFaults as reading;
+ghost use Rattle.lp_term.specs.Tables.{Keeps};
 ghost use Rattle.dk_read.specs.declared.faults.Stop.TheVariants as stop;
 ghost use Rattle.dk_read.specs.Names.{name_at};
 ghost use Rattle.dk_read.specs.States.{tree_of, whole_of, head_of, frames_of, scope_of, declared, IsSound, IsReady, IsIdKnown, Becomes, before, tree_in, frame_in, IsFrameKnown, IsBinderKnown, IsUnwound, bound_frame, Binds, IsPlain, Unwinds, NoDomain, NoEnclosing};
@@ -93,6 +94,7 @@ impl Parser {
         requires sound { IsSound self.old }
         requires body { body.0 < length self.old.module.table }
         ensures known { IfOk result (λ id. id.0 < length self.new.module.table) }
+        ensures keeps { IfOk result (λ id. Keeps self.old.module.table self.new.module.table) }
         ensures unwinds { IfOk result (λ id. Unwinds (frames_of self.old) (tree_of self.old body) (frames_of self.new) (tree_of self.new id)) }
         ensures same { IfOk result (λ id. (before self.new ≡ before self.old) × (head_of self.new ≡ head_of self.old) × IsSound self.new) }
         ensures memory { IfErr result (λ e. e ≡ stop.Memory) }
@@ -114,6 +116,7 @@ impl Parser {
         requires domain { domain.0 < length self.old.module.table }
         ensures becomes { Becomes (reading.arrow (before self.old) (head_of self.old) (frames_of self.old) (tree_of self.old domain)) self.new result }
         ensures ready { OnOk result (IsReady self.new) }
+        ensures keeps { OnOk result (Keeps self.old.module.table self.new.module.table) }
     {
         let name = match self.last_domain() {
             Some(name) => name,
@@ -130,6 +133,7 @@ impl Parser {
         requires domain { domain.0 < length self.old.module.table }
         ensures becomes { Becomes (reading.fat_arrow (before self.old) (head_of self.old) (frames_of self.old) (tree_of self.old domain) place) self.new result }
         ensures ready { OnOk result (IsReady self.new) }
+        ensures keeps { OnOk result (Keeps self.old.module.table self.new.module.table) }
     {
         match self.last_domain() {
             Some(name) => {
@@ -185,6 +189,7 @@ impl Parser {
         requires body { body.0 < length self.old.module.table }
         ensures becomes { Becomes (reading.encloses (before self.old) (head_of self.old) (frames_of self.old) (tree_of self.old body) place) self.new result }
         ensures ready { OnOk result (IsReady self.new) }
+        ensures keeps { OnOk result (Keeps self.old.module.table self.new.module.table) }
     {
         let tree = self.unwind(body)?;
         match self.last_enclosing() {
@@ -199,6 +204,7 @@ impl Parser {
         requires body { body.0 < length self.old.module.table }
         ensures is { IfOk result (λ o. whole_of self.old body ≡ tree_in self.new.module.table o) }
         ensures known { IfOk result (λ o. IsIdKnown self.new.module.table o) }
+        ensures keeps { IfOk result (λ o. Keeps self.old.module.table self.new.module.table) }
         ensures closed { IfOk result (λ o. IfSome o (λ id. self.new.frames.items ≡ [])) }
         ensures same { IfOk result (λ o. (before self.new ≡ before self.old) × (head_of self.new ≡ head_of self.old) × IsSound self.new) }
         ensures memory { IfErr result (λ e. e ≡ stop.Memory) }

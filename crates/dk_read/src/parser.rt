@@ -3,10 +3,11 @@ ghost use Rattle.std.specs.Prelude.{◌≡◌, ◌<◌, [], length, Some, IfOk, 
 ghost use Rattle.lp_spec.specs.Tokens as tokens;
 ghost use Rattle.lp_spec.specs.ReadingFaults as reading;
 ghost use Rattle.dk_laws.specs.ReadingOrder.{IsState};
-ghost use Rattle.lp_term.specs.Tables.{tree_of_node, Holds, PartsBelow};
+ghost use Rattle.lp_term.specs.Tables.{tree_of_node, Holds, Keeps, PartsBelow};
 ghost use Rattle.dk_read.specs.declared.terms.State.TheVariants as state;
 ghost use Rattle.dk_read.specs.declared.faults.Stop.TheVariants as stop;
 ghost use Rattle.dk_read.specs.Names.{name_at};
+ghost use Rattle.dk_read.specs.Firsts.{IsFirst};
 ghost use Rattle.dk_read.specs.States.{tree_of, argued_in, applies_in, goes_on_in, advance_in, state_in, state_of, head_of, token_in, frames_of, IsSound, IsReady, IsReading, IsTokenKnown, IsIdKnown, Becomes, Tells, Grows, before, tree_in, IsSign, NoColon, IsWord};
 
 use crate::faults::{DkFault, Stop};
@@ -41,6 +42,7 @@ impl Parser {
         ensures reading { IfOk result IsReading }
         ensures none { IfOk result (λ p. before p ≡ []) }
         ensures state { IfOk result (λ p. state_of p ≡ reading.Between) }
+        ensures first { IfOk result IsFirst }
     {
         let module = Module::new(alloc)?;
         let Ok((names, nameless)) = first_names(alloc, &module) else {
@@ -137,6 +139,7 @@ impl Parser {
         requires atom { atom.0 < length self.old.module.table }
         ensures becomes { Becomes (argued_in self.old function atom) self.new result }
         ensures ready { OnOk result (IsReady self.new) }
+        ensures keeps { OnOk result (Keeps self.old.module.table self.new.module.table) }
     {
         match function {
             None => {
@@ -158,6 +161,7 @@ impl Parser {
         requires closed { self.old.frames.items ≡ [] }
         ensures becomes { Becomes (reading.names (before self.old) form place (name_at self.old.names name)) self.new result }
         ensures ready { OnOk result (IsReady self.new) }
+        ensures keeps { OnOk result (Keeps self.old.module.table self.new.module.table) }
     {
         match self.names.meaning(name) {
             Meaning::Nothing => {
@@ -177,6 +181,7 @@ impl Parser {
         requires token { IsTokenKnown self.old.names token }
         ensures becomes { Becomes (applies_in self.old (tree_in self.old.module.table function) place token) self.new result }
         ensures ready { OnOk result (IsReady self.new) }
+        ensures keeps { OnOk result (Keeps self.old.module.table self.new.module.table) }
     {
         match token {
             Token::Name(name) => {
@@ -207,6 +212,7 @@ impl Parser {
         requires sign { IsSign sign }
         ensures becomes { Becomes (applies_in self.old (Some (tree_of self.old tree)) place sign) self.new result }
         ensures ready { OnOk result (IsReady self.new) }
+        ensures keeps { OnOk result (Keeps self.old.module.table self.new.module.table) }
     {
         match sign {
             Token::RightParen => self.close(tree, place),
@@ -227,6 +233,7 @@ impl Parser {
         requires no_colon { NoColon token }
         ensures becomes { Becomes (goes_on_in self.old first name place token) self.new result }
         ensures ready { OnOk result (IsReady self.new) }
+        ensures keeps { OnOk result (Keeps self.old.module.table self.new.module.table) }
     {
         match self.meaning(first, name) {
             Ok(atom) => self.apply(Some(atom), place, token),
@@ -241,6 +248,7 @@ impl Parser {
         requires token { IsTokenKnown self.old.names token }
         ensures becomes { Becomes (reading.advance (before self.old) reading.Between place (token_in self.old.names token)) self.new result }
         ensures ready { OnOk result (IsReady self.new) }
+        ensures keeps { OnOk result (Keeps self.old.module.table self.new.module.table) }
     {
         match token {
             Token::Name(name) => self.name(Form::Symbol, place, name),
@@ -263,6 +271,7 @@ impl Parser {
         requires token { IsTokenKnown self.old.names token }
         ensures becomes { Becomes (advance_in self.old place token) self.new result }
         ensures reading { OnOk result (IsReading self.new) }
+        ensures keeps { OnOk result (Keeps self.old.module.table self.new.module.table) }
     {
         self.next_state(place, token)
     }
@@ -272,6 +281,7 @@ impl Parser {
         requires reading { IsReading self.old }
         ensures becomes { Becomes (reading.advance (before self.old) (state_of self.old) place (tokens.word_token word.now)) self.new result }
         ensures reading { OnOk result (IsReading self.new) }
+        ensures keeps { OnOk result (Keeps self.old.module.table self.new.module.table) }
     {
         match kind_of(word) {
             Word::Type => self.advance(place, Token::TypeWord),
@@ -286,6 +296,7 @@ impl Parser {
         requires reading { IsReading self.old }
         ensures becomes { Becomes (reading.advance (before self.old) (state_of self.old) place (tokens.Name word.now)) self.new result }
         ensures reading { OnOk result (IsReading self.new) }
+        ensures keeps { OnOk result (Keeps self.old.module.table self.new.module.table) }
     {
         let name = self.number(word)?;
         self.advance(place, Token::Name(name))
@@ -298,6 +309,7 @@ impl Parser {
         requires token { IsTokenKnown self.old.names token }
         ensures becomes { Becomes (advance_in self.old place token) self.new result }
         ensures ready { OnOk result (IsReady self.new) }
+        ensures keeps { OnOk result (Keeps self.old.module.table self.new.module.table) }
     {
         match self.state {
             State::InApplication(function) => self.apply(function, place, token),

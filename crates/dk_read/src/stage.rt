@@ -2,6 +2,7 @@
 ghost use Rattle.std.specs.Prelude.{◌≡◌, ◌<◌, ◌≤◌, ◌+◌, ◌^◌, [], None, Some, length, drop, OnOk, IfErr};
 ghost use Rattle.lp_spec.specs.Text.{prelude};
 ghost use Rattle.lp_spec.specs.Tokens as tokens;
+ghost use Rattle.lp_term.specs.Tables.{Keeps};
 ghost use Rattle.lp_spec.specs.ReadingFaults as reading;
 ghost use Rattle.dk_read.specs.declared.faults.DkFault.TheVariants as fault;
 ghost use Rattle.lp_spec.specs.declared.fault_kind.DkKind.TheVariants as kind;
@@ -133,14 +134,15 @@ fn read_inside(text: Text, piece: &[u8]) -> Stage
     }
 }
 
-// Takes the next piece of the text after the signature's, or tells the fault that it shows.
-fn go_on(text: &mut Text, piece: &[u8]) -> Result<(), DkFault>
+/// Takes the next piece of the text after the signature's, or tells the fault that it shows.
+pub(crate) fn go_on(text: &mut Text, piece: &[u8]) -> Result<(), DkFault>
     requires reading { IsReading text.old.parser }
     requires few { text.old.place + length piece.now < 2 ^ 64 }
     ensures goes { OnOk result (reading.read_bytes (inside text.old) piece.now ≡ inside text.new) }
     ensures reading { OnOk result (IsReading text.new.parser) }
     ensures stops { IfErr result (λ f. Comes (reading.read_bytes (inside text.old) piece.now) (stage.Stopped f)) }
     ensures place { IfErr result (λ f. IsStage (stage.Stopped f)) }
+    ensures keeps { OnOk result (Keeps text.old.parser.module.table text.new.parser.module.table) }
 {
     match text.take_all(piece) {
         Ok(()) => Ok(()),

@@ -3,8 +3,11 @@
 ghost use Rattle.std.specs.Prelude.{◌≡◌, ◌<◌, ◌≤◌, ◌+◌, ◌^◌, [], ◌∷◌, length, get_or, true, IfOk, OnOk};
 ghost use Rattle.lp_spec.specs.Text.{prelude};
 ghost use Rattle.lp_spec.specs.Tokens as tokens;
+ghost use Rattle.lp_term.specs.Tables.{Keeps};
 ghost use Rattle.dk_read.specs.declared.text.Pending.TheVariants as pending;
 ghost use Rattle.lp_spec.specs.ReadingFaults as reading;
+ghost use Rattle.dk_read.specs.Firsts.{IsFirst};
+ghost use Rattle.dk_read.specs.Sharing.{with_table};
 ghost use Rattle.dk_read.specs.States.{token_in, IsReading, IsTokenKnown};
 ghost use Rattle.dk_read.specs.Texts.{a_byte_on, after_byte_in, after_token_and_byte, run, Takes, TakesSome, Passed, inside, pending_in, Signs, held_of};
 
@@ -14,6 +17,7 @@ use crate::parser::Parser;
 use crate::terms::Token;
 use common::Memory;
 use holide_sig::PRELUDE;
+use lp_term::LpTable;
 use std::alloc::Global;
 
 /// What the next byte may go on with, with the place at which it began.
@@ -45,6 +49,7 @@ impl Text {
         requires few { self.old.place + 1 < 2 ^ 64 }
         ensures takes { Takes (a_byte_on self.old (pending_in self.old.word.items pending)) self.new result }
         ensures reading { OnOk result (IsReading self.new.parser) }
+        ensures keeps { OnOk result (Keeps self.old.parser.module.table self.new.parser.module.table) }
         ensures place { OnOk result (self.new.place ≡ self.old.place + 1) }
     {
         self.pending = pending;
@@ -59,6 +64,7 @@ impl Text {
         requires few { self.old.place + 1 < 2 ^ 64 }
         ensures takes { Takes (after_byte_in self.old (tokens.goes (tokens.at first (token_in self.old.parser.names token) ∷ []) tokens.Nothing)) self.new result }
         ensures reading { OnOk result (IsReading self.new.parser) }
+        ensures keeps { OnOk result (Keeps self.old.parser.module.table self.new.parser.module.table) }
         ensures place { OnOk result (self.new.place ≡ self.old.place + 1) }
     {
         self.parser.advance(first, token)?;
@@ -71,6 +77,7 @@ impl Text {
         requires few { self.old.place + 1 < 2 ^ 64 }
         ensures takes { Takes (after_byte_in self.old (tokens.begins self.old.place byte)) self.new result }
         ensures reading { OnOk result (IsReading self.new.parser) }
+        ensures keeps { OnOk result (Keeps self.old.parser.module.table self.new.parser.module.table) }
         ensures place { OnOk result (self.new.place ≡ self.old.place + 1) }
     {
         let place = self.place;
@@ -93,6 +100,7 @@ impl Text {
         requires few { self.old.place + 1 < 2 ^ 64 }
         ensures takes { Takes (a_byte_on self.old (tokens.InWord self.old.place (byte ∷ []))) self.new result }
         ensures reading { OnOk result (IsReading self.new.parser) }
+        ensures keeps { OnOk result (Keeps self.old.parser.module.table self.new.parser.module.table) }
         ensures place { OnOk result (self.new.place ≡ self.old.place + 1) }
     {
         let place = self.place;
@@ -110,6 +118,7 @@ impl Text {
         requires few { self.old.place + 1 < 2 ^ 64 }
         ensures takes { Takes (after_token_and_byte self.old (tokens.at first (token_in self.old.parser.names token)) byte) self.new result }
         ensures reading { OnOk result (IsReading self.new.parser) }
+        ensures keeps { OnOk result (Keeps self.old.parser.module.table self.new.parser.module.table) }
         ensures place { OnOk result (self.new.place ≡ self.old.place + 1) }
     {
         match self.parser.advance(first, token) {
@@ -124,6 +133,7 @@ impl Text {
         requires few { self.old.place + 1 < 2 ^ 64 }
         ensures takes { Takes (after_token_and_byte self.old (tokens.at first (tokens.word_token self.old.word.items)) byte) self.new result }
         ensures reading { OnOk result (IsReading self.new.parser) }
+        ensures keeps { OnOk result (Keeps self.old.parser.module.table self.new.parser.module.table) }
         ensures place { OnOk result (self.new.place ≡ self.old.place + 1) }
     {
         match self.parser.word(first, &self.word) {
@@ -138,6 +148,7 @@ impl Text {
         requires few { self.old.place + 1 < 2 ^ 64 }
         ensures takes { Takes (reading.read_byte (inside self.old) byte) self.new result }
         ensures reading { OnOk result (IsReading self.new.parser) }
+        ensures keeps { OnOk result (Keeps self.old.parser.module.table self.new.parser.module.table) }
         ensures place { OnOk result (self.new.place ≡ self.old.place + 1) }
     {
         match self.pending {
@@ -196,6 +207,7 @@ impl Text {
         requires few { self.old.place + 1 < 2 ^ 64 }
         ensures takes { Takes (after_byte_in self.old (tokens.take_byte (tokens.InWord first self.old.word.items) self.old.place byte)) self.new result }
         ensures reading { OnOk result (IsReading self.new.parser) }
+        ensures keeps { OnOk result (Keeps self.old.parser.module.table self.new.parser.module.table) }
         ensures place { OnOk result (self.new.place ≡ self.old.place + 1) }
     {
         if is_word_byte(byte) {
@@ -444,6 +456,7 @@ impl Text {
         requires few { self.old.place + length piece.now < 2 ^ 64 }
         ensures takes { Takes (reading.read_bytes (inside self.old) piece.now) self.new result }
         ensures reading { OnOk result (IsReading self.new.parser) }
+        ensures keeps { OnOk result (Keeps self.old.parser.module.table self.new.parser.module.table) }
     {
         let mut rest = piece;
         while !rest.is_empty() {
@@ -457,6 +470,7 @@ impl Text {
     pub(crate) fn new(alloc: Global) -> Result<Text, Memory>
         ensures inside { IfOk result (λ t. inside t ≡ reading.Inside (length prelude) tokens.Nothing [] reading.Between) }
         ensures reading { IfOk result (λ t. IsReading t.parser) }
+        ensures first { IfOk result (λ t. IsFirst t.parser) }
     {
         let parser = Parser::new(alloc)?;
         Ok(Text {
@@ -465,6 +479,14 @@ impl Text {
             word: Vec::new(alloc),
             place: PRELUDE.len() as u64,
         })
+    }
+
+    /// Puts a table in the place of its own, and that one in its place.
+    pub(crate) fn exchange(&mut self, table: &mut LpTable)
+        ensures text { self.new ≡ with_table self.old table.old }
+        ensures table { table.new ≡ self.old.parser.module.table }
+    {
+        std::mem::swap(&mut self.parser.module.table, table);
     }
 
     /// How many bytes the word has that is open.

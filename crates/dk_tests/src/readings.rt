@@ -41,6 +41,20 @@ names = ["first_name", "x"]
 comes = "18, none"
 
 [[test]]
+name = "a_text_makes_no_tree_over_the_table_of_its_module"
+by = "again"
+pieces = [4096]
+limits = [4294967296]
+
+[[test.case]]
+texts.after = "c : term bool. def d : term bool := c. thm e : x : term bool -> proof (eq bool x x) := x : term bool => refl bool x."
+comes = "0, symbol c, def d, thm e"
+
+[[test.case]]
+texts.after = ""
+comes = "0"
+
+[[test]]
 name = "the_signature_alone_reads_as_no_declaration"
 pieces = [1]
 

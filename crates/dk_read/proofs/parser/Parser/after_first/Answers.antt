@@ -3,6 +3,7 @@ use Rattle.dk_read.specs.Names.{name_at}
 use Rattle.dk_read.specs.States.{before, frames_of, head_of, token_in}
 use Rattle.dk_read.proofs.Meanings.{after_unknown}
 use Rattle.dk_read.proofs.Declared.{becomes_as, first_ordered, first_applies, token-Grows, IsTokenKnown-longer}
+use Rattle.dk_read.proofs.Kept.{kept_on}
 use Rattle.dk_read.proofs.parser.Parser.after_first.Goals as goal
 
 pub apply-requires : goal.apply-requires
@@ -30,6 +31,7 @@ returns-in-Ok c =
           (token-Grows old.names one.names c.args.token grows.names.stays c.requires.token))
           c.apply.ensures.becomes;
       ready = c.apply.ensures.ready;
+      keeps = kept_on c.apply.result c.apply.new.self.module.table grows.keeps c.apply.ensures.keeps;
     }
 
 pub returns-in-Err : goal.returns-in-Err
@@ -39,4 +41,5 @@ returns-in-Err c =
       becomes = after_unknown (before old) (head_of old) (frames_of old) c.args.first c.args.place (name_at old.names c.args.name)
           (token_in old.names c.args.token) c.meaning.new.self c.in-Err.stop c.in-Err.ensures.means;
       ready = tt;
+      keeps = tt;
     }

@@ -6,6 +6,7 @@ use Rattle.dk_laws.specs.ReadingOrder.{IsState}
 use Rattle.dk_read.specs.declared.terms.State.TheVariants as state
 use Rattle.dk_read.specs.States.{before, frames_of, head_of, state_in, token_in, tree_in, IsIdKnown}
 use Rattle.dk_read.proofs.Declared.{becomes_as, grown_atom, name_applies, type_applies, held_is, sign_after, nothing_applies}
+use Rattle.dk_read.proofs.Kept.{kept_on}
 use Rattle.dk_read.proofs.parser.Parser.apply.Goals as goal
 
 pub returns-in_ok-atom-in-Name-clause-becomes : goal.returns-in_ok-atom-in-Name-clause-becomes
@@ -48,6 +49,7 @@ returns-in-Some c =
           (ap (λ f. reading.applies (before p) (head_of p) (frames_of p) (tree_in p.module.table f) c.args.place (token_in p.names c.args.token)) c.in-Some.is)
           c.end_application.ensures.becomes;
       ready = c.end_application.ensures.ready;
+      keeps = c.end_application.ensures.keeps;
     }
 
 pub returns-in-None : goal.returns-in-None
@@ -59,4 +61,12 @@ returns-in-None c =
           ∙ nothing_applies (before p) (head_of p) (frames_of p) c.args.place p.names c.args.token
           (sign_after c.args.token c.in_default.not-Name c.in_default.not-TypeWord c.in_default.not-LeftParen);
       ready = tt;
+      keeps = tt;
     }
+
+pub returns-in_ok-atom-in-Name-clause-keeps : goal.returns-in_ok-atom-in-Name-clause-keeps
+returns-in_ok-atom-in-Name-clause-keeps c = kept_on c.argue.result c.argue.new.self.module.table c.meaning.ensures.grows.keeps c.argue.ensures.keeps
+
+pub returns-in_ok-atom-in-TypeWord-clause-keeps : goal.returns-in_ok-atom-in-TypeWord-clause-keeps
+returns-in_ok-atom-in-TypeWord-clause-keeps c = kept_on c.argue-in-TypeWord.result c.argue-in-TypeWord.new.self.module.table c.node.ensures.grows.keeps
+    c.argue-in-TypeWord.ensures.keeps

@@ -2,6 +2,7 @@ use Rattle.std.proofs.Common.{◌∙◌, ap}
 use Rattle.dk_read.specs.declared.terms.Head.TheVariants as head
 use Rattle.dk_read.specs.States.{tree_in}
 use Rattle.dk_read.proofs.Declared.{becomes_as, symbol_may, symbol_declares, body_may, body_declares}
+use Rattle.dk_read.proofs.Kept.{kept_on}
 use Rattle.dk_read.proofs.parser.Parser.declare.Goals as goal
 
 pub push-requires-clause-follows : goal.push-requires-clause-follows
@@ -40,3 +41,10 @@ returns-in_ok-name-in-BodyOf-clause-becomes c =
     c.in_ok-tree.ensures.same.0 c.in_ok-tree.ensures.same.1
     c.in-BodyOf.form c.in-BodyOf.number c.in-BodyOf.ty c.in_ok-name-in-BodyOf.name c.args.place c.in-BodyOf.is c.in_ok-name-in-BodyOf.ensures)
     c.push-in-BodyOf.ensures.becomes
+
+pub returns-in_ok-name-in-Symbol-clause-keeps : goal.returns-in_ok-name-in-Symbol-clause-keeps
+returns-in_ok-name-in-Symbol-clause-keeps c = kept_on c.push.result c.push.new.self.module.table c.in_ok-tree.ensures.keeps c.push.ensures.keeps
+
+pub returns-in_ok-name-in-BodyOf-clause-keeps : goal.returns-in_ok-name-in-BodyOf-clause-keeps
+returns-in_ok-name-in-BodyOf-clause-keeps c = kept_on c.push-in-BodyOf.result c.push-in-BodyOf.new.self.module.table c.in_ok-tree.ensures.keeps
+    c.push-in-BodyOf.ensures.keeps

@@ -9,4 +9,5 @@ returns-in-Symbol c = record {
   becomes = names_taken c.args.self.now c.args.form c.args.place c.args.name c.meaning.result c.requires.sound c.requires.closed c.meaning.ensures
       c.in-Symbol.is;
   ready = tt;
+  keeps = tt;
 }

@@ -1,4 +1,5 @@
 use Rattle.std.proofs.Common.{◌∙◌, subst}
+use Rattle.lp_term.specs.TableLaws.{Keeps-refl}
 use Rattle.dk_read.specs.declared.terms.State.TheVariants as state
 use Rattle.dk_read.specs.declared.terms.Token.TheVariants as token
 use Rattle.dk_read.specs.Names.{name_at}
@@ -22,12 +23,14 @@ returns-in-InApplication c = record {
   becomes = becomes_as _ _ c.apply.new.self c.apply.result
       (at_state c.args.self.now (state.InApplication c.in-InApplication.function) c.args.place c.args.token c.in-InApplication.is) c.apply.ensures.becomes;
   ready = c.apply.ensures.ready;
+  keeps = c.apply.ensures.keeps;
 }
 
 pub returns-in-Name : goal.returns-in-Name
 returns-in-Name c = record {
   becomes = at_token c.args.self.now state.AtTerm c.args.place c.args.token (token.Name c.in-Name.name) c.in-AtTerm.is c.in-Name.is;
   ready = record { sound = c.requires.reading.ready.sound; known = subst (IsTokenKnown c.args.self.now.names) c.in-Name.is c.requires.token };
+  keeps = Keeps-refl c.args.self.now.module.table;
 }
 
 pub returns-in_default : goal.returns-in_default
@@ -38,6 +41,7 @@ returns-in_default c =
           (at_state p state.AtTerm c.args.place c.args.token c.in-AtTerm.is
           ∙ term_begins (before p) (head_of p) (frames_of p) c.args.place p.names c.args.token c.in_default.not-Name) c.apply-in_default.ensures.becomes;
       ready = c.apply-in_default.ensures.ready;
+      keeps = c.apply-in_default.ensures.keeps;
     }
 
 pub returns-in_default-token : goal.returns-in_default-token
@@ -46,6 +50,7 @@ returns-in_default-token c = record {
       (first_becomes c.args.self.now c.args.self.now.state c.in-AfterFirst.first c.args.place c.in-AfterFirst.name c.args.token c.in-AfterFirst.is
       (no_colon c.args.token c.in_default-token.not-Colon)) c.after_first.ensures.becomes;
   ready = c.after_first.ensures.ready;
+  keeps = c.after_first.ensures.keeps;
 }
 
 pub returns-in-Between : goal.returns-in-Between
@@ -53,6 +58,7 @@ returns-in-Between c = record {
   becomes = becomes_as _ _ c.begin.new.self c.begin.result (at_state c.args.self.now state.Between c.args.place c.args.token c.in-Between.is)
       c.begin.ensures.becomes;
   ready = c.begin.ensures.ready;
+  keeps = c.begin.ensures.keeps;
 }
 
 pub returns-in-Name-token : goal.returns-in-Name-token
@@ -61,6 +67,7 @@ returns-in-Name-token c = record {
       (at_token c.args.self.now (state.AfterKeyword c.in-AfterKeyword.form) c.args.place c.args.token (token.Name c.in-Name-token.name) c.in-AfterKeyword.is
       c.in-Name-token.is) c.name.ensures.becomes;
   ready = c.name.ensures.ready;
+  keeps = c.name.ensures.keeps;
 }
 
 pub returns-in_default-token-2 : goal.returns-in_default-token-2
@@ -70,6 +77,7 @@ returns-in_default-token-2 c =
       becomes = at_state p (state.AfterKeyword c.in-AfterKeyword.form) c.args.place c.args.token c.in-AfterKeyword.is
           ∙ name_wanted (before p) c.in-AfterKeyword.form c.args.place p.names c.args.token c.in_default-token-2.not-Name;
       ready = tt;
+      keeps = tt;
     }
 
 pub returns-in_default-token-3 : goal.returns-in_default-token-3
@@ -79,4 +87,5 @@ returns-in_default-token-3 c =
       becomes = at_state p (state.AfterName c.in-AfterName.form c.in-AfterName.name) c.args.place c.args.token c.in-AfterName.is
           ∙ colon_wanted (before p) c.in-AfterName.form (name_at p.names c.in-AfterName.name) c.args.place p.names c.args.token c.in_default-token-3.not-Colon;
       ready = tt;
+      keeps = tt;
     }

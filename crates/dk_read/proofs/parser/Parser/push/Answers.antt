@@ -9,6 +9,7 @@ use Rattle.holide_sig.specs.ModuleLaws.{symbols-length}
 use Rattle.dk_read.specs.States.{AreOf, AreOfSymbols, AreAtoms, IsSoundIn}
 use Rattle.dk_read.proofs.Grown.{AreOfSymbols-push, with_atoms}
 use Rattle.dk_read.proofs.Bindings.{declared_in}
+use Rattle.dk_read.proofs.Kept.{kept_same}
 use Rattle.dk_read.proofs.parser.Parser.push.Goals as goal
 
 pub returns-clause-ready : goal.returns-clause-ready
@@ -32,3 +33,6 @@ returns-clause-ready c =
           (with_atoms c.push.new.self c.put.new.self p.nameless p.atoms c.make_place.new.self p.binders p.head [] atoms declared);
       known = c.requires.closed;
     }
+
+pub returns-clause-keeps : goal.returns-clause-keeps
+returns-clause-keeps c = kept_same c.in_ok-push.ensures.table

@@ -13,6 +13,7 @@ returns-in-40 c =
           (ap (λ b. reading.after_byte (old.place + 1) (before old.parser) (state_of old.parser) (tokens.begins old.place b)) c.in-40.is) c.wait.ensures.takes;
       reading = c.wait.ensures.reading;
       place = c.wait.ensures.place;
+      keeps = c.wait.ensures.keeps;
     }
 
 pub returns-in-41 : goal.returns-in-41
@@ -24,6 +25,7 @@ returns-in-41 c =
           c.end_token.ensures.takes;
       reading = c.end_token.ensures.reading;
       place = c.end_token.ensures.place;
+      keeps = c.end_token.ensures.keeps;
     }
 
 pub returns-in-58 : goal.returns-in-58
@@ -35,6 +37,7 @@ returns-in-58 c =
           c.wait-in-58.ensures.takes;
       reading = c.wait-in-58.ensures.reading;
       place = c.wait-in-58.ensures.place;
+      keeps = c.wait-in-58.ensures.keeps;
     }
 
 pub returns-in-45 : goal.returns-in-45
@@ -46,6 +49,7 @@ returns-in-45 c =
           c.wait-in-45.ensures.takes;
       reading = c.wait-in-45.ensures.reading;
       place = c.wait-in-45.ensures.place;
+      keeps = c.wait-in-45.ensures.keeps;
     }
 
 pub returns-in-61 : goal.returns-in-61
@@ -57,6 +61,7 @@ returns-in-61 c =
           c.wait-in-61.ensures.takes;
       reading = c.wait-in-61.ensures.reading;
       place = c.wait-in-61.ensures.place;
+      keeps = c.wait-in-61.ensures.keeps;
     }
 
 pub returns-in-46 : goal.returns-in-46
@@ -68,4 +73,5 @@ returns-in-46 c =
           c.end_token-in-46.ensures.takes;
       reading = c.end_token-in-46.ensures.reading;
       place = c.end_token-in-46.ensures.place;
+      keeps = c.end_token-in-46.ensures.keeps;
     }

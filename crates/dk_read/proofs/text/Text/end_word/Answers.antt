@@ -4,6 +4,7 @@ use Rattle.lp_spec.specs.ReadingFaults as reading
 use Rattle.dk_read.specs.States.{before, state_of}
 use Rattle.dk_read.proofs.Bytes.{token_stops, token_goes}
 use Rattle.dk_read.proofs.Declared.{becomes_as}
+use Rattle.dk_read.proofs.Kept.{kept_on}
 use Rattle.dk_read.proofs.text.Text.end_word.Goals as goal
 
 pub returns-in-Err : goal.returns-in-Err
@@ -17,6 +18,7 @@ returns-in-Err c =
           (becomes_as _ _ c.word.new.self (Err c.in-Err.stop) same c.in-Err.ensures.becomes);
       reading = tt;
       place = tt;
+      keeps = tt;
     }
 
 pub returns-in-Ok : goal.returns-in-Ok
@@ -28,4 +30,5 @@ returns-in-Ok c =
           c.begin.new.self c.begin.result (same ∙ c.in-Ok.ensures.becomes) c.begin.ensures.takes;
       reading = c.begin.ensures.reading;
       place = c.begin.ensures.place;
+      keeps = kept_on c.begin.result c.begin.new.self.parser.module.table c.in-Ok.ensures.keeps c.begin.ensures.keeps;
     }

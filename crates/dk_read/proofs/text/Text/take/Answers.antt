@@ -10,6 +10,7 @@ returns-in-Nothing c =
       takes = next_does old c.begin.new.self pending.Nothing c.args.byte _ c.begin.result c.in-Nothing.is refl c.begin.ensures.takes;
       reading = c.begin.ensures.reading;
       place = c.begin.ensures.place;
+      keeps = c.begin.ensures.keeps;
     }
 
 pub returns-in-InWord : goal.returns-in-InWord
@@ -19,6 +20,7 @@ returns-in-InWord c =
       takes = next_does old c.in_word.new.self (pending.InWord c.in-InWord.first) c.args.byte _ c.in_word.result c.in-InWord.is refl c.in_word.ensures.takes;
       reading = c.in_word.ensures.reading;
       place = c.in_word.ensures.place;
+      keeps = c.in_word.ensures.keeps;
     }
 
 pub returns-then-byte-eq61 : goal.returns-then-byte-eq61
@@ -29,6 +31,7 @@ returns-then-byte-eq61 c =
           (AfterColon-assign c.in-AfterColon.first old.place c.args.byte c.if-byte-eq61.true) c.end_token.ensures.takes;
       reading = c.end_token.ensures.reading;
       place = c.end_token.ensures.place;
+      keeps = c.end_token.ensures.keeps;
     }
 
 pub returns-else-byte-eq61 : goal.returns-else-byte-eq61
@@ -39,6 +42,7 @@ returns-else-byte-eq61 c =
           (AfterColon-other c.in-AfterColon.first old.place c.args.byte c.if-byte-eq61.false) c.end_and_begin.ensures.takes;
       reading = c.end_and_begin.ensures.reading;
       place = c.end_and_begin.ensures.place;
+      keeps = c.end_and_begin.ensures.keeps;
     }
 
 pub returns-then-byte-eq62 : goal.returns-then-byte-eq62
@@ -49,6 +53,7 @@ returns-then-byte-eq62 c =
           c.in-AfterMinus.is (AfterMinus-arrow c.in-AfterMinus.first old.place c.args.byte c.if-byte-eq62.true) c.end_token-then-byte-eq62.ensures.takes;
       reading = c.end_token-then-byte-eq62.ensures.reading;
       place = c.end_token-then-byte-eq62.ensures.place;
+      keeps = c.end_token-then-byte-eq62.ensures.keeps;
     }
 
 pub returns-else-byte-eq62 : goal.returns-else-byte-eq62
@@ -60,6 +65,7 @@ returns-else-byte-eq62 c =
           (AfterMinus-other c.in-AfterMinus.first old.place c.args.byte c.if-byte-eq62.false) c.stuck.ensures;
       reading = tt;
       place = tt;
+      keeps = tt;
     }
 
 pub returns-then-byte-eq62-2 : goal.returns-then-byte-eq62-2
@@ -70,6 +76,7 @@ returns-then-byte-eq62-2 c =
           c.in-AfterEquals.is (AfterEquals-arrow c.in-AfterEquals.first old.place c.args.byte c.if-byte-eq62-2.true) c.end_token-then-byte-eq62-2.ensures.takes;
       reading = c.end_token-then-byte-eq62-2.ensures.reading;
       place = c.end_token-then-byte-eq62-2.ensures.place;
+      keeps = c.end_token-then-byte-eq62-2.ensures.keeps;
     }
 
 pub returns-else-byte-eq62-2 : goal.returns-else-byte-eq62-2
@@ -81,6 +88,7 @@ returns-else-byte-eq62-2 c =
           (AfterEquals-other c.in-AfterEquals.first old.place c.args.byte c.if-byte-eq62-2.false) c.stuck-else-byte-eq62-2.ensures;
       reading = tt;
       place = tt;
+      keeps = tt;
     }
 
 pub returns-then-byte-eq59 : goal.returns-then-byte-eq59
@@ -91,6 +99,7 @@ returns-then-byte-eq59 c =
           (AfterParen-comment c.in-AfterParen.first old.place c.args.byte c.if-byte-eq59.true) c.wait.ensures.takes;
       reading = c.wait.ensures.reading;
       place = c.wait.ensures.place;
+      keeps = c.wait.ensures.keeps;
     }
 
 pub returns-else-byte-eq59 : goal.returns-else-byte-eq59
@@ -102,6 +111,7 @@ returns-else-byte-eq59 c =
           c.end_and_begin-else-byte-eq59.ensures.takes;
       reading = c.end_and_begin-else-byte-eq59.ensures.reading;
       place = c.end_and_begin-else-byte-eq59.ensures.place;
+      keeps = c.end_and_begin-else-byte-eq59.ensures.keeps;
     }
 
 pub returns-then-byte-eq59-2 : goal.returns-then-byte-eq59-2
@@ -112,6 +122,7 @@ returns-then-byte-eq59-2 c =
           c.in-InComment.is (InComment-semicolon c.in-InComment.first old.place c.args.byte c.if-byte-eq59-2.true) c.wait-then-byte-eq59-2.ensures.takes;
       reading = c.wait-then-byte-eq59-2.ensures.reading;
       place = c.wait-then-byte-eq59-2.ensures.place;
+      keeps = c.wait-then-byte-eq59-2.ensures.keeps;
     }
 
 pub returns-else-byte-eq59-2 : goal.returns-else-byte-eq59-2
@@ -122,6 +133,7 @@ returns-else-byte-eq59-2 c =
           c.in-InComment.is (InComment-other c.in-InComment.first old.place c.args.byte c.if-byte-eq59-2.false) c.wait-else-byte-eq59-2.ensures.takes;
       reading = c.wait-else-byte-eq59-2.ensures.reading;
       place = c.wait-else-byte-eq59-2.ensures.place;
+      keeps = c.wait-else-byte-eq59-2.ensures.keeps;
     }
 
 pub returns-then-byte-eq41 : goal.returns-then-byte-eq41
@@ -132,6 +144,7 @@ returns-then-byte-eq41 c =
           c.in-AfterSemicolon.is (AfterSemicolon-end c.in-AfterSemicolon.first old.place c.args.byte c.if-byte-eq41.true) c.wait-then-byte-eq41.ensures.takes;
       reading = c.wait-then-byte-eq41.ensures.reading;
       place = c.wait-then-byte-eq41.ensures.place;
+      keeps = c.wait-then-byte-eq41.ensures.keeps;
     }
 
 pub returns-then-byte-eq59-3 : goal.returns-then-byte-eq59-3
@@ -143,6 +156,7 @@ returns-then-byte-eq59-3 c =
           c.wait-then-byte-eq59-3.ensures.takes;
       reading = c.wait-then-byte-eq59-3.ensures.reading;
       place = c.wait-then-byte-eq59-3.ensures.place;
+      keeps = c.wait-then-byte-eq59-3.ensures.keeps;
     }
 
 pub returns-else-byte-eq59-3 : goal.returns-else-byte-eq59-3
@@ -154,4 +168,5 @@ returns-else-byte-eq59-3 c =
           c.wait-else-byte-eq59-3.ensures.takes;
       reading = c.wait-else-byte-eq59-3.ensures.reading;
       place = c.wait-else-byte-eq59-3.ensures.place;
+      keeps = c.wait-else-byte-eq59-3.ensures.keeps;
     }

@@ -14,7 +14,7 @@ returns-in-Ok c =
     let new : Text = record { parser = c.advance.new.self; pending = old.pending; word = old.word; place = old.place + c.args.count } in
     record {
       takes = took_sign old c.args.piece.now c.args.count c.args.token r.pending r.signs new c.in-Ok.ensures.becomes r.pending refl
-          c.in-Ok.ensures.reading;
+          c.in-Ok.ensures.reading c.in-Ok.ensures.keeps;
     }
 
 pub returns-in-Err : goal.returns-in-Err

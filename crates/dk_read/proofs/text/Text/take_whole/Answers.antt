@@ -10,7 +10,7 @@ returns-in-Ok c =
     let new : Text = record { parser = c.word.new.self; pending = old.pending; word = old.word; place = old.place + c.args.count } in
     record {
       takes = ended_word old c.args.piece.now c.args.count r.pending r.count r.some r.letter r.ends new c.in-Ok.ensures.becomes r.pending refl
-          c.in-Ok.ensures.reading;
+          c.in-Ok.ensures.reading c.in-Ok.ensures.keeps;
     }
 
 pub returns-in-Err : goal.returns-in-Err
