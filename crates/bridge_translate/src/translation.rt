@@ -62,31 +62,34 @@ pub fn translation_of<H: Shelf>(
     ensures count { H.faults shelf.old ≤ H.faults shelf.new }
 {
     let machine = read_articles(alloc, files, shelf)?;
-    let made = translated(alloc, files, &machine, share);
-    drop(machine);
-    match made {
+    match translated(alloc, files, machine, share) {
         Ok(translation) => Ok(translation),
         Err(Memory) => Err(Stop::Memory),
     }
 }
 
-// The module of the run at whose end the machine is, with its bounds and what is counted.
+// The module of the run at whose end the machine is, with its bounds and what is counted. The machine is let go before anything is weighed.
 fn translated(
     alloc: Global,
     files: &[String],
-    machine: &Machine,
+    machine: Machine,
     share: bool,
 ) -> Result<Translation, Memory>
-    requires { (told : Option Files) × IsRunOf told (names_in files.now) (accepted_state machine.now) }
-    ensures { IfOk result (IsTranslationOf share (length (names_in files.now)) (accepted_state machine.now)) }
+    requires { (told : Option Files) × IsRunOf told (names_in files.now) (accepted_state machine) }
+    ensures { IfOk result (IsTranslationOf share (length (names_in files.now)) (accepted_state machine)) }
 {
-    let made = module_of(alloc, machine, share)?;
+    let articles = files.len() as u64;
+    let assumptions = machine.assumptions().len() as u64;
+    let exports = machine.exports().len() as u64;
+    let image = module_of(alloc, &machine, share);
+    drop(machine);
+    let made = image?;
     match bounds_of(alloc, &made) {
         Ok(bounds) => {
             let counts = Counts {
-                articles: files.len() as u64,
-                assumptions: machine.assumptions().len() as u64,
-                exports: machine.exports().len() as u64,
+                articles,
+                assumptions,
+                exports,
                 declarations: made.decls.len() as u64,
                 bounds: total(&made, &bounds),
             };

@@ -10,7 +10,7 @@ use Rattle.bridge_translate.proofs.translation.translated.Goals as goal
 
 pub returns-in-Ok : goal.returns-in-Ok
 returns-in-Ok c =
-    let run : Accepted = accepted_state c.args.machine.now in
+    let run : Accepted = accepted_state c.args.machine in
     let declared : declarations_of c.in_ok-made.made ≡ module_of c.args.share run = c.in_ok-made.ensures.module in
     let bounds : c.in-Ok.bounds.items ≡ module_bounds c.args.share run = c.in-Ok.ensures ∙ ap (λ m. map (bound m) m) declared in
     record {
