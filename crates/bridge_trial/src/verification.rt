@@ -26,9 +26,9 @@ pub(crate) fn verified(alloc: Global, n: u64) -> Result<Counts, Answer>
     ensures accepted { OnOk result ((run : Accepted) × IsRunOfTrial n run × PassBelow true (image run) (length (image run))) }
     ensures memory { IfErr result (λ answer. answer ≡ Answer.Memory) }
 {
-    let translation = translated(alloc, n)?;
-    let checked = check_back(alloc, &translation, false);
+    let mut translation = translated(alloc, n)?;
     let counts = translation.counts;
+    let checked = check_back(alloc, &mut translation, false);
     drop(translation);
     match checked {
         Ok(()) => Ok(counts),

@@ -56,17 +56,18 @@ module _ (share : Bool) (articles : ℕ) (run : Accepted) (t : Translation) (h :
   pub gathered-Reads : (text : List ℕ) → text ≡ written (declarations_of t.module) t.bounds.items → Reads text (module_of share run)
   gathered-Reads text e = subst (λ text. Reads text (module_of share run)) (sym (e ∙ written-module_text share articles run t h)) good.reads
 
-  module _ (back : Module) (same : declarations_of back ≡ module_of share run) (budgets : List ℕ) (are : budgets ≡ t.bounds.items) where
-    length-back : length back.decls ≡ length (module_of share run)
-    length-back = sym (length-map back.decls (declaration_in back.table)) ∙ ap length same
+module _ (share : Bool) (run : Accepted) (good : Headline share run) (back : Module) (same : declarations_of back ≡ module_of share run) (budgets : List ℕ)
+    (are : budgets ≡ module_bounds share run) where
+  length-back : length back.decls ≡ length (module_of share run)
+  length-back = sym (length-map back.decls (declaration_in back.table)) ∙ ap length same
 
-    -- there is a budget for each declaration of what was read back
-    pub length-budgets : length budgets ≡ length back.decls
-    length-budgets = ap length (are ∙ h.bounds) ∙ length-map (module_of share run) (bound (module_of share run)) ∙ sym length-back
+  -- there is a budget for each declaration of what was read back
+  pub length-budgets : length budgets ≡ length back.decls
+  length-budgets = ap length are ∙ length-map (module_of share run) (bound (module_of share run)) ∙ sym length-back
 
-    -- the check of each declaration of it says yes within its budget
-    pub back-PassWithin : PassWithin true (declarations_of back) budgets (length back.decls)
-    back-PassWithin =
-        subst (λ m. PassWithin true m budgets (length back.decls)) (sym same)
-        (subst (λ bounds. PassWithin true (module_of share run) bounds (length back.decls)) (sym (are ∙ h.bounds))
-        (subst (PassWithin true (module_of share run) (module_bounds share run)) (sym length-back) (module-PassWithin share run good)))
+  -- the check of each declaration of it says yes within its budget
+  pub back-PassWithin : PassWithin true (declarations_of back) budgets (length back.decls)
+  back-PassWithin =
+      subst (λ m. PassWithin true m budgets (length back.decls)) (sym same)
+      (subst (λ bounds. PassWithin true (module_of share run) bounds (length back.decls)) (sym are)
+      (subst (PassWithin true (module_of share run) (module_bounds share run)) (sym length-back) (module-PassWithin share run good)))

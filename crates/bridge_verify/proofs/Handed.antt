@@ -33,8 +33,8 @@ module _ (d : List Declaration) (bounds : List ℕ) where
       ∙ ap (λ l. l ++ rest) (text_before-next d bounds i ∙ ap (λ l. text_before d bounds i ++ l) (sym e))) reads
 
   -- a reader that was fed the prelude was fed the text up to the first declaration
-  pub fed-prelude : (old new : Reading) (text : List ℕ) → text ≡ prelude → IsFed old [] → Feeds old text new → IsFed new (text_before d bounds 0)
-  fed-prelude old new text e fed feeds = subst (IsFed new) (e ∙ sym (text_before-first d bounds)) (feeds [] fed)
+  pub fed-first : (r : Reading) → IsFed r prelude → IsFed r (text_before d bounds 0)
+  fed-first r fed = subst (IsFed r) (sym (text_before-first d bounds)) fed
 
   -- a reader that was fed the text up to a declaration was fed its line
   pub fed-line : (old new : Reading) (i : ℕ) (line : List ℕ) → line ≡ line_at d bounds i → IsFed old (text_before d bounds i) → Feeds old line new

@@ -1,3 +1,4 @@
 mod Checked
 mod FastBounds
 mod Handed
+pub mod Stays

@@ -3,6 +3,7 @@ ghost use Rattle.std.specs.Prelude.{◌≡◌, Bool, IfOk, map, length, false};
 ghost use Rattle.hol_spec.specs.Proofs.{Accepted};
 ghost use Rattle.lp_spec.specs.ModuleOrder.{IsModule};
 ghost use Rattle.lp_spec.specs.FastCheck.{fast_bound};
+ghost use Rattle.lp_conv.specs.Growth.{Grows};
 ghost use Rattle.lp_kernel.specs.Checks.{PassBelow};
 ghost use Rattle.lp_kernel.specs.declared.checks.Verdict.TheVariants as verdict;
 ghost use Rattle.holide_sig.specs.Modules.{declarations_of, IsHeld};
@@ -22,6 +23,7 @@ pub(crate) fn checked_fast(alloc: Global, back: &mut Module) -> Result<Verdict, 
     requires is_module { IsModule (declarations_of back.old) }
     ensures accepts { IfOk result (λ v. v ≡ verdict.Accepted) }
     ensures pass { IfOk result (λ v. v ≡ verdict.Accepted → PassBelow false (declarations_of back.old) (length (declarations_of back.old))) }
+    ensures grows { IfOk result (λ v. Grows back.old back.new) }
 {
     let bounds = fast_bounds(alloc, back)?;
     check_fast(alloc, back, &bounds)

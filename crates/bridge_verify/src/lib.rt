@@ -3,8 +3,8 @@
 //!
 //! [`verify`] is the call of these words. Its contract is that of the program for these words, in the words of `bridge_spec`: it answers Done
 //! exactly where the stack machine accepts the articles. Before anything is written the text of the module is read again, declaration by
-//! declaration, so that the text of one is held at a time; and the module that it reads as is checked, each declaration within its bound,
-//! with rechecks of sorts or, where it is to be fast, without.
+//! declaration, so that the text of one is held at a time, over the table in which the module was made; and the module that it reads as is
+//! checked, each declaration within its bound, with rechecks of sorts or, where it is to be fast, without.
 //! That the reading refuses nothing, and that the check says yes, is proved; the call does it all the same, would say what it found, and
 //! says `verified` by the check's own verdict. [`check_back`] is that part alone, for `trial`.
 //!

@@ -35,7 +35,7 @@ pub fn verify<H: Shelf, O: Sink, N: Sink>(
         (sunk O.got O.faults out.old out.new) (sunk N.got N.faults note.old note.new)) result }
 {
     match translation_of(alloc, files, share, shelf) {
-        Ok(translation) => match check_back(alloc, &translation, fast) {
+        Ok(mut translation) => match check_back(alloc, &mut translation, fast) {
             Ok(()) => deliver_verified(alloc, &translation, out, note),
             Err(answer) => deliver(answer, out, note),
         },

@@ -9,4 +9,5 @@ check_back-checked-requires c = let t = c.in_ok-translation.ensures.translated i
 pub returns-in-Ok-clause-accepted : goal.returns-in-Ok-clause-accepted
 returns-in-Ok-clause-accepted c =
     let t = c.in_ok-translation.ensures.translated in
-    (t.0, t.1, subst (λ m. PassBelow true m (length m)) t.2.declared c.in-Ok.ensures.accepted)
+    let still = c.in-Ok.ensures.translated false 1 t.0 t.2 in
+    (t.0, t.1, subst (λ m. PassBelow true m (length m)) still.declared c.in-Ok.ensures.accepted)

@@ -1,5 +1,4 @@
 use Rattle.std.proofs.Common.{sym}
-use Rattle.bridge_verify.proofs.Handed.{IsWithin-None}
 use Rattle.bridge_verify.proofs.checking.ended.Goals as goal
 
 pub returns-in-Ok-clause-read : goal.returns-in-Ok-clause-read
@@ -7,6 +6,4 @@ returns-in-Ok-clause-read c text m fed reads = sym ((c.in-Ok.ensures.reads text 
 
 pub returns-in-Err-clause-memory : goal.returns-in-Err-clause-memory
 returns-in-Err-clause-memory c =
-    let text = c.requires.reads.0 in
-    c.answer_of.ensures.memory
-    (c.in-Err.ensures.accepts text c.requires.reads.1 c.requires.reads.2 (IsWithin-None c.args.reader.limit text c.requires.free) c.requires.reads.3)
+    c.answer_of.ensures.memory (c.in-Err.ensures.accepts c.requires.reads.0 c.requires.reads.1 c.requires.reads.2 tt c.requires.reads.3)

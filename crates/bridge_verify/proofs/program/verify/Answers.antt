@@ -26,16 +26,23 @@ check_back-requires g c =
 pub deliver_verified-requires-clause-accepted : goal.deliver_verified-requires-clause-accepted
 deliver_verified-requires-clause-accepted g c = (not c.args.fast, c.in-Ok-check_back.ensures.accepted)
 
+pub deliver_verified-requires-clause-held : goal.deliver_verified-requires-clause-held
+deliver_verified-requires-clause-held g c =
+    let t = c.in-Ok.ensures.translated in
+    (c.in-Ok-check_back.ensures.translated c.args.share (length (names_in c.args.files.now)) t.0 t.2).held
+
 pub deliver_verified-requires-clause-bounds : goal.deliver_verified-requires-clause-bounds
 deliver_verified-requires-clause-bounds g c =
     let t = c.in-Ok.ensures.translated in
-    length-bounds c.args.share (length (names_in c.args.files.now)) t.0 c.in-Ok.translation t.2
+    let articles = length (names_in c.args.files.now) in
+    length-bounds c.args.share articles t.0 c.check_back.new.translation (c.in-Ok-check_back.ensures.translated c.args.share articles t.0 t.2)
 
 pub returns-in-Ok-check_back : goal.returns-in-Ok-check_back
 returns-in-Ok-check_back g c =
     let t = c.in-Ok.ensures.translated in
     let names = names_in c.args.files.now in
-    let made = c.in-Ok.translation in
+    let made = c.check_back.new.translation in
+    let still = c.in-Ok-check_back.ensures.translated c.args.share (length names) t.0 t.2 in
     let own = call (Some (verify c.args.share c.args.fast names))
     (shelved g.H.Shelf.told g.H.Shelf.faults g.H.Shelf.begun c.args.shelf.now c.translation_of.new.shelf)
     (sunk g.O.Sink.got g.O.Sink.faults c.args.out.now c.deliver_verified.new.out)
@@ -45,7 +52,7 @@ returns-in-Ok-check_back g c =
       answer = Done;
       out_text = written (declarations_of made.module) made.bounds.items;
       note_text = five_lines (counts_in made.counts) ++ codes "verified\n";
-      answers = (t.0, t.1, written-module_text c.args.share (length names) t.0 made t.2, ap (λ counts. five_lines counts ++ codes "verified\n") t.2.counts);
+      answers = (t.0, t.1, written-module_text c.args.share (length names) t.0 made still, ap (λ counts. five_lines counts ++ codes "verified\n") still.counts);
       begins = c.in-Ok.ensures.all_begun;
       delivered = done;
     })
