@@ -1,2 +1,4 @@
+pub mod AmountLaws
+pub mod Amounts
 pub mod Binding
 pub mod Kinds

@@ -1,5 +1,6 @@
 mod ColumnLaws
 mod MeasuredLaws
+mod PackedLaws
 mod Inserted
 mod Cut
 mod Indexing

@@ -2,6 +2,7 @@ pub mod Tables
 pub mod TableLaws
 pub mod Shapes
 pub mod Measured
+pub mod Packed
 pub mod Columns
 pub mod Indexed
 pub mod Keys

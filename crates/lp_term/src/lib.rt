@@ -26,7 +26,7 @@ mod shape;
 mod shapes;
 mod walk;
 
-use crate::measures::{Measures, push_measures};
+use crate::measures::{Column, Measures, push_measures};
 use crate::memo::{Change, Place};
 use crate::shape::Shape;
 use crate::shapes::Shapes;
@@ -62,7 +62,7 @@ pub enum LpNode {
 pub struct LpTable {
     alloc: Global,
     shapes: Shapes,
-    measures: Vec<Measures>,
+    measures: Column,
 }
 
 impl Model for LpTable {
@@ -79,7 +79,7 @@ impl Model for LpTable {
 
     ghost view = { λ t. trees_of t.shapes };
 
-    ghost invariant = { λ t. IsTable t.shapes t.measures.items };
+    ghost invariant = { λ t. IsTable t.shapes t.measures };
 }
 
 impl LpTable {
@@ -90,7 +90,7 @@ impl LpTable {
         LpTable {
             alloc,
             shapes: Shapes::new(alloc),
-            measures: Vec::new(alloc),
+            measures: Column::new(alloc),
         }
     }
 
@@ -135,7 +135,7 @@ impl LpTable {
         requires { id.0 < length self.now }
         ensures { result ≡ min (size_of (tree_at self.now id.0)) (2 ^ 128 - 1) }
     {
-        self.measures_of(id).size.count()
+        self.measures_of(id).size
     }
 
     /// How many nodes the tree's longest path has, or the greatest number of the type if they are more.
@@ -207,11 +207,11 @@ impl LpTable {
     }
 
     // The measures of a tree.
-    fn measures_of(&self, id: LpId) -> &Measures
+    fn measures_of(&self, id: LpId) -> Measures
         requires { id.0 < length self.now }
-        ensures { IsMeasured result.now (tree_at self.now id.0) }
+        ensures { IsMeasured result (tree_at self.now id.0) }
     {
-        &self.measures[id.0]
+        self.measures.get(id.0)
     }
 
     /// Gives up all trees from the number `len` on. Those below keep their numbers.

@@ -1,20 +1,13 @@
 -- Codes and entries where amounts are put behind the large ones.
-use Rattle.std.proofs.Common.{◌≡◌, ℕ, zero, suc, ◌+◌, ◌-◌, ◌≤◌, ◌^◌, refl, sym, ap, ◌∙◌, subst, arith, List, [], ◌∷◌, ◌++◌, length, map, Bool, true, false, Some, get_or, inl, inr, ◌⊎◌, ⊎_elim}
-use Rattle.std.specs.Prelude.{nat_lt, slice_get, if◌then◌else◌}
+use Rattle.std.proofs.Common.{◌≡◌, ℕ, zero, suc, ◌≤◌, refl, sym, ap, ◌∙◌, subst, arith, List, [], ◌∷◌, ◌++◌, length, map, Some, inl, inr, ◌⊎◌, ⊎_elim}
+use Rattle.std.specs.Prelude.{slice_get}
 use Rattle.std.proofs.Math.Path.{ap₂}
-use Rattle.std.proofs.lemmas.List.{length-append, get_or_append_left, get_or-append-add, map-append}
+use Rattle.std.proofs.lemmas.List.{map-append}
 use Rattle.lp_weight.specs.declared.column.Entry.{Entry}
 use Rattle.lp_weight.specs.declared.column.Spread.{Spread}
-use Rattle.lp_weight.specs.Packed.{IsCode, amount_of, front_in, spread_in, AreEntries, IsGrown}
-
--- the amount of a code stays where the large ones grow
-pub amount_of-more : (large more : List ℕ) (code : ℕ) → IsCode (length large) code → amount_of (large ++ more) code ≡ amount_of large code
-amount_of-more large more code h = go (nat_lt code (2 ^ 31)) refl
-  where
-    go : (b : Bool) → nat_lt code (2 ^ 31) ≡ b → (if nat_lt code (2 ^ 31) then code else get_or (large ++ more) (code - 2 ^ 31) 0)
-        ≡ (if nat_lt code (2 ^ 31) then code else get_or large (code - 2 ^ 31) 0)
-    go true e = rw e refl
-    go false e = let above : 2 ^ 31 ≤ code = grind (arith, e) in rw e (get_or_append_left large more 0 (code - 2 ^ 31) (omega (arith, above, h)))
+use Rattle.common.specs.Amounts.{IsCode, IsGrown}
+use Rattle.common.specs.AmountLaws.{amount_of-more}
+use Rattle.lp_weight.specs.Packed.{front_in, spread_in, AreEntries}
 
 -- the spread of an entry stays
 spread_in-more : (large more : List ℕ) (entry : Entry) → IsCode (length large) entry.front → IsCode (length large) entry.inner → spread_in (large ++ more) entry
@@ -30,30 +23,6 @@ map-spread_in large more [] h = refl
 map-spread_in large more (e ∷ es) h =
     ap₂ (λ (a : Spread) (b : List Spread). a ∷ b) (spread_in-more large more e (h.front 0 e refl) (h.inner 0 e refl))
     (map-spread_in large more es (record { front = λ i. h.front (suc i); inner = λ i. h.inner (suc i) }))
-
--- a list that has grown is longer
-pub grown-longer : (old new : List ℕ) → IsGrown old new → length old ≤ length new
-grown-longer old new g = omega (arith, ap length g.1, length-append old g.0)
-
--- a list that has grown twice
-pub grown-twice : (a b c : List ℕ) → IsGrown a b → IsGrown b c → IsGrown a c
-grown-twice a b c g h = (g.0 ++ h.0, h.1 ∙ ap (λ w. w ++ h.0) g.1 ∙ regroup a g.0 h.0)
-  where
-    regroup : (a b c : List ℕ) → (a ++ b) ++ c ≡ a ++ (b ++ c)
-    regroup [] b c = refl
-    regroup (x ∷ a) b c = ap (λ w. x ∷ w) (regroup a b c)
-
--- the amount of a code stays on a list that has grown
-pub grown-amount_of : (old new : List ℕ) (code : ℕ) → IsGrown old new → IsCode (length old) code → amount_of new code ≡ amount_of old code
-grown-amount_of old new code g h = ap (λ w. amount_of w code) g.1 ∙ amount_of-more old g.0 code h
-
--- the code of an amount that is large
-pub amount_of-large : (large : List ℕ) (amount code : ℕ) → code ≡ 2 ^ 31 + length large → amount_of (large ++ amount ∷ []) code ≡ amount
-amount_of-large large amount code e = go (nat_lt code (2 ^ 31)) refl
-  where
-    go : (b : Bool) → nat_lt code (2 ^ 31) ≡ b → (if nat_lt code (2 ^ 31) then code else get_or (large ++ amount ∷ []) (code - 2 ^ 31) 0) ≡ amount
-    go true h = absurd (grind (arith, h, e))
-    go false h = let at : code - 2 ^ 31 ≡ length large + 0 = omega (arith, e) in rw (h, at) (get_or-append-add large (amount ∷ []) 0 0)
 
 -- entries stay where the large amounts grow
 pub entries-grown : (old new : ℕ) (entries : List Entry) → old ≤ new → AreEntries old entries → AreEntries new entries

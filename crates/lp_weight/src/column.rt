@@ -1,8 +1,9 @@
 //! The spreads of a module's trees by number, in little room: an amount that is small stands in its entry, and one that is large in a list.
 ghost use Rattle.std.specs.Prelude.{◌≡◌, ◌<◌, ◌-◌, ◌^◌, [], ◌∷◌, ◌++◌, length, map, slice_get, Some, IfOk, OnOk};
-ghost use Rattle.lp_weight.specs.Packed.{amount_of, spread_in, AreEntries, IsCode, IsGrown};
+ghost use Rattle.common.specs.Amounts.{IsCode, IsGrown};
+ghost use Rattle.lp_weight.specs.Packed.{spread_in, AreEntries};
 
-use common::Memory;
+use common::{Amounts, Memory};
 use lp_term::LpId;
 use std::alloc::Global;
 use std::marker::Model;
@@ -35,9 +36,6 @@ pub(crate) struct Spread {
 // The number of no tree.
 const NONE: u32 = u32::MAX;
 
-// From this code on an amount stands in the list of large ones.
-const LARGE: u32 = 1 << 31;
-
 // A spread in little room: the rest of a head, and the codes of two amounts.
 #[derive(Clone, Copy)]
 pub(crate) struct Entry {
@@ -53,7 +51,7 @@ const _: () = prove!(size_of::<Entry>() == 12);
 #[derive(Drop)]
 pub(crate) struct Column {
     entries: Vec<Entry>,
-    large: Vec<u128>,
+    amounts: Amounts,
 }
 
 impl Model for Column {
@@ -63,9 +61,9 @@ impl Model for Column {
 
     ghost Value = { List ASpread };
 
-    ghost view = { λ c. map (spread_in c.large.items) c.entries.items };
+    ghost view = { λ c. map (spread_in c.amounts) c.entries.items };
 
-    ghost invariant = { λ c. AreEntries (length c.large.items) c.entries.items };
+    ghost invariant = { λ c. AreEntries (length c.amounts) c.entries.items };
 }
 
 impl Column {
@@ -75,7 +73,7 @@ impl Column {
     {
         Column {
             entries: Vec::new(alloc),
-            large: Vec::new(alloc),
+            amounts: Amounts::new(alloc),
         }
     }
 
@@ -91,36 +89,24 @@ impl Column {
         requires { number < length self.now }
         ensures { slice_get self.now number ≡ Some result }
     {
-        unpacked(&self.large, self.entries[number])
+        unpacked(&self.amounts, self.entries[number])
     }
 
     /// Puts the next tree's spread last. After want of memory the column is of no more use.
     pub(crate) fn push(&mut self, spread: Spread) -> Result<(), Memory>
         ensures { OnOk result (self.new ≡ self.old ++ spread ∷ []) }
     {
-        put(&mut self.entries, &mut self.large, spread)
-    }
-}
-
-// The amount of a code.
-fn amount(large: &[u128], code: u32) -> u128
-    requires { IsCode (length large.now) code }
-    ensures { result ≡ amount_of large.now code }
-{
-    if code < LARGE {
-        code as u128
-    } else {
-        large[(code - LARGE) as usize]
+        put(&mut self.entries, &mut self.amounts, spread)
     }
 }
 
 // The spread of an entry.
-fn unpacked(large: &[u128], entry: Entry) -> Spread
-    requires front { IsCode (length large.now) entry.front }
-    requires inner { IsCode (length large.now) entry.inner }
-    ensures { result ≡ spread_in large.now entry }
+fn unpacked(amounts: &Amounts, entry: Entry) -> Spread
+    requires front { IsCode (length amounts.now) entry.front }
+    requires inner { IsCode (length amounts.now) entry.inner }
+    ensures { result ≡ spread_in amounts.now entry }
 {
-    let front = amount(large, entry.front);
+    let front = amounts.get(entry.front);
     Spread {
         front: if entry.rest == NONE {
             Front::Plain(front)
@@ -130,25 +116,8 @@ fn unpacked(large: &[u128], entry: Entry) -> Spread
                 spent: front,
             })
         },
-        inner: amount(large, entry.inner),
+        inner: amounts.get(entry.inner),
     }
-}
-
-// The code of an amount.
-fn coded(large: &mut Vec<u128>, amount: u128) -> Result<u32, Memory>
-    ensures code { IfOk result (IsCode (length large.new.items)) }
-    ensures amount { IfOk result (λ code. amount_of large.new.items code ≡ amount) }
-    ensures grown { IsGrown large.old.items large.new.items }
-{
-    if amount < LARGE as u128 {
-        return Ok(amount as u32);
-    }
-    let place = large.len();
-    if place >= LARGE as usize {
-        return Err(Memory);
-    }
-    large.push(amount)?;
-    Ok(LARGE + place as u32)
 }
 
 // The rest of a head in an entry.
@@ -162,28 +131,28 @@ fn rest_of(id: LpId) -> Result<u32, Memory>
 }
 
 // The entry of a spread.
-fn packed(large: &mut Vec<u128>, spread: Spread) -> Result<Entry, Memory>
-    ensures front { IfOk result (λ entry. IsCode (length large.new.items) entry.front) }
-    ensures inner { IfOk result (λ entry. IsCode (length large.new.items) entry.inner) }
-    ensures spread { IfOk result (λ entry. spread_in large.new.items entry ≡ spread) }
-    ensures grown { IsGrown large.old.items large.new.items }
+fn packed(amounts: &mut Amounts, spread: Spread) -> Result<Entry, Memory>
+    ensures front { IfOk result (λ entry. IsCode (length amounts.new) entry.front) }
+    ensures inner { IfOk result (λ entry. IsCode (length amounts.new) entry.inner) }
+    ensures spread { IfOk result (λ entry. spread_in amounts.new entry ≡ spread) }
+    ensures grown { IsGrown amounts.old amounts.new }
 {
     let (rest, front) = match spread.front {
         Front::Symbol(head) => (rest_of(head.rest)?, head.spent),
         Front::Plain(count) => (NONE, count),
     };
-    let front = coded(large, front)?;
-    let inner = coded(large, spread.inner)?;
+    let front = amounts.code(front)?;
+    let inner = amounts.code(spread.inner)?;
     Ok(Entry { rest, front, inner })
 }
 
 // Puts a spread last.
-fn put(entries: &mut Vec<Entry>, large: &mut Vec<u128>, spread: Spread) -> Result<(), Memory>
-    requires { AreEntries (length large.old.items) entries.old.items }
-    ensures entries { AreEntries (length large.new.items) entries.new.items }
-    ensures put { OnOk result (map (spread_in large.new.items) entries.new.items ≡ map (spread_in large.old.items) entries.old.items ++ spread ∷ []) }
+fn put(entries: &mut Vec<Entry>, amounts: &mut Amounts, spread: Spread) -> Result<(), Memory>
+    requires { AreEntries (length amounts.old) entries.old.items }
+    ensures entries { AreEntries (length amounts.new) entries.new.items }
+    ensures put { OnOk result (map (spread_in amounts.new) entries.new.items ≡ map (spread_in amounts.old) entries.old.items ++ spread ∷ []) }
 {
-    let entry = packed(large, spread)?;
+    let entry = packed(amounts, spread)?;
     entries.push(entry)?;
     Ok(())
 }

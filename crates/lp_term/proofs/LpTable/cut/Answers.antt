@@ -6,8 +6,8 @@ use Rattle.lp_term.proofs.LpTable.cut.Goals as goal
 pub invariant_of-self : goal.invariant_of-self
 invariant_of-self c =
     let h = rw (← c.self.view_is) at c.requires in
-    rw (c.truncate.ensures, c.truncate-2.ensures.items)
-    (IsTable-take c.args.len c.self.inside.shapes c.self.inside.measures.items (omega (arith, h, length-trees_of c.self.inside.shapes)) c.self.invariant)
+    rw (c.truncate.ensures, c.truncate-2.ensures)
+    (IsTable-take c.args.len c.self.inside.shapes c.self.inside.measures (omega (arith, h, length-trees_of c.self.inside.shapes)) c.self.invariant)
 
 pub returns : goal.returns
 returns c =

@@ -2,4 +2,4 @@ use Rattle.lp_term.proofs.MeasuredLaws.{AreMeasured-more}
 use Rattle.lp_term.proofs.measures.push_measures.Goals as goal
 
 pub returns-clause-pushed : goal.returns-clause-pushed
-returns-clause-pushed c = λ trees a. rw c.in_ok-push.ensures.items (AreMeasured-more _ _ _ _ a (c.in_ok-measures.ensures trees (rw c.deref.ensures.value a)))
+returns-clause-pushed c = λ trees a. rw c.in_ok-push.ensures.pushed (AreMeasured-more _ _ _ _ a (c.in_ok-measures.ensures trees a))

@@ -1,4 +1,5 @@
-use Rattle.lp_weight.proofs.PackedLaws.{entries-more, entries-grown, grown-longer, spreads-more}
+use Rattle.common.specs.AmountLaws.{grown-longer}
+use Rattle.lp_weight.proofs.PackedLaws.{entries-more, entries-grown, spreads-more}
 use Rattle.lp_weight.proofs.column.put.Goals as goal
 
 pub returns-clause-entries : goal.returns-clause-entries
