@@ -6,4 +6,5 @@ pub mod ShortBodies
 mod ShortSymbols
 mod ShortPlaced
 mod NamedDecls
+mod LongNames
 mod ApplyLaws

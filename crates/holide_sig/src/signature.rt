@@ -56,6 +56,9 @@ const NAMES: &[&[u8]] = &[
     b"sub_rep_abs",
 ];
 
+// How many bytes the name of a symbol of the signature has at most.
+const LONGEST: usize = 11;
+
 // The numbers of the types of the signature's symbols among `NODES`.
 const TYPES: &[usize] = &[
     0, 1, 1, 15, 16, 21, 25, 27, 34, 59, 83, 95, 103, 110, 122, 129, 155, 169,
@@ -262,6 +265,9 @@ pub(crate) fn signature_name(symbol: usize) -> &'static [u8]
 pub(crate) fn signature_symbol(name: &[u8]) -> Option<usize>
     ensures { result ≡ position (λ d. bytes_eq d.name name.now) signature }
 {
+    if name.len() > LONGEST {
+        return None;
+    }
     place_of(NAMES, name)
 }
 
