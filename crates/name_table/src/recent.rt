@@ -49,11 +49,23 @@ pub(crate) fn note_long(recent: &mut Vec<usize>, name: &[u8], number: usize)
     note(recent, place, number);
 }
 
-/// Makes twice as many places as there are names, where there are fewer. Where no memory is left for them, they stay as they are.
-pub(crate) fn widen(recent: &mut Vec<usize>, count: usize) {
+/// Makes twice as many places as there are names, where there are fewer, and notes all names anew. Where no memory is left for more places, they
+/// stay as they are.
+pub(crate) fn widen(recent: &mut Vec<usize>, names: &[Spelling]) {
     let len = recent.len();
-    if len < count.saturating_mul(2) {
-        let _ = recent.resize(len.saturating_mul(2).max(FEWEST), 0);
+    if len < names.len().saturating_mul(2) {
+        let wanted = len.saturating_mul(2).max(FEWEST);
+        if recent.resize(wanted, 0).is_ok() {
+            note_all(recent, names);
+        }
+    }
+}
+
+// Notes the number of each name.
+fn note_all(recent: &mut Vec<usize>, names: &[Spelling]) {
+    for number in 0..names.len() {
+        let place = place(names[number].mixed(), recent.len());
+        note(recent, place, number);
     }
 }
 
@@ -68,16 +80,16 @@ fn place(mixed: u64, count: usize) -> usize {
     mixed as usize & count.wrapping_sub(1)
 }
 
-// A number of which most bits depend on most bytes of a short name.
-fn mix(key: u128) -> u64 {
+/// A number of which most bits depend on most bytes of a short name.
+pub(crate) fn mix(key: u128) -> u64 {
     let low = (key % 18_446_744_073_709_551_616) as u64;
     let high = (key / 18_446_744_073_709_551_616) as u64;
     let mixed = (low ^ high.rotate_left(29)).wrapping_mul(0x9E37_79B9_7F4A_7C15);
     mixed ^ (mixed >> 32)
 }
 
-// The same of the last bytes of a name that is not short.
-fn mix_long(name: &[u8]) -> u64
+/// The same of the last bytes of a name that is not short.
+pub(crate) fn mix_long(name: &[u8]) -> u64
     requires { 15 < length name.now }
 {
     let end = &name[name.len() - SHORT..];

@@ -3,6 +3,7 @@ ghost use Rattle.std.specs.Prelude.{◌≡◌, ◌<◌, ◌≤◌, length, IfOk}
 ghost use Rattle.std.specs.Str.{bytes_eq};
 ghost use Rattle.name_table.specs.Spellings.{packed as number_of, unpacked as bytes_of_number, IsShort};
 
+use crate::recent::{mix, mix_long};
 use common::Memory;
 use std::alloc::Global;
 use std::marker::Model;
@@ -76,6 +77,14 @@ impl Spelling {
         match &self.bytes {
             Bytes::Short(_) => false,
             Bytes::Long(bytes) => bytes.as_slice() == name,
+        }
+    }
+
+    /// A number of which most bits depend on most of its last bytes.
+    pub(crate) fn mixed(&self) -> u64 {
+        match &self.bytes {
+            Bytes::Short(number) => mix(*number),
+            Bytes::Long(bytes) => mix_long(bytes),
         }
     }
 

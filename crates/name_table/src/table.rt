@@ -129,7 +129,7 @@ impl NameTable {
             return Ok(number);
         }
         let number = number_by_shorts(&mut self.shorts, &mut self.names, key)?;
-        widen(&mut self.recent, self.names.len());
+        widen(&mut self.recent, &self.names);
         note_short(&mut self.recent, key, number);
         Ok(number)
     }
@@ -145,7 +145,7 @@ impl NameTable {
             return Ok(number);
         }
         let number = number_by_longs(self.alloc, &mut self.longs, &mut self.names, name)?;
-        widen(&mut self.recent, self.names.len());
+        widen(&mut self.recent, &self.names);
         note_long(&mut self.recent, name, number);
         Ok(number)
     }
