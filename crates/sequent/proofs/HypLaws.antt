@@ -10,7 +10,7 @@ use Rattle.std.proofs.lemmas.List.{drop_all}
 use Rattle.std.proofs.lemmas.Slice.Eq.{slice_eq-Decides}
 use Rattle.std.proofs.Math.Path.{ap₂}
 use Rattle.hol_spec.specs.Lists.{is_in, union, distinct, without}
-use Rattle.hol_laws.specs.ListLaws.{All-filter, IsDistinct-filter, distinct-itself, is_in-map, union-All, union-map, without-map}
+use Rattle.hol_laws.specs.ListLaws.{All-filter, IsDistinct-filter, distinct-itself, is_in-map, union-All, union-IsDistinct, union-map, without-map}
 use Rattle.hol_spec.specs.Sequents.{within}
 use Rattle.hol_spec.specs.Terms.{term_eq}
 use Rattle.hol_laws.specs.TermLaws.{term_eq-Decides}
@@ -47,6 +47,11 @@ kept_all ids items found i p h n e =
 pub none_twice : (own : List TermId) → own ≡ [] → HasNoRepeats same_id own
 unfolding HasNoRepeats
 none_twice own e = subst (HasNoRepeats same_id) (sym e) tt
+
+-- with one number more, if it is new, none stands twice either
+pub no_repeats-add : (old new : List TermId) (id : TermId) → HasNoRepeats same_id old → new ≡ union same_id old (id ∷ []) → HasNoRepeats same_id new
+no_repeats-add old new id h e =
+    subst (HasNoRepeats same_id) (sym e) (union-IsDistinct same_id (λ p q f. same_id-sym q p ∙ f) (id ∷ []) old h)
 
 -- a union with numbers that are there already is the list itself
 pub union-within : (a b : List TermId) → list_all (λ id. is_in same_id id a) b ≡ true → union same_id a b ≡ a

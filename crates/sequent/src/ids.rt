@@ -6,23 +6,27 @@ ghost use Rattle.sequent.specs.Sequents.{same_id};
 
 use common::Memory;
 use hol_term::TermId;
-use indexmap::IndexSet;
 use std::alloc::Global;
 use std::marker::Model;
+use tree_map::TreeSet;
 
 /// Numbers of terms in a table, each once, in order.
 #[derive(Drop)]
 pub(crate) struct Ids {
-    set: IndexSet<TermId>,
+    set: TreeSet<TermId>,
 }
 
 impl Model for Ids {
     ghost use Rattle.std.specs.Prelude.{List};
+    ghost use Rattle.std.specs.List.{IsDistinct};
     ghost use Rattle.hol_term.specs.declared.TermId.{TermId as AnId};
+    ghost use Rattle.sequent.specs.Sequents.{same_id};
 
     ghost Value = { List AnId };
 
-    ghost view = { λ i. i.set.keys };
+    ghost view = { λ i. i.set };
+
+    ghost invariant = { λ i. IsDistinct same_id i.set };
 }
 
 impl Ids {
@@ -30,7 +34,7 @@ impl Ids {
         ensures empty { result ≡ [] }
     {
         Ids {
-            set: IndexSet::new(alloc),
+            set: TreeSet::new(alloc),
         }
     }
 
