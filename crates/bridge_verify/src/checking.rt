@@ -33,7 +33,8 @@ use std::alloc::Global;
 
 /// Reads the text of a translation back, and checks the module that it reads as, each declaration within its bound; a fast check is one
 /// without rechecks of sorts, within the bounds of such checks. The yes is that of the check. Only want of memory is answered in place of
-/// it. The text of one declaration is held at a time, and what is read stands in the table of the translation, which may grow.
+/// it, and after it nothing is promised of the translation. The text of one declaration is held at a time, and what is read stands in
+/// the table of the translation, which may grow.
 pub fn check_back(alloc: Global, translation: &mut Translation, fast: bool) -> Result<(), Answer>
     requires { (share : Bool) × (articles : ℕ) × (run : Accepted) × IsTranslationOf share articles run translation.old × Headline share run }
     ensures accepted { OnOk result (PassBelow (not fast) (declarations_of translation.new.module) (length (declarations_of translation.new.module))) }

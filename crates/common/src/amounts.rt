@@ -75,6 +75,13 @@ impl Amounts {
     }
 }
 
+/// The number in 32 bits. A greater one is want of memory.
+pub fn narrow(number: u128) -> Result<u32, Memory>
+    ensures { IfOk result (λ n. n ≡ number) }
+{
+    u32::try_from(number).map_err(|_| Memory)
+}
+
 /// Whether the amount of a code stands in the list.
 pub fn is_large(code: u32) -> bool
     ensures { result ≡ nat_le (2 ^ 31) code }

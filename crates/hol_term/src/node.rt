@@ -7,6 +7,7 @@ ghost use Rattle.hol_type.specs.Refusals.{Refuses};
 ghost use Rattle.hol_term.specs.Packed.{type_numbered};
 
 use crate::TermId;
+use common::amounts::narrow;
 use common::{Fault, Kind, Memory};
 use hol_name::Name;
 use hol_spec::{GREATEST_DEPTH, GREATEST_SIZE};
@@ -175,13 +176,6 @@ impl Packed {
             Some(TypeId(self.ty as usize))
         }
     }
-}
-
-// The number in 32 bits, if they are enough.
-fn narrow(number: u128) -> Result<u32, Memory>
-    ensures { IfOk result (λ n. n ≡ number) }
-{
-    u32::try_from(number).map_err(|_| Memory)
 }
 
 // The number of a type in 32 bits, or that of no type.

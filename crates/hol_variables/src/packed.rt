@@ -5,6 +5,7 @@ ghost use Rattle.hol_variables.specs.Packed.{list_numbered};
 use crate::Own;
 use crate::lists::ListId;
 use common::Memory;
+use common::amounts::narrow;
 use std::marker::Model;
 
 // The number of no list.
@@ -36,8 +37,8 @@ impl Packed {
         ensures { IfOk result (λ packed. packed ≡ own) }
     {
         Ok(Packed {
-            names: narrow(own.names)?,
-            variables: narrow(own.variables)?,
+            names: narrow_list(own.names)?,
+            variables: narrow_list(own.variables)?,
         })
     }
 
@@ -53,13 +54,13 @@ impl Packed {
 }
 
 // The number of a list in 32 bits, or that of no list.
-fn narrow(list: Option<ListId>) -> Result<u32, Memory>
+fn narrow_list(list: Option<ListId>) -> Result<u32, Memory>
     ensures { IfOk result (λ n. list_numbered n ≡ list) }
 {
     let Some(id) = list else {
         return Ok(NO_LIST);
     };
-    let number = u32::try_from(id.0 as u128).map_err(|_| Memory)?;
+    let number = narrow(id.0 as u128)?;
     if number < NO_LIST {
         Ok(number)
     } else {

@@ -4,6 +4,7 @@ ghost use Rattle.lp_term.specs.Shapes.{node_of};
 
 use crate::{LpId, LpNode};
 use common::Memory;
+use common::amounts::narrow;
 
 /// A node whose numbers are below 2^32.
 #[derive(Clone, Copy, PartialEq, Eq, PartialOrd, Ord)]
@@ -50,11 +51,4 @@ impl Shape {
             Shape::Pi(a, b) => LpNode::Pi(LpId(a as usize), LpId(b as usize)),
         }
     }
-}
-
-// The number in 32 bits, if they are enough.
-fn narrow(number: u128) -> Result<u32, Memory>
-    ensures { IfOk result (λ n. n ≡ number) }
-{
-    u32::try_from(number).map_err(|_| Memory)
 }
