@@ -17,7 +17,7 @@ use Rattle.decode_back.specs.TermWalks.{AreVariables, IsHeadFound, IsTermFound}
 
 -- the declarations of a source
 abbrev pub declared : Source → List Declaration
-declared s = declarations_of s.module.now
+declared s = declarations_of s.base.now
 
 -- its place
 abbrev pub place_of : Source → Place
@@ -25,10 +25,10 @@ place_of s = at_place s.place
 
 -- the tree of a number, and the trees of some
 abbrev pub tree_of : Source → LpId → Tree
-tree_of s id = tree_at s.module.now.table id.0
+tree_of s id = tree_at s.base.now.table id.0
 
 abbrev pub trees_of : Source → List LpId → List Tree
-trees_of s ids = trees_at s.module.now.table ids
+trees_of s ids = trees_at s.base.now.table ids
 
 -- a tree is a head, applied to these
 abbrev pub IsSpine : Source → LpId → List LpId → LpId → Type 0
@@ -48,7 +48,7 @@ told_type s A = type_of_tree (declared s) (place_of s) A
 
 -- the module of a source is held, and the type variables at its place have names
 pub record IsReadable (s : Source) : Type 0 where
-  pub held : IsHeld s.module.now
+  pub held : IsHeld s.base.now
   pub few : s.place.type_variables ≤ greatest_number
 
 -- so it is with a source, whose numbers are those of terms in the table: of as many free variables as there are at its place, and of the

@@ -108,18 +108,18 @@ abstracting s level body ty args tasks = Visit body (s.place.binders + 1) (level
 
 -- what a walk over a source made is of the table, and its tasks have what they take
 abbrev pub IsShaped : Source → Trees → Walk → Type 0
-IsShaped s table w = IsTermShape s.module.now.table table w.tasks w.made
+IsShaped s table w = IsTermShape s.base.now.table table w.tasks w.made
 
 -- how many turns it takes at most
 abbrev pub work : Source → Walk → ℕ
-work s w = term_work s.module.now.table w.tasks
+work s w = term_work s.base.now.table w.tasks
 
 -- what a walk over a source comes to, it comes to after a turn, or that passes the limits
 abbrev pub IsTurned : Source → Trees → Walk → Trees → Walk → Bool → Type 0
 IsTurned s table w now v goes_on =
     (types : List ClosedType) (wanted : Wanted) → AreVariables table s.variables.now types
-    → IsTermWalk (declared s) s.module.now.table (under s.place) types wanted table w.budget w.tasks w.made
-    → IsTermTurn (declared s) s.module.now.table (under s.place) types wanted now v.budget v.tasks v.made goes_on
+    → IsTermWalk (declared s) s.base.now.table (under s.place) types wanted table w.budget w.tasks w.made
+    → IsTermTurn (declared s) s.base.now.table (under s.place) types wanted now v.budget v.tasks v.made goes_on
 
 -- what a walk with a task comes to, it comes to once the task is done, or that passes the limits
 abbrev pub IsDone : Task → Trees → ℕ → List TermId → Trees → ℕ → List TermId → Bool → Type 0

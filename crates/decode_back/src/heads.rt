@@ -35,22 +35,15 @@ pub(crate) fn binder(
 ) -> Result<Option<TypeId>, Memory>
     requires source { IsReadable source }
     requires level { level ≤ greatest_depth }
-    requires known { domain.0 < length source.module.now.table }
+    requires known { domain.0 < length source.base.now.table }
     ensures decoded { IfOk result (IsTypeFound level (bind (term_part (tree_of source.entry domain)) (told_type source.entry)) table.new) }
     ensures known { IfOk result (λ found. IfSome found (λ t. t.0 < length table.new.types)) }
     ensures keeps { Keeps table.old table.new }
 {
-    let Some(tree) = symbol_argument(&source.module.table, TERM, domain) else {
+    let Some(tree) = symbol_argument(&source.base.table, TERM, domain) else {
         return Ok(None);
     };
-    decode_type(
-        source.alloc,
-        source.module,
-        source.place,
-        table,
-        level,
-        tree,
-    )
+    decode_type(source.alloc, source.base, source.place, table, level, tree)
 }
 
 // The term of a variable: of a binder of its own, or of a free variable of the sequent.
@@ -126,17 +119,17 @@ pub(crate) fn constant(
     requires source { IsReadable source }
     requires budget { budget.old ≤ greatest_size }
     requires level { level ≤ greatest_depth }
-    requires args { lp.AreKnown source.module.now.table args.old }
+    requires args { lp.AreKnown source.base.now.table args.old }
     ensures decoded { IfOk result (IsHeadDecoded source.entry level (Sym symbol) args.old args.new budget.old budget.new table.new) }
     ensures known { IfOk result (λ found. IfSome found (λ t. t.0 < length table.new.terms)) }
-    ensures args { OnOk result (lp.AreKnown source.entry.module.now.table args.new) }
+    ensures args { OnOk result (lp.AreKnown source.entry.base.now.table args.new) }
     ensures budget { budget.new ≤ budget.old }
     ensures keeps { Keeps table.old table.new }
 {
-    if symbol >= SIGNATURE + source.module.decls.len() {
+    if symbol >= SIGNATURE + source.base.decls.len() {
         return Ok(None);
     }
-    let Some(constant) = constant_at(source.alloc, source.module, table, symbol, *budget)? else {
+    let Some(constant) = constant_at(source.alloc, source.base, table, symbol, *budget)? else {
         return Ok(None);
     };
     let found = at_arguments(source, table, budget, level, &constant, args);
@@ -158,11 +151,11 @@ fn at_arguments(
     requires level { level ≤ greatest_depth }
     requires count { constant.now.variables ≤ greatest_number }
     requires generic { constant.now.generic.0 < length table.old.types }
-    requires args { lp.AreKnown source.module.now.table args.old }
+    requires args { lp.AreKnown source.base.now.table args.old }
     ensures decoded { IfOk result (λ found. (symbol : ℕ) → IsConstant (constant_meant (declared source.entry) symbol) table.old constant.now
         → IsHeadDecoded source.entry level (Sym symbol) args.old args.new budget.old budget.new table.new found) }
     ensures known { IfOk result (λ found. IfSome found (λ t. t.0 < length table.new.terms)) }
-    ensures args { OnOk result (lp.AreKnown source.entry.module.now.table args.new) }
+    ensures args { OnOk result (lp.AreKnown source.entry.base.now.table args.new) }
     ensures budget { budget.new ≤ budget.old }
     ensures keeps { Keeps table.old table.new }
 {
@@ -217,11 +210,11 @@ fn type_arguments(
     requires source { IsReadable source }
     requires count { count ≤ greatest_number }
     requires level { level ≤ greatest_depth }
-    requires args { lp.AreKnown source.module.now.table args.old }
+    requires args { lp.AreKnown source.base.now.table args.old }
     ensures types { IfOk result (AreTypeArguments level (declared source.entry) (place_of source.entry) count
         (trees_of source.entry args.old) (trees_of source.entry args.new) table.new) }
     ensures known { IfOk result (λ found. IfSome found (λ pairs. type.ArePairsKnown table.new.types pairs.items)) }
-    ensures args { OnOk result (lp.AreKnown source.entry.module.now.table args.new) }
+    ensures args { OnOk result (lp.AreKnown source.entry.base.now.table args.new) }
     ensures keeps { Keeps table.old table.new }
 {
     let mut pairs = Vec::new(source.alloc);
@@ -229,7 +222,7 @@ fn type_arguments(
         let Some(arg) = args.pop() else {
             return Ok(None);
         };
-        let Some(ty) = decode_type(source.alloc, source.module, source.place, table, level, arg)?
+        let Some(ty) = decode_type(source.alloc, source.base, source.place, table, level, arg)?
         else {
             return Ok(None);
         };

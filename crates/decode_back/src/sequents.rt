@@ -128,7 +128,7 @@ fn decode_terms(
     };
     let source = Source {
         alloc,
-        module: base,
+        base,
         place,
         variables,
         innermost,
@@ -215,7 +215,7 @@ fn decode_hypotheses(
 ) -> Result<Option<Vec<TermId>>, Memory>
     requires source { IsSource table.old source }
     requires budget { budget.old ≤ greatest_size }
-    requires known { lp.AreKnown source.module.now.table trees.now }
+    requires known { lp.AreKnown source.base.now.table trees.now }
     ensures found { IfOk result (AreHypothesesDecoded source.entry trees.now table.old budget.old table.new budget.new) }
     ensures known { IfOk result (λ found. IfSome found (λ ids. AreKnown table.new ids.items)) }
     ensures budget { budget.new ≤ budget.old }

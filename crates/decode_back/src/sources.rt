@@ -9,7 +9,7 @@ use std::alloc::Global;
 #[derive(Clone, Copy)]
 pub struct Source<'a> {
     pub alloc: Global,
-    pub module: &'a Module,
+    pub base: &'a Module,
     pub place: Place,
     pub variables: &'a [TermId],
     pub innermost: TermId,

@@ -52,7 +52,7 @@ pub fn decode_term(
     requires source { IsSource table.old source }
     requires budget { budget.old ≤ greatest_size }
     requires level { source.place.binders + level ≤ greatest_depth }
-    requires known { id.0 < length source.module.now.table }
+    requires known { id.0 < length source.base.now.table }
     ensures decoded { IfOk result (IsDecoded source.entry level (told source.entry (tree_of source.entry id)) table.old budget.old table.new budget.new) }
     ensures known { IfOk result (λ found. IfSome found (λ t. t.0 < length table.new.terms)) }
     ensures budget { budget.new ≤ budget.old }
@@ -128,7 +128,7 @@ fn visit(
         return Ok(false);
     }
     let mut args = Stack::new(source.alloc);
-    let head = spine(&source.module.table, tree, &mut args)?;
+    let head = spine(&source.base.table, tree, &mut args)?;
     visit_head(source, table, walk, level, head, &mut args)
 }
 
@@ -163,11 +163,11 @@ fn visit_head(
     requires budget { walk.old.budget ≤ greatest_size }
     requires level { source.place.binders + level ≤ greatest_depth }
     requires positive { 0 < level }
-    requires known { head.0 < length source.module.now.table }
+    requires known { head.0 < length source.base.now.table }
     requires head { IsHead (tree_of source head) }
-    requires args { lp.AreKnown source.module.now.table args.old }
+    requires args { lp.AreKnown source.base.now.table args.old }
     requires made { AreKnown table.old walk.old.made }
-    requires tasks { AreTermTasks source.module.now.table table.old walk.old.tasks (length walk.old.made + 1) }
+    requires tasks { AreTermTasks source.base.now.table table.old walk.old.tasks (length walk.old.made + 1) }
     ensures turned { IfOk result (λ goes_on. (tree : AnId) → IsSpine source.entry head args.old tree
         → IsTurned source.entry table.old (visiting source.entry tree level walk.old) table.new walk.new goes_on) }
     ensures shaped { IfOk result (λ goes_on. goes_on ≡ true → IsShaped source.entry table.new walk.new) }
@@ -176,7 +176,7 @@ fn visit_head(
     ensures budget { walk.new.budget ≤ walk.old.budget }
     ensures keeps { Keeps table.old table.new }
 {
-    match source.module.table.view(head) {
+    match source.base.table.view(head) {
         LpNode::Sym(symbol) => {
             let found = constant(source, table, &mut walk.budget, level, symbol, args)?;
             go_on(source, level, found, args, &mut walk.tasks, &mut walk.made)

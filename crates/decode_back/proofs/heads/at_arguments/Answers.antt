@@ -19,11 +19,11 @@ use Rattle.decode_back.proofs.heads.at_arguments.Goals as goal
 
 pub returns-in_default-clause-decoded : goal.returns-in_default-clause-decoded
 returns-in_default-clause-decoded c symbol is types =
-    lacks_types (declarations_of c.args.source.module.now) (at_place c.args.source.place) types c.args.level c.args.budget.now symbol
-    (trees_at c.args.source.module.now.table c.args.args.now)
+    lacks_types (declarations_of c.args.source.base.now) (at_place c.args.source.place) types c.args.level c.args.budget.now symbol
+    (trees_at c.args.source.base.now.table c.args.args.now)
     c.args.constant.now.name c.args.constant.now.variables is.0 is.1 c.requires.budget
-    (subst (AreTypeArguments c.args.level (declarations_of c.args.source.module.now) (at_place c.args.source.place) c.args.constant.now.variables
-    (trees_at c.args.source.module.now.table c.args.args.now) (trees_at c.args.source.module.now.table c.type_arguments.new.args)
+    (subst (AreTypeArguments c.args.level (declarations_of c.args.source.base.now) (at_place c.args.source.place) c.args.constant.now.variables
+    (trees_at c.args.source.base.now.table c.args.args.now) (trees_at c.args.source.base.now.table c.type_arguments.new.args)
     c.type_arguments.new.table) c.in_default.is c.in_ok-pairs.ensures.types)
 
 pub instance-found-requires-clause-generic : goal.instance-found-requires-clause-generic
@@ -32,17 +32,17 @@ instance-found-requires-clause-generic c = omega (arith, c.requires.generic, c.t
 pub returns-clause-decoded : goal.returns-clause-decoded
 returns-clause-decoded c =
     IfOk-weaker _ _ c.instance-found.result c.instance-found.ensures.made (λ found made symbol is types.
-    let taken : AreTaken (declarations_of c.args.source.module.now) (at_place c.args.source.place) c.args.constant.now.variables
-    (trees_at c.args.source.module.now.table c.args.args.now) (trees_at c.args.source.module.now.table c.type_arguments.new.args)
+    let taken : AreTaken (declarations_of c.args.source.base.now) (at_place c.args.source.place) c.args.constant.now.variables
+    (trees_at c.args.source.base.now.table c.args.args.now) (trees_at c.args.source.base.now.table c.type_arguments.new.args)
     (pairs_at c.type_arguments.new.table.types c.in-Some.pairs.items) =
-    subst (AreTypeArguments c.args.level (declarations_of c.args.source.module.now) (at_place c.args.source.place) c.args.constant.now.variables
-    (trees_at c.args.source.module.now.table c.args.args.now) (trees_at c.args.source.module.now.table c.type_arguments.new.args)
+    subst (AreTypeArguments c.args.level (declarations_of c.args.source.base.now) (at_place c.args.source.place) c.args.constant.now.variables
+    (trees_at c.args.source.base.now.table c.args.args.now) (trees_at c.args.source.base.now.table c.type_arguments.new.args)
     c.type_arguments.new.table) c.in-Some.is c.in_ok-pairs.ensures.types in
     let held : type_at c.type_arguments.new.table c.args.constant.now.generic.0 ≡ open_type parameter_name is.0 =
     type-held c.args.table.now c.type_arguments.new.table c.args.constant.now.generic.0 (open_type parameter_name is.0) c.type_arguments.ensures.keeps is.2 in
-    constant-head (declarations_of c.args.source.module.now) (at_place c.args.source.place) types c.args.level c.args.budget.now symbol
-    (trees_at c.args.source.module.now.table c.args.args.now)
-    c.args.constant.now.name c.args.constant.now.variables is.0 is.1 (trees_at c.args.source.module.now.table c.type_arguments.new.args)
+    constant-head (declarations_of c.args.source.base.now) (at_place c.args.source.place) types c.args.level c.args.budget.now symbol
+    (trees_at c.args.source.base.now.table c.args.args.now)
+    c.args.constant.now.name c.args.constant.now.variables is.0 is.1 (trees_at c.args.source.base.now.table c.type_arguments.new.args)
     (pairs_at c.type_arguments.new.table.types c.in-Some.pairs.items) taken c.instance-found.new.budget
     (substitute (pairs_at c.type_arguments.new.table.types c.deref.result.now) (type_at c.type_arguments.new.table c.args.constant.now.generic.0))
     c.instance-found.new.table found c.requires.budget c.requires.level

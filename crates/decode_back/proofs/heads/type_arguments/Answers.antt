@@ -18,14 +18,14 @@ loop-number-init c = record {
   pairs = subst (ArePairsKnown c.args.table.now.types) (sym c.new-pairs.ensures.items) (tt {0});
   keeps = Keeps-refl c.args.table.now;
   within = omega arith;
-  taken = taken-none (declarations_of c.args.source.module.now) (at_place c.args.source.place) (trees_at c.args.source.module.now.table c.args.args.now)
+  taken = taken-none (declarations_of c.args.source.base.now) (at_place c.args.source.place) (trees_at c.args.source.base.now.table c.args.args.now)
       (pairs_at c.args.table.now.types c.new-pairs.result.items) (ap (pairs_at c.args.table.now.types) c.new-pairs.ensures.items);
 }
 
 pub loop-number-preserved : goal.loop-number-preserved
 loop-number-preserved c =
-    let known : lp.AreKnown c.args.source.module.now.table (c.in-Some.arg ∷ c.pop.new.self) =
-    subst (lp.AreKnown c.args.source.module.now.table) c.in-Some.ensures.popped c.loop-number.invariant.args in
+    let known : lp.AreKnown c.args.source.base.now.table (c.in-Some.arg ∷ c.pop.new.self) =
+    subst (lp.AreKnown c.args.source.base.now.table) c.in-Some.ensures.popped c.loop-number.invariant.args in
     record {
       args = known.1;
       pairs = subst (ArePairsKnown c.decode_type.new.table.types) (sym c.in_ok-push.ensures.items)
@@ -34,43 +34,43 @@ loop-number-preserved c =
           (subst (λ o. IfSome o (λ (x : TypeId). x.0 < length c.decode_type.new.table.types)) c.in-Some-2.is c.in_ok-ty.ensures.known));
       keeps = Keeps-trans c.loop-number.invariant.keeps c.decode_type.ensures.keeps;
       within = omega (arith, c.loop-number-test.true);
-      taken = taken-more (declarations_of c.args.source.module.now) (at_place c.args.source.place) c.args.level c.loop-number.number (c.loop-number.number + 1)
-          (trees_at c.args.source.module.now.table c.args.args.now) (trees_at c.args.source.module.now.table c.pop.new.self)
-          (tree_at c.args.source.module.now.table c.in-Some.arg.0) c.loop-number.table.types c.decode_type.new.table.types c.decode_type.new.table
+      taken = taken-more (declarations_of c.args.source.base.now) (at_place c.args.source.place) c.args.level c.loop-number.number (c.loop-number.number + 1)
+          (trees_at c.args.source.base.now.table c.args.args.now) (trees_at c.args.source.base.now.table c.pop.new.self)
+          (tree_at c.args.source.base.now.table c.in-Some.arg.0) c.loop-number.table.types c.decode_type.new.table.types c.decode_type.new.table
           c.loop-number.pairs.items c.push.new.self.items c.in_ok-parameter_name.field-0 c.in-Some-2.ty
-          (subst (λ ids. AreTaken (declarations_of c.args.source.module.now) (at_place c.args.source.place) c.loop-number.number
-          (trees_at c.args.source.module.now.table c.args.args.now) (trees_at c.args.source.module.now.table ids)
+          (subst (λ ids. AreTaken (declarations_of c.args.source.base.now) (at_place c.args.source.place) c.loop-number.number
+          (trees_at c.args.source.base.now.table c.args.args.now) (trees_at c.args.source.base.now.table ids)
           (pairs_at c.loop-number.table.types c.loop-number.pairs.items)) c.in-Some.ensures.popped c.loop-number.invariant.taken)
           (subst (IsTypeFound c.args.level
-          (type_of_tree (declarations_of c.args.source.module.now) (at_place c.args.source.place)
-          (tree_at c.args.source.module.now.table c.in-Some.arg.0)) c.decode_type.new.table) c.in-Some-2.is c.in_ok-ty.ensures.decoded)
+          (type_of_tree (declarations_of c.args.source.base.now) (at_place c.args.source.place)
+          (tree_at c.args.source.base.now.table c.in-Some.arg.0)) c.decode_type.new.table) c.in-Some-2.is c.in_ok-ty.ensures.decoded)
           refl c.decode_type.ensures.keeps.types c.loop-number.invariant.pairs c.in_ok-parameter_name.ensures c.in_ok-push.ensures.items refl;
     }
 
 pub returns-in_default-clause-types : goal.returns-in_default-clause-types
 returns-in_default-clause-types c =
-    taken-few (declarations_of c.args.source.module.now) (at_place c.args.source.place) c.args.level c.loop-number.number c.args.count
-    (trees_at c.args.source.module.now.table c.args.args.now) (trees_at c.args.source.module.now.table c.loop-number.args)
+    taken-few (declarations_of c.args.source.base.now) (at_place c.args.source.place) c.args.level c.loop-number.number c.args.count
+    (trees_at c.args.source.base.now.table c.args.args.now) (trees_at c.args.source.base.now.table c.loop-number.args)
     (pairs_at c.loop-number.table.types c.loop-number.pairs.items) c.loop-number.invariant.taken
-    (ap (trees_at c.args.source.module.now.table) c.in_default.ensures.popped) c.loop-number-test.true
+    (ap (trees_at c.args.source.base.now.table) c.in_default.ensures.popped) c.loop-number-test.true
 
 pub returns-in_default-2-clause-types : goal.returns-in_default-2-clause-types
 returns-in_default-2-clause-types c =
-    taken-no_type (declarations_of c.args.source.module.now) (at_place c.args.source.place) c.args.level c.loop-number.number c.args.count
-    (trees_at c.args.source.module.now.table c.args.args.now) (trees_at c.args.source.module.now.table c.pop.new.self)
-    (tree_at c.args.source.module.now.table c.in-Some.arg.0)
+    taken-no_type (declarations_of c.args.source.base.now) (at_place c.args.source.place) c.args.level c.loop-number.number c.args.count
+    (trees_at c.args.source.base.now.table c.args.args.now) (trees_at c.args.source.base.now.table c.pop.new.self)
+    (tree_at c.args.source.base.now.table c.in-Some.arg.0)
     (pairs_at c.loop-number.table.types c.loop-number.pairs.items) c.decode_type.new.table
-    (subst (λ ids. AreTaken (declarations_of c.args.source.module.now) (at_place c.args.source.place) c.loop-number.number
-    (trees_at c.args.source.module.now.table c.args.args.now) (trees_at c.args.source.module.now.table ids)
+    (subst (λ ids. AreTaken (declarations_of c.args.source.base.now) (at_place c.args.source.place) c.loop-number.number
+    (trees_at c.args.source.base.now.table c.args.args.now) (trees_at c.args.source.base.now.table ids)
     (pairs_at c.loop-number.table.types c.loop-number.pairs.items)) c.in-Some.ensures.popped c.loop-number.invariant.taken)
     (subst (IsTypeFound c.args.level
-    (type_of_tree (declarations_of c.args.source.module.now) (at_place c.args.source.place) (tree_at c.args.source.module.now.table c.in-Some.arg.0))
+    (type_of_tree (declarations_of c.args.source.base.now) (at_place c.args.source.place) (tree_at c.args.source.base.now.table c.in-Some.arg.0))
     c.decode_type.new.table) c.in_default-2.is c.in_ok-ty.ensures.decoded) c.loop-number-test.true
 
 pub returns-clause-types : goal.returns-clause-types
 returns-clause-types c =
-    taken-all (declarations_of c.args.source.module.now) (at_place c.args.source.place) c.loop-number.number c.args.count
-    (trees_at c.args.source.module.now.table c.args.args.now) (trees_at c.args.source.module.now.table c.loop-number.args)
+    taken-all (declarations_of c.args.source.base.now) (at_place c.args.source.place) c.loop-number.number c.args.count
+    (trees_at c.args.source.base.now.table c.args.args.now) (trees_at c.args.source.base.now.table c.loop-number.args)
     (pairs_at c.loop-number.table.types c.loop-number.pairs.items)
     c.loop-number.invariant.taken (omega (arith, c.loop-number.invariant.within, c.loop-number-test.false))
 
@@ -93,7 +93,7 @@ pub returns-clause-keeps : goal.returns-clause-keeps
 returns-clause-keeps c = c.loop-number.invariant.keeps
 
 pub returns-in_default-2-clause-args : goal.returns-in_default-2-clause-args
-returns-in_default-2-clause-args c = (subst (lp.AreKnown c.args.source.module.now.table) c.in-Some.ensures.popped c.loop-number.invariant.args).1
+returns-in_default-2-clause-args c = (subst (lp.AreKnown c.args.source.base.now.table) c.in-Some.ensures.popped c.loop-number.invariant.args).1
 
 pub returns-clause-known : goal.returns-clause-known
 returns-clause-known c = c.loop-number.invariant.pairs

@@ -10,10 +10,10 @@ use Rattle.decode_back.proofs.heads.type_arguments.Given as goal
 
 abbrev pub invariant-loop-number : goal.invariant-loop-number
 invariant-loop-number l = record {
-  args : lp.AreKnown l.source.module.now.table l.args;
+  args : lp.AreKnown l.source.base.now.table l.args;
   pairs : ArePairsKnown l.table.types l.pairs.items;
   keeps : Keeps l.fn.table l.table;
   within : l.number ≤ l.count;
-  taken : AreTaken (declarations_of l.source.module.now) (at_place l.source.place) l.number (trees_at l.source.module.now.table l.fn.args)
-      (trees_at l.source.module.now.table l.args) (pairs_at l.table.types l.pairs.items);
+  taken : AreTaken (declarations_of l.source.base.now) (at_place l.source.place) l.number (trees_at l.source.base.now.table l.fn.args)
+      (trees_at l.source.base.now.table l.args) (pairs_at l.table.types l.pairs.items);
 }

@@ -12,26 +12,26 @@ use Rattle.decode_back.proofs.heads.variable.Goals as goal
 pub returns-then-number-place-clause-decoded : goal.returns-then-number-place-clause-decoded
 returns-then-number-place-clause-decoded c =
     IfOk-both _ _ _ c.bound.result c.bound.ensures.found c.bound.ensures.spent (λ found h k level types vs.
-    bound-found (declarations_of c.args.source.module.now) (at_place c.args.source.place) types level c.args.budget.now c.bound.new.budget c.args.number
+    bound-found (declarations_of c.args.source.base.now) (at_place c.args.source.place) types level c.args.budget.now c.bound.new.budget c.args.number
     c.bound.new.table c.if-number-place.true found h k)
 
 pub returns-then-number-depth-clause-decoded : goal.returns-then-number-depth-clause-decoded
 returns-then-number-depth-clause-decoded c level types vs =
-    let d = declarations_of c.args.source.module.now in
+    let d = declarations_of c.args.source.base.now in
     nothing-NoTerm types c.args.budget.now level (term_from d (Var c.args.number) (at_place c.args.source.place))
     (variable-nothing d (at_place c.args.source.place) c.args.number c.depth-depth.result c.depth-depth.ensures (omega (arith, c.if-number-place.false))
     (λ a b e. omega (arith, a, c.if-number-depth.true)))
 
 pub returns-then-outer-place-clause-decoded : goal.returns-then-outer-place-clause-decoded
 returns-then-outer-place-clause-decoded c level types vs =
-    let d = declarations_of c.args.source.module.now in
+    let d = declarations_of c.args.source.base.now in
     nothing-NoTerm types c.args.budget.now level (term_from d (Var c.args.number) (at_place c.args.source.place))
     (variable-nothing d (at_place c.args.source.place) c.args.number c.depth-depth.result c.depth-depth.ensures (omega (arith, c.if-number-place.false))
     (λ a b e. omega (arith, b, c.if-outer-place.true)))
 
 pub returns-then-free-place-clause-decoded : goal.returns-then-free-place-clause-decoded
 returns-then-free-place-clause-decoded c level types vs =
-    let d = declarations_of c.args.source.module.now in
+    let d = declarations_of c.args.source.base.now in
     nothing-NoTerm types c.args.budget.now level (term_from d (Var c.args.number) (at_place c.args.source.place))
     (variable-nothing d (at_place c.args.source.place) c.args.number c.depth-depth.result c.depth-depth.ensures (omega (arith, c.if-number-place.false))
     (λ a b e. omega (arith, e, c.if-free-place.true)))
@@ -48,7 +48,7 @@ returns-clause-known c =
 
 pub returns-then-not-spend-clause-decoded : goal.returns-then-not-spend-clause-decoded
 returns-then-not-spend-clause-decoded c level types vs =
-    let d = declarations_of c.args.source.module.now in
+    let d = declarations_of c.args.source.base.now in
     let depth = c.depth-depth.result in
     let j = depth - 1 - c.args.number - c.args.source.place.type_variables in
     let is : term_from d (Var c.args.number) (at_place c.args.source.place) ≡ Some (ClosedTerm.parameter j) =
@@ -60,7 +60,7 @@ returns-then-not-spend-clause-decoded c level types vs =
 
 pub returns-clause-decoded : goal.returns-clause-decoded
 returns-clause-decoded c level types vs =
-    let d = declarations_of c.args.source.module.now in
+    let d = declarations_of c.args.source.base.now in
     let depth = c.depth-depth.result in
     let j = depth - 1 - c.args.number - c.args.source.place.type_variables in
     let is : term_from d (Var c.args.number) (at_place c.args.source.place) ≡ Some (ClosedTerm.parameter j) =

@@ -21,24 +21,24 @@ loop-number-init c = record {
   many = ap length c.new-ids.ensures.items;
   budget = omega arith;
   keeps = Keeps-refl c.args.table.now;
-  so_far = λ types vs. hypotheses-none (declarations_of c.args.source.module.now) types (trees_at c.args.source.module.now.table c.args.trees.now)
+  so_far = λ types vs. hypotheses-none (declarations_of c.args.source.base.now) types (trees_at c.args.source.base.now.table c.args.trees.now)
       c.args.source.place.type_variables c.args.source.place.free_variables c.args.budget.now c.args.budget.now c.args.table.now c.new-ids.result.items
       c.new-ids.ensures.items refl;
 }
 
 pub returns-in_default-clause-found : goal.returns-in_default-clause-found
 returns-in_default-clause-found c types vs =
-    hypothesis-none (declarations_of c.args.source.module.now) types (trees_at c.args.source.module.now.table c.args.trees.now)
+    hypothesis-none (declarations_of c.args.source.base.now) types (trees_at c.args.source.base.now.table c.args.trees.now)
     c.args.source.place.type_variables c.args.source.place.free_variables c.args.budget.now c.loop-number.number c.loop-number.budget
-    c.decode_term.new.budget (tree_at c.args.source.module.now.table (get_or c.args.trees.now c.loop-number.number no_id).0)
-    (trees_at c.args.source.module.now.table (drop (c.loop-number.number + 1) c.args.trees.now)) c.loop-number.table c.decode_term.new.table
+    c.decode_term.new.budget (tree_at c.args.source.base.now.table (get_or c.args.trees.now c.loop-number.number no_id).0)
+    (trees_at c.args.source.base.now.table (drop (c.loop-number.number + 1) c.args.trees.now)) c.loop-number.table c.decode_term.new.table
     c.loop-number.ids.items
-    (subst (λ l. HypothesesSoFar (declarations_of c.args.source.module.now) types (trees_at c.args.source.module.now.table c.args.trees.now) l
+    (subst (λ l. HypothesesSoFar (declarations_of c.args.source.base.now) types (trees_at c.args.source.base.now.table c.args.trees.now) l
     c.args.source.place.type_variables c.args.source.place.free_variables c.loop-number.number c.args.budget.now c.loop-number.budget c.loop-number.table
-    c.loop-number.ids.items) (next-tree c.args.source.module.now.table c.args.trees.now c.loop-number.number no_id c.loop-number-test.true)
+    c.loop-number.ids.items) (next-tree c.args.source.base.now.table c.args.trees.now c.loop-number.number no_id c.loop-number-test.true)
     (c.loop-number.invariant.so_far types vs))
     (subst (IsTermFound greatest_depth types c.loop-number.budget c.decode_term.new.budget
-    (term_from (declarations_of c.args.source.module.now) (tree_at c.args.source.module.now.table (get_or c.args.trees.now c.loop-number.number no_id).0)
+    (term_from (declarations_of c.args.source.base.now) (tree_at c.args.source.base.now.table (get_or c.args.trees.now c.loop-number.number no_id).0)
     (place c.args.source.place.type_variables c.args.source.place.free_variables c.loop-number.number 0)) c.decode_term.new.table) c.in_default.is
     (c.in_ok-id.ensures.decoded types (AreVariables-Keeps c.args.source.variables.now types c.loop-number.invariant.keeps c.requires.source.variables vs)))
 
@@ -52,19 +52,19 @@ loop-number-preserved c = record {
       ∙ length-append c.loop-number.ids.items (c.in-Some.id ∷ []) in omega (arith, l, c.loop-number.invariant.many);
   budget = omega (arith, c.loop-number.invariant.budget, c.decode_term.ensures.budget);
   keeps = Keeps-trans c.loop-number.invariant.keeps c.decode_term.ensures.keeps;
-  so_far = λ types vs. hypothesis-more (declarations_of c.args.source.module.now) types (trees_at c.args.source.module.now.table c.args.trees.now)
+  so_far = λ types vs. hypothesis-more (declarations_of c.args.source.base.now) types (trees_at c.args.source.base.now.table c.args.trees.now)
       c.args.source.place.type_variables c.args.source.place.free_variables c.args.budget.now c.loop-number.number (c.loop-number.number + 1)
-      c.loop-number.budget c.decode_term.new.budget (tree_at c.args.source.module.now.table (get_or c.args.trees.now c.loop-number.number no_id).0)
-      (trees_at c.args.source.module.now.table (drop (c.loop-number.number + 1) c.args.trees.now)) c.loop-number.table c.decode_term.new.table
+      c.loop-number.budget c.decode_term.new.budget (tree_at c.args.source.base.now.table (get_or c.args.trees.now c.loop-number.number no_id).0)
+      (trees_at c.args.source.base.now.table (drop (c.loop-number.number + 1) c.args.trees.now)) c.loop-number.table c.decode_term.new.table
       c.loop-number.ids.items c.push.new.self.items c.in-Some.id
-      (subst (λ l. HypothesesSoFar (declarations_of c.args.source.module.now) types (trees_at c.args.source.module.now.table c.args.trees.now) l
+      (subst (λ l. HypothesesSoFar (declarations_of c.args.source.base.now) types (trees_at c.args.source.base.now.table c.args.trees.now) l
       c.args.source.place.type_variables c.args.source.place.free_variables c.loop-number.number c.args.budget.now c.loop-number.budget
       c.loop-number.table c.loop-number.ids.items)
-      (next-tree c.args.source.module.now.table c.args.trees.now c.loop-number.number no_id c.loop-number-test.true)
+      (next-tree c.args.source.base.now.table c.args.trees.now c.loop-number.number no_id c.loop-number-test.true)
       (c.loop-number.invariant.so_far types vs))
       (subst (IsTermFound greatest_depth types c.loop-number.budget c.decode_term.new.budget
-      (term_from (declarations_of c.args.source.module.now)
-      (tree_at c.args.source.module.now.table (get_or c.args.trees.now c.loop-number.number no_id).0)
+      (term_from (declarations_of c.args.source.base.now)
+      (tree_at c.args.source.base.now.table (get_or c.args.trees.now c.loop-number.number no_id).0)
       (place c.args.source.place.type_variables c.args.source.place.free_variables c.loop-number.number 0)) c.decode_term.new.table) c.in-Some.is
       (c.in_ok-id.ensures.decoded types
       (AreVariables-Keeps c.args.source.variables.now types c.loop-number.invariant.keeps c.requires.source.variables vs)))
@@ -73,12 +73,12 @@ loop-number-preserved c = record {
 
 pub returns-clause-found : goal.returns-clause-found
 returns-clause-found c types vs =
-    hypotheses-all (declarations_of c.args.source.module.now) types (trees_at c.args.source.module.now.table c.args.trees.now)
+    hypotheses-all (declarations_of c.args.source.base.now) types (trees_at c.args.source.base.now.table c.args.trees.now)
     c.args.source.place.type_variables c.args.source.place.free_variables c.args.budget.now c.loop-number.number c.loop-number.budget c.loop-number.table
     c.loop-number.ids.items
-    (subst (λ l. HypothesesSoFar (declarations_of c.args.source.module.now) types (trees_at c.args.source.module.now.table c.args.trees.now) l
+    (subst (λ l. HypothesesSoFar (declarations_of c.args.source.base.now) types (trees_at c.args.source.base.now.table c.args.trees.now) l
     c.args.source.place.type_variables c.args.source.place.free_variables c.loop-number.number c.args.budget.now c.loop-number.budget c.loop-number.table
-    c.loop-number.ids.items) (no_tree c.args.source.module.now.table c.args.trees.now c.loop-number.number c.loop-number-test.false)
+    c.loop-number.ids.items) (no_tree c.args.source.base.now.table c.args.trees.now c.loop-number.number c.loop-number-test.false)
     (c.loop-number.invariant.so_far types vs))
 
 pub decode_term-requires-clause-source : goal.decode_term-requires-clause-source
@@ -86,7 +86,7 @@ decode_term-requires-clause-source c =
     IsSource-at c.loop-number.table c.args.source c.loop-number.number 0 (IsSource-Keeps c.args.source c.loop-number.invariant.keeps c.requires.source)
 
 pub decode_term-requires-clause-known : goal.decode_term-requires-clause-known
-decode_term-requires-clause-known c = tree-known-at c.args.source.module.now.table c.args.trees.now c.loop-number.number _ c.requires.known
+decode_term-requires-clause-known c = tree-known-at c.args.source.base.now.table c.args.trees.now c.loop-number.number _ c.requires.known
     c.loop-number-test.true
 
 pub returns-in_err-id-clause-keeps : goal.returns-in_err-id-clause-keeps

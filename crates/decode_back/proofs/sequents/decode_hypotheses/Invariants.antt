@@ -14,7 +14,7 @@ invariant-loop-number l = record {
   budget : l.budget ≤ l.fn.budget;
   keeps : Keeps l.fn.table l.table;
   so_far : (types : List ClosedType) → AreVariables l.fn.table l.source.variables.now types
-      → HypothesesSoFar (declarations_of l.source.module.now) types (trees_at l.source.module.now.table l.trees)
-      (trees_at l.source.module.now.table (drop l.number l.trees)) l.source.place.type_variables l.source.place.free_variables l.number l.fn.budget l.budget
+      → HypothesesSoFar (declarations_of l.source.base.now) types (trees_at l.source.base.now.table l.trees)
+      (trees_at l.source.base.now.table (drop l.number l.trees)) l.source.place.type_variables l.source.place.free_variables l.number l.fn.budget l.budget
       l.table l.ids.items;
 }

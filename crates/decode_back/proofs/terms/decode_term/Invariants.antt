@@ -13,11 +13,11 @@ abbrev pub invariant-loop-task : goal.invariant-loop-task
 invariant-loop-task l = record {
   keeps : Keeps l.fn.table l.table;
   budget : l.walk.budget ≤ l.fn.budget;
-  shaped : IsTermShape l.source.module.now.table l.table l.walk.tasks l.walk.made;
+  shaped : IsTermShape l.source.base.now.table l.table l.walk.tasks l.walk.made;
   walk : (types : List ClosedType) → AreVariables l.fn.table l.source.variables.now types
-      → IsTermWalk (declarations_of l.source.module.now) l.source.module.now.table (under l.source.place) types
+      → IsTermWalk (declarations_of l.source.base.now) l.source.base.now.table (under l.source.place) types
       (record {
-        told = term_from (declarations_of l.source.module.now) (tree_at l.source.module.now.table l.fn.id.0) (at_place l.source.place);
+        told = term_from (declarations_of l.source.base.now) (tree_at l.source.base.now.table l.fn.id.0) (at_place l.source.place);
         size =
             l.fn.budget;
         depth = l.level;
@@ -26,4 +26,4 @@ invariant-loop-task l = record {
 }
 
 abbrev pub decreases-loop-task : goal.decreases-loop-task
-decreases-loop-task l = term_work l.source.module.now.table l.walk.tasks
+decreases-loop-task l = term_work l.source.base.now.table l.walk.tasks
