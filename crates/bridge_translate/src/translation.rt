@@ -112,12 +112,14 @@ fn module_of(alloc: Global, machine: &Machine, share: bool) -> Result<Module, Me
     ensures held { IfOk result IsHeld }
     ensures module { IfOk result (λ made. declarations_of made ≡ module_of share (accepted_state machine.now)) }
 {
-    let image = module(
+    let mut image = module(
         alloc,
         machine.proof(),
         machine.assumptions(),
         machine.exports(),
     )?;
+    // Nothing is looked for by its name any more.
+    image.give_up_names();
     if !share {
         return Ok(image);
     }

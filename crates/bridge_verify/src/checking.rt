@@ -109,7 +109,7 @@ fn read_back(alloc: Global, translation: &mut Translation) -> Result<Module, Ans
     let Ok(mut path) = Path::new(alloc, &translation.module) else {
         return Err(Answer::Memory);
     };
-    let Ok(mut reader) = SharingReader::new(alloc) else {
+    let Ok(mut reader) = SharingReader::new(alloc, translation.module.decls.len()) else {
         drop(path);
         return Err(Answer::Memory);
     };

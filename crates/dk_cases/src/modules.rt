@@ -55,7 +55,7 @@ pub(crate) fn read_over(alloc: Global, source: Module, text: &[u8]) -> Result<Mo
 {
     let Module { table, decls } = source;
     drop(decls);
-    let Ok(mut reader) = SharingReader::new(alloc) else {
+    let Ok(mut reader) = SharingReader::new(alloc, 0) else {
         drop(table);
         return Err(DkFault::Memory);
     };

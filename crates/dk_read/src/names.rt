@@ -57,6 +57,14 @@ impl Names {
         Ok(number)
     }
 
+    /// Makes room for so many names more. They stay as they are.
+    pub(crate) fn reserve(&mut self, more: usize) -> Result<(), Memory>
+        ensures { self.new ≡ self.old }
+    {
+        self.meanings.reserve(more)?;
+        self.table.reserve(more)
+    }
+
     /// The bytes of a name, copied: none for a number that no name has.
     pub(crate) fn copied(&self, number: usize) -> Result<Vec<u8>, Memory>
         ensures { IfOk result (λ bytes. bytes.items ≡ name_at self.now number) }

@@ -44,7 +44,9 @@ impl Parser {
         ensures state { IfOk result (λ p. state_of p ≡ reading.Between) }
         ensures first { IfOk result IsFirst }
     {
-        let module = Module::new(alloc)?;
+        let mut module = Module::new(alloc)?;
+        // A name is looked for among the reader's own.
+        module.give_up_names();
         let Ok((names, nameless)) = first_names(alloc, &module) else {
             drop(module);
             return Err(Memory);
@@ -65,6 +67,14 @@ impl Parser {
             head: Head::TypeOf(Form::Symbol, nameless),
             state: State::Between,
         })
+    }
+
+    /// Makes room for so many declarations, as far as there is memory. The reading stays as it is.
+    pub(crate) fn reserve(&mut self, count: usize)
+        ensures { self.new ≡ self.old }
+    {
+        let _ = self.module.reserve(count);
+        let _ = self.names.reserve(count);
     }
 
     /// The tree of this node.

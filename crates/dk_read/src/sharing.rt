@@ -28,12 +28,14 @@ pub struct SharingReader {
 }
 
 impl SharingReader {
-    /// A reader that was fed the signature's text. It may be lent any table that holds the types of the signature's symbols.
-    pub fn new(alloc: Global) -> Result<SharingReader, Memory>
+    /// A reader that was fed the signature's text, with room for so many declarations, as far as there is memory. It may be lent any
+    /// table that holds the types of the signature's symbols.
+    pub fn new(alloc: Global, count: usize) -> Result<SharingReader, Memory>
         ensures going { IfOk result (λ r. (trees : List Tree) → HoldsSignature trees → IsGoingOver r trees) }
         ensures fed { IfOk result (λ r. (trees : List Tree) → IsFed (reading_over r trees) prelude) }
     {
-        let text = Text::new(alloc)?;
+        let mut text = Text::new(alloc)?;
+        text.parser.reserve(count);
         Ok(SharingReader { text })
     }
 

@@ -1,10 +1,11 @@
 //! Declarations, and the list of a module's.
-ghost use Rattle.std.specs.Prelude.{ℕ, if◌then◌else◌, None, ◌≡◌, ◌↔◌, ◌<◌, ◌^◌, ◌++◌, ◌∷◌, [], length, slice_get, Some, IsTrue, IsFalse, IfSome, OnOk, OnErr, position, nat_eq};
+ghost use Rattle.std.specs.Prelude.{ℕ, List, if◌then◌else◌, None, ◌≡◌, ◌↔◌, ◌<◌, ◌^◌, ◌++◌, ◌∷◌, [], length, slice_get, Some, IsTrue, IsFalse, IfSome, OnOk, OnErr, position, nat_eq};
 ghost use Rattle.std.specs.List.{list_any};
 ghost use Rattle.std.specs.Bool.{OnTrue};
 ghost use Rattle.std.specs.Str.{bytes_eq};
 ghost use Rattle.lp_spec.specs.ShortNames.{is_short_name};
 ghost use Rattle.indexmap.specs.IndexMap.{get};
+ghost use Rattle.name_table.specs.Places.{with_name};
 ghost use Rattle.holide_sig.specs.ShortIds.{is_id, short_id};
 ghost use Rattle.holide_sig.specs.Places.{placed_with, short_with, IsShortAt};
 
@@ -31,15 +32,15 @@ pub struct Decl {
 #[derive(Drop)]
 pub struct Decls {
     decls: Vec<Decl>,
-    // Their names, in order: the number of a name is the place of its declaration.
-    names: NameTable,
+    // Their names, in order, until they are given up: the number of a name is the place of its declaration.
+    names: Option<NameTable>,
     // By the number of a tree, the place of the first declaration whose name is short for it. Trees are numbered from 0 as they come, so numbers
     // that meet in a table can't be had without the trees between them: for k that meet among k places, about k * k trees have to be made.
     shorts: IndexMap<usize, usize>,
 }
 
 impl Model for Decls {
-    ghost use Rattle.std.specs.Prelude.{◌≡◌, List, nat_eq, map};
+    ghost use Rattle.std.specs.Prelude.{◌≡◌, List, nat_eq, map, IfSome};
     ghost use Rattle.holide_sig.specs.declared.decls.Decl.{Decl as ADecl};
     ghost use Rattle.indexmap.specs.IndexMap.{get};
 
@@ -49,7 +50,7 @@ impl Model for Decls {
 
     ghost view = { λ d. d.decls.items };
 
-    ghost invariant = { λ d. (d.names ≡ map (λ decl. decl.name) d.decls.items) × AreShortPlaced d.decls.items (get nat_eq d.shorts) };
+    ghost invariant = { λ d. IfSome d.names (λ names. names ≡ map (λ decl. decl.name) d.decls.items) × AreShortPlaced d.decls.items (get nat_eq d.shorts) };
 }
 
 impl Decls {
@@ -59,7 +60,7 @@ impl Decls {
     {
         Decls {
             decls: Vec::new(alloc),
-            names: NameTable::new(alloc),
+            names: Some(NameTable::new(alloc)),
             shorts: IndexMap::new(alloc),
         }
     }
@@ -92,7 +93,26 @@ impl Decls {
         ensures small { IfSome result (λ place. place < 2 ^ 63) }
     {
         let _count = self.len();
-        self.names.find(name)
+        match &self.names {
+            Some(names) => names.find(name),
+            None => place_named(&self.decls, name),
+        }
+    }
+
+    /// Makes room for so many declarations more. The list stays as it is.
+    pub(crate) fn reserve(&mut self, more: usize) -> Result<(), Memory>
+        ensures { self.new ≡ self.old }
+    {
+        self.decls.reserve(more)?;
+        reserve_names(&mut self.names, more)
+    }
+
+    /// Gives up the table of names, which takes as much memory as the declarations: what is found by a name is looked for among all of
+    /// them from then on.
+    pub(crate) fn give_up_names(&mut self)
+        ensures { self.new ≡ self.old }
+    {
+        self.names = None;
     }
 
     /// The place of the first declaration whose name is short for the tree of that number.
@@ -119,10 +139,21 @@ impl Decls {
         let place = self.decls.len();
         self.decls.reserve(1)?;
         note_short(&mut self.shorts, short_tree(&decl), place)?;
-        self.names.number(decl.name.as_bytes())?;
+        note_name(&mut self.names, decl.name.as_bytes())?;
         self.decls.push_reserved(decl);
         Ok(())
     }
+}
+
+// The place of the declaration of that name.
+fn place_named(decls: &[Decl], name: &[u8]) -> Option<usize>
+    ensures { result ≡ position (λ d. bytes_eq d.name name.now) decls.now }
+{
+    decls.iter().position(
+        |decl: &Decl| -> bool
+            ensures { result ≡ bytes_eq decl.now.name name.entry.now }
+        { decl.name.as_bytes() == name },
+    )
 }
 
 // The place of the first declaration whose name is short for the tree of that number.
@@ -144,6 +175,27 @@ fn is_short_at(decls: &[Decl], place: usize, id: LpId) -> bool
         Some(decl) => is_short_of(decl, id),
         None => false,
     }
+}
+
+// Makes room for so many names more, where there is a table of names.
+fn reserve_names(names: &mut Option<NameTable>, more: usize) -> Result<(), Memory>
+    ensures { (l : List (List ℕ)) → IfSome names.old (λ t. t ≡ l) → IfSome names.new (λ t. t ≡ l) }
+{
+    match names {
+        Some(table) => table.reserve(more),
+        None => Ok(()),
+    }
+}
+
+// Gives the next number to a new name, where there is a table of names.
+fn note_name(names: &mut Option<NameTable>, name: &[u8]) -> Result<(), Memory>
+    ensures noted { OnOk result ((l : List (List ℕ)) → IfSome names.old (λ t. t ≡ l) → IfSome names.new (λ t. t ≡ with_name l name.now)) }
+    ensures unchanged { OnErr result ((l : List (List ℕ)) → IfSome names.old (λ t. t ≡ l) → IfSome names.new (λ t. t ≡ l)) }
+{
+    if let Some(table) = names {
+        table.number(name)?;
+    }
+    Ok(())
 }
 
 // Notes a place for the tree for which a name is short, if it is, unless that has one.

@@ -55,6 +55,21 @@ impl Module {
         self.decls.push(decl)
     }
 
+    /// Makes room for so many declarations more. The module stays as it is.
+    pub fn reserve(&mut self, more: usize) -> Result<(), Memory>
+        ensures { self.new ≡ self.old }
+    {
+        self.decls.reserve(more)
+    }
+
+    /// Gives up the table of the declarations' names, which takes as much memory as the declarations. The module stays as it is, and
+    /// `find` takes as much time as there are declarations from then on.
+    pub fn give_up_names(&mut self)
+        ensures { self.new ≡ self.old }
+    {
+        self.decls.give_up_names();
+    }
+
     /// The symbol of that name: the signature's are numbered from 0, the declarations after them.
     pub fn find(&self, name: &[u8]) -> Option<usize>
         ensures { result ≡ symbol_number (declarations_of self.now) name.now }

@@ -153,7 +153,7 @@ fn check_all(
     ensures refuses { IfOk result (λ v. (i : ℕ) → IsRefusedWithin rechecks (declarations_of base.old) budgets.now i → v ≡ verdict.IllTyped i) }
 {
     let kept = base.table.count();
-    let mut memo = Memos::new(alloc, rechecks);
+    let mut memo = Memos::with_room(alloc, rechecks, room(kept))?;
     for (i, budget) in budgets.iter().enumerate() {
         let mut left = Budget { left: *budget };
         match check_noted(&mut memo, base, i, &mut left)? {
@@ -167,6 +167,11 @@ fn check_all(
 
 // How many nodes the checks may make before they are given up: so many, or an eighth of the module's.
 const ROOM: usize = 4096;
+
+// Room for the first `kept` nodes and for those that the checks make until they are given up.
+fn room(kept: usize) -> usize {
+    kept.saturating_add(kept / 8).saturating_add(ROOM)
+}
 
 // Gives up the nodes that the checks made after the first `kept`, where they are many, and what is noted of them.
 fn cut_back(base: &mut Module, memo: &mut Memos, kept: usize)

@@ -42,6 +42,14 @@ impl Memo {
         }
     }
 
+    /// Nothing is known, and there is room for so many trees.
+    pub(crate) fn with_room(alloc: Global, count: usize) -> Result<Self, Memory>
+        ensures empty { IfOk result IsEmpty }
+    {
+        let types = Vec::with_capacity(alloc, count)?;
+        Ok(Memo { types })
+    }
+
     /// The type that was noted of a tree.
     pub(crate) fn find(&self, id: LpId) -> Option<LpId>
         ensures noted { IfSome result (λ r. IsNoted self.now id r) }
@@ -128,6 +136,32 @@ impl Memos {
             open_types: Latest::new(alloc),
             turns: Turns::new(alloc, rechecks),
         }
+    }
+
+    /// Nothing is known, and there is room for so many trees.
+    pub(crate) fn with_room(alloc: Global, rechecks: bool, count: usize) -> Result<Self, Memory>
+        ensures rechecks { IfOk result (λ memo. memo.turns.rechecks ≡ rechecks) }
+        ensures types { IfOk result (λ memo. IsEmpty memo.types) }
+        ensures products { IfOk result (λ memo. IsEmpty memo.turns.products) }
+        ensures lifts { IfOk result (λ memo. memo.lifts ≡ []) }
+        ensures open_types { IfOk result (λ memo. memo.open_types ≡ []) }
+    {
+        let types = Memo::with_room(alloc, count)?;
+        let Ok(products) = Memo::with_room(alloc, count) else {
+            drop(types);
+            return Err(Memory);
+        };
+        Ok(Memos {
+            types,
+            lifts: Latest::new(alloc),
+            open_types: Latest::new(alloc),
+            turns: Turns {
+                alloc,
+                rechecks,
+                products,
+                contexts: Contexts::new(alloc),
+            },
+        })
     }
 
     /// Forgets each tree and each type with a number of `len` or more, all that was lifted, and all contexts.

@@ -58,6 +58,25 @@ fn numbers_the_signature_and_then_the_declarations(rt: HostRuntime) -> Result<()
 }
 
 #[test]
+fn finds_a_symbol_whose_name_was_given_up(rt: HostRuntime) -> Result<(), Fail> {
+    let alloc = rt.alloc();
+    let mut module = Module::new(alloc)?;
+    push_type(alloc, &mut module, b"nat")?;
+    module.give_up_names();
+    module.reserve(3)?;
+    for (name, number) in [
+        (b"eq_mp".as_slice(), Some(12)),
+        (b"nat".as_slice(), Some(SIGNATURE)),
+        (b"na".as_slice(), None),
+        (b"natural".as_slice(), None),
+    ] {
+        assert_eq!(rt; module.find(name), number, "at {name:?}");
+    }
+    assert_eq!(rt; module.decls.len(), 1);
+    Ok(())
+}
+
+#[test]
 fn names_are_their_bytes(rt: HostRuntime) -> Result<(), Fail> {
     let alloc = rt.alloc();
     let one = Ident::new(Vec::from_slice(alloc, b"E0")?);

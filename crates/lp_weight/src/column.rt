@@ -92,6 +92,15 @@ impl Column {
         unpacked(&self.amounts, self.entries[number])
     }
 
+    /// Makes room for the spreads of so many trees. The column stays as it is.
+    pub(crate) fn reserve(&mut self, count: usize) -> Result<(), Memory>
+        ensures { self.new ≡ self.old }
+    {
+        let more = count.saturating_sub(self.entries.len());
+        self.entries.reserve(more)?;
+        Ok(())
+    }
+
     /// Puts the next tree's spread last. After want of memory the column is of no more use.
     pub(crate) fn push(&mut self, spread: Spread) -> Result<(), Memory>
         ensures { OnOk result (self.new ≡ self.old ++ spread ∷ []) }

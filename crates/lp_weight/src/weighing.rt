@@ -107,6 +107,7 @@ impl Weights {
         ensures reached { OnOk result (id.0 < length self.new.column) }
         ensures weights { OnOk result (AreWeights base.now self.new) }
     {
+        self.column.reserve(base.table.count())?;
         while self.column.len() <= id.0 {
             let next = LpId(self.column.len());
             let spread = self.spread(base, next)?;

@@ -10,11 +10,11 @@ use std::alloc::Global;
 const FEWEST: usize = 1024;
 
 /// The number that is noted for the short name of a number, if that name has it.
-pub(crate) fn guess_short(names: &[Spelling], recent: &[usize], key: u128) -> Option<usize>
+pub(crate) fn guess_short(names: &[Spelling], recent: &[u32], key: u128) -> Option<usize>
     requires { IsShort key }
     ensures { IfSome result (λ number. slice_get names.now number ≡ Some (unpacked key)) }
 {
-    let number = *recent.get(place(mix(key), recent.len()))?;
+    let number = *recent.get(place(mix(key), recent.len()))? as usize;
     if names.get(number)?.is_short(key) {
         Some(number)
     } else {
@@ -23,11 +23,11 @@ pub(crate) fn guess_short(names: &[Spelling], recent: &[usize], key: u128) -> Op
 }
 
 /// The number that is noted for a name that is not short, if that name has it.
-pub(crate) fn guess_long(names: &[Spelling], recent: &[usize], name: &[u8]) -> Option<usize>
+pub(crate) fn guess_long(names: &[Spelling], recent: &[u32], name: &[u8]) -> Option<usize>
     requires { 15 < length name.now }
     ensures { IfSome result (λ number. slice_get names.now number ≡ Some name.now) }
 {
-    let number = *recent.get(place(mix_long(name), recent.len()))?;
+    let number = *recent.get(place(mix_long(name), recent.len()))? as usize;
     if names.get(number)?.is_long(name) {
         Some(number)
     } else {
@@ -36,13 +36,13 @@ pub(crate) fn guess_long(names: &[Spelling], recent: &[usize], name: &[u8]) -> O
 }
 
 /// Notes the number of the short name of a number.
-pub(crate) fn note_short(recent: &mut Vec<usize>, key: u128, number: usize) {
+pub(crate) fn note_short(recent: &mut Vec<u32>, key: u128, number: usize) {
     let place = place(mix(key), recent.len());
     note(recent, place, number);
 }
 
 /// Notes the number of a name that is not short.
-pub(crate) fn note_long(recent: &mut Vec<usize>, name: &[u8], number: usize)
+pub(crate) fn note_long(recent: &mut Vec<u32>, name: &[u8], number: usize)
     requires { 15 < length name.now }
 {
     let place = place(mix_long(name), recent.len());
@@ -51,7 +51,7 @@ pub(crate) fn note_long(recent: &mut Vec<usize>, name: &[u8], number: usize)
 
 /// Makes twice as many places as there are names, where there are fewer, and notes all names anew. Where no memory is left for more places, they
 /// stay as they are.
-pub(crate) fn widen(recent: &mut Vec<usize>, names: &[Spelling]) {
+pub(crate) fn widen(recent: &mut Vec<u32>, names: &[Spelling]) {
     let len = recent.len();
     if len < names.len().saturating_mul(2) {
         let wanted = len.saturating_mul(2).max(FEWEST);
@@ -62,14 +62,17 @@ pub(crate) fn widen(recent: &mut Vec<usize>, names: &[Spelling]) {
 }
 
 // Notes the number of each name.
-fn note_all(recent: &mut Vec<usize>, names: &[Spelling]) {
+fn note_all(recent: &mut Vec<u32>, names: &[Spelling]) {
     for number in 0..names.len() {
         let place = place(names[number].mixed(), recent.len());
         note(recent, place, number);
     }
 }
 
-fn note(recent: &mut Vec<usize>, place: usize, number: usize) {
+fn note(recent: &mut Vec<u32>, place: usize, number: usize) {
+    let Ok(number) = u32::try_from(number) else {
+        return;
+    };
     if let Some(noted) = recent.get_mut(place) {
         *noted = number;
     }

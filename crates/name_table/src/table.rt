@@ -22,8 +22,8 @@ pub struct NameTable {
     // The number of each longer name.
     longs: BTreeMap<Vec<u8>, usize>,
     names: Vec<Spelling>,
-    // Numbers that were lately asked for.
-    recent: Vec<usize>,
+    // Numbers that were lately asked for, if they are below 2^32.
+    recent: Vec<u32>,
 }
 
 impl Model for NameTable {
@@ -84,6 +84,14 @@ impl NameTable {
         } else {
             self.number_long(name)
         }
+    }
+
+    /// Makes room for so many names more. The table stays as it is.
+    pub fn reserve(&mut self, more: usize) -> Result<(), Memory>
+        ensures { self.new ≡ self.old }
+    {
+        self.names.reserve(more)?;
+        Ok(())
     }
 
     /// The bytes of a name, copied: none for a number that no name has.

@@ -158,6 +158,8 @@ fn made_of(alloc: Global, source: &Module, folding: &mut Folding) -> Result<Modu
     ensures folded { IfOk result (λ m. declarations_of m ≡ folded (declarations_of source.now)) }
 {
     let mut target = Module::new(alloc)?;
+    // Nothing is looked for by its name.
+    target.give_up_names();
     let count = folding.counts.len();
     make(
         alloc,

@@ -44,6 +44,7 @@ pub fn module(
         exports,
     };
     let mut builder = ModuleBuilder::new(alloc)?;
+    builder.reserve(reached.len())?;
     for one in proof.made() {
         builder.add(run, &reached, one)?;
     }
@@ -80,6 +81,13 @@ impl ModuleBuilder {
             item: 0,
             symbol: 0,
         })
+    }
+
+    // Makes room for the declarations of so many items.
+    fn reserve(&mut self, items: usize) -> Result<(), Memory>
+        ensures { self.new ≡ self.old }
+    {
+        self.target.reserve(items)
     }
 
     // Adds the next thing that was made.

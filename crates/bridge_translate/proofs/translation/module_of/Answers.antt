@@ -31,20 +31,21 @@ pub fold-requires-clause-is_module : goal.fold-requires-clause-is_module
 fold-requires-clause-is_module c =
     let same : run_of c.proof.result.now c.assumptions.result.now c.exports.result.now ≡ accepted_state c.args.machine.now =
     λ i. record { made = c.proof.ensures i; assumptions = c.assumptions.ensures.numbers i; exports = c.exports.ensures.numbers i } in
-    subst IsModule (sym (c.in_ok-image.ensures.module ∙ ap image same))
+    subst IsModule (sym ((ap declarations_of c.give_up_names.ensures ∙ c.in_ok-image.ensures.module) ∙ ap image same))
     (image-IsModule c.requires.0 c.requires.1 (accepted_state c.args.machine.now) c.requires.2)
 
 pub fold-requires-clause-long : goal.fold-requires-clause-long
 fold-requires-clause-long c =
     let same : run_of c.proof.result.now c.assumptions.result.now c.exports.result.now ≡ accepted_state c.args.machine.now =
     λ i. record { made = c.proof.ensures i; assumptions = c.assumptions.ensures.numbers i; exports = c.exports.ensures.numbers i } in
-    subst NoneShort (sym (c.in_ok-image.ensures.module ∙ ap image same)) (image-long c.requires.0 c.requires.1 (accepted_state c.args.machine.now) c.requires.2)
+    subst NoneShort (sym ((ap declarations_of c.give_up_names.ensures ∙ c.in_ok-image.ensures.module) ∙ ap image same))
+    (image-long c.requires.0 c.requires.1 (accepted_state c.args.machine.now) c.requires.2)
 
 pub fold-requires-clause-shaped : goal.fold-requires-clause-shaped
 fold-requires-clause-shaped c =
     let same : run_of c.proof.result.now c.assumptions.result.now c.exports.result.now ≡ accepted_state c.args.machine.now =
     λ i. record { made = c.proof.ensures i; assumptions = c.assumptions.ensures.numbers i; exports = c.exports.ensures.numbers i } in
-    subst (AreShaped []) (sym (c.in_ok-image.ensures.module ∙ ap image same))
+    subst (AreShaped []) (sym ((ap declarations_of c.give_up_names.ensures ∙ c.in_ok-image.ensures.module) ∙ ap image same))
     (image-shaped c.requires.0 c.requires.1 (accepted_state c.args.machine.now) c.requires.2)
 
 pub returns-then-not-share-clause-module : goal.returns-then-not-share-clause-module
@@ -52,14 +53,16 @@ returns-then-not-share-clause-module c =
     let run = accepted_state c.args.machine.now in
     let same : run_of c.proof.result.now c.assumptions.result.now c.exports.result.now ≡ run =
     λ i. record { made = c.proof.ensures i; assumptions = c.assumptions.ensures.numbers i; exports = c.exports.ensures.numbers i } in
-    image-module_of c.args.share run (declarations_of c.in_ok-image.image) c.if-not-share.true (c.in_ok-image.ensures.module ∙ ap image same)
+    image-module_of c.args.share run (declarations_of c.give_up_names.new.self) c.if-not-share.true
+    ((ap declarations_of c.give_up_names.ensures ∙ c.in_ok-image.ensures.module) ∙ ap image same)
 
 pub returns-clause-module : goal.returns-clause-module
 returns-clause-module c =
     let run = accepted_state c.args.machine.now in
-    let source = declarations_of c.in_ok-image.image in
+    let source = declarations_of c.give_up_names.new.self in
     let same : run_of c.proof.result.now c.assumptions.result.now c.exports.result.now ≡ run =
     λ i. record { made = c.proof.ensures i; assumptions = c.assumptions.ensures.numbers i; exports = c.exports.ensures.numbers i } in
     IfOk-weaker c.fold.result (λ made. declarations_of made ≡ folded source) (λ made. declarations_of made ≡ module_of c.args.share run)
-    (λ made. folded-module_of c.args.share run source (declarations_of made) c.if-not-share.false (c.in_ok-image.ensures.module ∙ ap image same))
+    (λ made. folded-module_of c.args.share run source (declarations_of made) c.if-not-share.false
+    ((ap declarations_of c.give_up_names.ensures ∙ c.in_ok-image.ensures.module) ∙ ap image same))
     c.fold.ensures.folded

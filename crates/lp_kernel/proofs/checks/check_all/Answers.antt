@@ -13,8 +13,8 @@ pub loop-i-init : goal.loop-i-init
 loop-i-init c = record {
   passing = passing-start c.args.rechecks _ c.requires.held;
   right =
-      empty-right c.args.rechecks _ _ c.new-memo.result c.new-memo.ensures.rechecks c.new-memo.ensures.types c.new-memo.ensures.products c.new-memo.ensures.lifts
-      c.new-memo.ensures.open_types;
+      empty-right c.args.rechecks _ _ c.in_ok-memo.memo c.in_ok-memo.ensures.rechecks c.in_ok-memo.ensures.types c.in_ok-memo.ensures.products
+      c.in_ok-memo.ensures.lifts c.in_ok-memo.ensures.open_types;
 }
 
 pub check_noted-requires-clause-held : goal.check_noted-requires-clause-held

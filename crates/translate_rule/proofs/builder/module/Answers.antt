@@ -1,6 +1,8 @@
 use Rattle.std.proofs.Common.{sym, subst, arith}
-use Rattle.std.specs.Prelude.{take}
+use Rattle.std.specs.Prelude.{[], take}
 use Rattle.hol_spec.specs.Proofs.{steps_of, symbols_of}
+use Rattle.translate_proof.specs.Keeping.{AreKept}
+use Rattle.translate_rule.specs.declared.builder.ModuleBuilder.{ModuleBuilder}
 use Rattle.translate_rule.specs.ItemViews.{run_of}
 use Rattle.translate_rule.specs.Building.{IsBuilt}
 use Rattle.translate_rule.proofs.RunLaws.{next-thing, all-made}
@@ -8,10 +10,10 @@ use Rattle.translate_rule.proofs.TurnLaws.{all-declared}
 use Rattle.translate_rule.proofs.builder.module.Goals as goal
 
 pub loop-one-init : goal.loop-one-init
-loop-one-init c = (
-  c.in_ok-builder.ensures.begun (run_of c.args.proof.now c.args.assumptions.now c.args.exports.now),
-  c.in_ok-builder.ensures.kept c.args.proof.now,
-)
+loop-one-init c =
+    let run = run_of c.args.proof.now c.args.assumptions.now c.args.exports.now in
+    subst (λ (b : ModuleBuilder). IsBuilt run [] b × AreKept c.args.proof.now b.kept) (sym c.reserve.ensures)
+    (c.in_ok-builder.ensures.begun run, c.in_ok-builder.ensures.kept c.args.proof.now)
 
 pub add-requires-clause-kept : goal.add-requires-clause-kept
 add-requires-clause-kept c = c.loop-one.invariant.1
